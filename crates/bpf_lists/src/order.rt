@@ -1,8 +1,8 @@
 //! Rows in the order of their data, and the search among them.
 ghost use Rattle.std.specs.Prelude.{◌≡◌, ◌+◌, ◌-◌, ◌*◌, ◌<◌, ◌≤◌, ℕ, length, slice_index, ◌↔◌, IsTrue, ◌⊎◌};
-ghost use Rattle.bpf_note.specs.Keys.{size as size_of, data_of};
+ghost use Rattle.bpf_note.specs.Keys.{size as size_of, width as width_of, data_of};
 ghost use Rattle.bpf_lists.specs.Keys.{value};
-ghost use Rattle.bpf_lists.specs.Order.{at as key_of, IsOrdered, Covers, Reaches, AreParents};
+ghost use Rattle.bpf_lists.specs.Order.{at as key_of, lead as lead_of, IsOrdered, Covers, Reaches, AreParents, AreLeads};
 
 use crate::{keys, numbers};
 use bpf_note::Kind;
@@ -43,6 +43,13 @@ impl Order {
         self.kind
     }
 
+    /// The keys, one after the other.
+    pub(crate) fn keys(&self) -> &[u8]
+        ensures { result.now ≡ self.now.keys }
+    {
+        self.keys.as_slice()
+    }
+
     /// The row at a place.
     pub(crate) fn row(&self, place: usize) -> u32
         requires { place < length self.now.rows }
@@ -69,21 +76,47 @@ impl Order {
         keys::covers(self.kind(), self.key(place), key)
     }
 
+    /// The data of the row at a place.
+    pub(crate) fn data_at(&self, place: usize) -> &[u8]
+        requires { place < length self.now.rows }
+        ensures value { result.now ≡ data_of self.now.kind (key_of self.now place) }
+        ensures len { length result.now ≡ width_of self.now.kind }
+    {
+        self.kind().data_bytes(self.key(place))
+    }
+
+    /// Whether the data at a place are above these, by the numbers at their fronts where these differ.
+    fn is_above(&self, leads: &[u64], place: usize, lead: u64, wanted: &[u8]) -> bool
+        requires place { place < length self.now.rows }
+        requires leads { AreLeads self.now leads.now }
+        requires lead { lead ≡ lead_of wanted.now }
+        requires wanted { length wanted.now ≡ width_of self.now.kind }
+        ensures { IsTrue result ↔ (value wanted.now < value (data_of self.now.kind (key_of self.now place))) }
+    {
+        // Only the proof uses what this call ensures: the rows are in order.
+        let _kind = self.kind();
+        if leads[place] != lead {
+            return lead < leads[place];
+        }
+        numbers::compare(self.data_at(place), wanted).is_gt()
+    }
+
     /// The first place whose row's data are above those of the key.
-    pub(crate) fn first_above(&self, key: &[u8]) -> usize
-        requires { length key.now ≡ size_of self.now.kind }
+    pub(crate) fn first_above(&self, leads: &[u64], key: &[u8]) -> usize
+        requires leads { AreLeads self.now leads.now }
+        requires key { length key.now ≡ size_of self.now.kind }
         ensures most { result ≤ length self.now.rows }
         ensures low { (i : ℕ) → i < result → value (data_of self.now.kind (key_of self.now i)) ≤ value (data_of self.now.kind key.now) }
         ensures high { (i : ℕ) → result ≤ i → i < length self.now.rows →
             value (data_of self.now.kind key.now) < value (data_of self.now.kind (key_of self.now i)) }
     {
-        let kind = self.kind();
-        let wanted = kind.data_bytes(key);
+        let wanted = self.kind().data_bytes(key);
+        let lead = numbers::lead(wanted);
         let mut low = 0;
         let mut high = self.len();
         while low < high {
             let middle = low + (high - low) / 2;
-            if numbers::compare(kind.data_bytes(self.key(middle)), wanted).is_gt() {
+            if self.is_above(leads, middle, lead, wanted) {
                 high = middle;
             } else {
                 low = middle + 1;
