@@ -16,6 +16,7 @@ pub fn shipped(alloc: Global, bytes: &[u8], shapes: &[MapShape], start: u32) -> 
     ensures tx { IfSome result (λ q. q.engine.wires.tx ≡ 17) }
     ensures rx { IfSome result (λ q. q.engine.wires.rx ≡ 18) }
     ensures owners { IfSome result (λ q. length q.engine.wires.owners ≡ 20) }
+    ensures program { IfSome result (λ q. q.engine.wires.program.shapes ≡ shapes.now) }
 {
     let mut domains = [1; 20];
     domains[0] = 0;

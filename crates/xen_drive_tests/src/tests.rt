@@ -3,5 +3,6 @@
 mod deliveries;
 mod fixtures;
 mod pages;
+mod seats;
 mod turns;
 mod waits;

@@ -9,7 +9,7 @@ use xen_page::{Access, Place};
 type Row = (&'static [u8; 16], &'static [u32], Told);
 
 /// An event index that is not reached, a slot of fourteen bytes, and one of thirteen.
-const FOURTEEN: u32 = 0x000e_0007;
+pub const FOURTEEN: u32 = 0x000e_0007;
 
 const THIRTEEN: u32 = 0x000d_0007;
 
@@ -203,7 +203,7 @@ fn a_short_packet_is_answered_before_the_look_at_the_event_index(rt: HostRuntime
 
 /// Adds 1 to the counter of key 1: ST W [r10 - 4], 1; MOV r2, r10; ADD r2, -4; r1 = map 0; CALL 1; JEQ r0, 0, +2;
 /// MOV r1, 1; atomic ADD DW [r0], r1; MOV r0, 2; EXIT.
-const COUNTS: [u8; 88] = [
+pub const COUNTS: [u8; 88] = [
     0x62, 0x0a, 0xfc, 0xff, 1, 0, 0, 0, 0xbf, 0xa2, 0, 0, 0, 0, 0, 0, 0x07, 0x02, 0, 0, 0xfc, 0xff,
     0xff, 0xff, 0x18, 0x11, 0, 0, 0, 0, 0, 0, 0, 0, 0, 0, 0, 0, 0, 0, 0x85, 0, 0, 0, 1, 0, 0, 0,
     0x15, 0, 2, 0, 0, 0, 0, 0, 0xb7, 1, 0, 0, 1, 0, 0, 0, 0xdb, 0x10, 0, 0, 0, 0, 0, 0, 0xb7, 0, 0,
