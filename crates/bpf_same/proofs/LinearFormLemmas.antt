@@ -91,7 +91,7 @@ apart f s t by same small fits e = ap (λ (m : ℕ). plus (Some s.constant) (gat
     of None = refl
     of (Some y) = ap Some (omega (arith, small, fits, e))
 
--- a form that comes to a number comes to a word
+-- the total of a linear form is a word
 pub total_small : (f : ℕ → Option ℕ) (s : LinearForm) (x : ℕ) → total f s ≡ Some x → x < 2 ^ 64
 total_small f s x = by (gathered f s.terms 64)
   where
