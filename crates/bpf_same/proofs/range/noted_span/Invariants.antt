@@ -1,7 +1,7 @@
 use Rattle.std.specs.Prelude.{IfSome}
 use Rattle.bpf_note.specs.Parts.{facts}
 use Rattle.bpf_same.specs.Ranges.{IsSpan}
-use Rattle.bpf_same.proofs.range.span.Given as goal
+use Rattle.bpf_same.proofs.range.noted_span.Given as goal
 
 -- what is found so far bounds the register
 abbrev pub invariant-loop-other : goal.invariant-loop-other
