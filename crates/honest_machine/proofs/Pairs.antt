@@ -8,17 +8,17 @@ use Rattle.xen_steps.specs.Places.{add32, available, page_word}
 use Rattle.xen_steps.specs.Steps.{Steps, done, ask, never}
 use Rattle.xen_steps.specs.declared.want.Want.{Want}
 use Rattle.xen_steps.specs.declared.want.Want.TheVariants as want
-use Rattle.xen_back.specs.Deliveries.{Arrival, whole_delivery}
-use Rattle.xen_back.specs.Tree.{Left, after_run}
-use Rattle.xen_back.specs.Turned.{Turned, Idle, Ran, Refused, Halted, Ending}
-use Rattle.xen_back.specs.Waits.{Wait, check_unless, final_check, last_read, whole_wait}
-use Rattle.xen_back.specs.declared.delivery.wait.Awaited.{Awaited}
-use Rattle.xen_back.specs.declared.delivery.wait.Awaited.TheVariants as awaited
-use Rattle.xen_back.specs.declared.delivery.delivering.Delivery.{Delivery}
-use Rattle.xen_back.specs.declared.delivery.delivering.Delivery.TheVariants as delivery
-use Rattle.xen_back.specs.declared.state.State.{State as BackState}
-use Rattle.xen_back.specs.declared.turn.Refusal.TheVariants as refusal
-use Rattle.xen_back.specs.declared.wiring.Wiring.{Wiring as BackWiring}
+use Rattle.xen_turns.specs.Deliveries.{Arrival, whole_delivery}
+use Rattle.xen_turns.specs.Tree.{Left, after_run}
+use Rattle.xen_turns.specs.Turned.{Turned, Idle, Ran, Refused, Halted, Ending}
+use Rattle.xen_turns.specs.Waits.{Wait, check_unless, final_check, last_read, wait_end, whole_wait}
+use Rattle.xen_turns.specs.declared.delivery.wait.Awaited.{Awaited}
+use Rattle.xen_turns.specs.declared.delivery.wait.Awaited.TheVariants as awaited
+use Rattle.xen_turns.specs.declared.delivery.delivering.Delivery.{Delivery}
+use Rattle.xen_turns.specs.declared.delivery.delivering.Delivery.TheVariants as delivery
+use Rattle.xen_turns.specs.declared.state.State.{State as BackState}
+use Rattle.xen_turns.specs.declared.turn.Refusal.TheVariants as refusal
+use Rattle.xen_turns.specs.declared.wiring.Wiring.{Wiring as BackWiring}
 use Rattle.xen_buffers.specs.declared.wiring.Wiring.{Wiring as FrontWiring}
 use Rattle.xen_front.specs.Given.{Ending as FrontEnding}
 use Rattle.xen_front.specs.Tree.{poll}
@@ -452,7 +452,7 @@ module _ (bw : BackWiring) (fw : FrontWiring) {Front Back : Type 0} (Inv : Memor
         let i : Inv q.memory f b = subst (λ m. Inv m f b) (sym same) g.inv in
         let h : BackStands p.at p.back c (flat_map given_by p.deeds) b q.memory.awaits = subst (BackStands p.at p.back c (flat_map given_by p.deeds) b) (ap (λ (m : Memory). m.awaits) (sym same)) g.back in
         let k = l.wait_looks asleep p.back c (flat_map given_by p.deeds) b pages q.memory f r i refl in
-        subst (λ o. Good (waiting bw q asleep pages (done (Rattle.xen_back.specs.Waits.wait_end p.back pages o)))) (sym k.1)
+        subst (λ o. Good (waiting bw q asleep pages (done (wait_end p.back pages o)))) (sym k.1)
         (looked_stands q asleep pages c f b (nat_lt k.0 pages) k.2 r (remembers p q.memory c f b i h g))
 
     -- the store of the event index
