@@ -1,0 +1,11 @@
+use Rattle.xen_drive_tests.proofs.tests.waits.of_shipped.Goals as goal
+
+pub invariant_of-queue-in_err-told_by : goal.invariant_of-queue-in_err-told_by
+invariant_of-queue-in_err-told_by c =
+    let q = c.await_slots-op.new.queue in
+    record { fits = q.fits; wired = q.wired; turns = q.turns; seated = q.seated; left = q.left }
+
+pub invariant_of-queue-2 : goal.invariant_of-queue-2
+invariant_of-queue-2 c =
+    let q = c.await_slots-op.new.queue in
+    record { fits = q.fits; wired = q.wired; turns = q.turns; seated = q.seated; left = q.left }
