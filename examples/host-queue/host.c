@@ -19,7 +19,7 @@
 #include <time.h>
 #include <unistd.h>
 
-enum { MOST_COUNTERS = LAXONJE_MAPS * LAXONJE_ENTRIES * LAXONJE_COUNTERS, SESSION = 500, LONG_SESSION = 50000, ADDRESS = 6, TRIES = 16 };
+enum { SESSION = 500, LONG_SESSION = 50000, ADDRESS = 6, TRIES = 16 };
 
 struct totals { unsigned long packets, taken, blank, answered, waits, back, refused, halted, accesses, strange; };
 
@@ -29,7 +29,7 @@ struct host {
 	struct laxonje_program *program;
 	struct laxonje_queue *queue;
 	struct laxonje_drive drive;
-	uint64_t counters[MOST_COUNTERS];
+	uint64_t *counters;
 	uint8_t packet[LAXONJE_PACKET];
 	struct totals totals;
 };
@@ -82,7 +82,7 @@ static void connect(struct host *host)
 	if (made != LAXONJE_MADE)
 		fprintf(stderr, "no queue: %u\n", (unsigned)made), exit(1);
 	host->drive.queue = host->queue, host->drive.tx = TX_RING, host->drive.rx = RX_RING;
-	host->drive.counters = host->counters, host->drive.counter_count = MOST_COUNTERS;
+	host->drive.counters = host->counters, host->drive.counter_count = laxonje_counters(host->program);
 }
 
 /* Waits for the guest's kick. False: the guest has ended. */
@@ -164,6 +164,7 @@ static unsigned session(struct host *host, enum guest_behaviour behaviour, unsig
 		close(life[0]);
 		laxonje_queue_delete(&host->queue);
 		laxonje_program_delete(&host->program);
+		free(host->counters);
 		_exit(run_front(host->memory, host->channel, behaviour, packets, seed) != 0);
 	}
 	close(life[1]);
@@ -202,6 +203,9 @@ static void load(struct host *host, const char *name)
 	if (verdict.kind != LAXONJE_ACCEPTED)
 		fprintf(stderr, "%s: verdict %u %u at %u\n", name, verdict.kind, verdict.cause, verdict.at), exit(1);
 	fclose(file);
+	host->counters = (uint64_t *)calloc(laxonje_counters(host->program) + 1, sizeof *host->counters);
+	if (!host->counters)
+		fail("calloc");
 }
 
 int main(int count, char **words)
@@ -228,6 +232,7 @@ int main(int count, char **words)
 		touched += host.memory[i] != 0xa5;
 	laxonje_queue_delete(&host.queue);
 	laxonje_program_delete(&host.program);
+	free(host.counters);
 	if (strcmp(words[2], "hostile"))
 		printf("packets %lu taken %lu blank %lu answered %lu back %lu refused %lu halted %lu\n", host.totals.packets, host.totals.taken,
 		       host.totals.blank, host.totals.answered, host.totals.back, host.totals.refused, host.totals.halted);
