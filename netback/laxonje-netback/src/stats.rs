@@ -1,5 +1,5 @@
 //! What is counted of a queue, and how it is told: as text, and as JSON.
-use laxonje::{Halt, Refusal};
+use laxonje::{Halt, MapSize, Program, Refusal};
 use std::fmt::Write;
 use std::sync::atomic::{AtomicU64, Ordering::Relaxed};
 
@@ -68,6 +68,13 @@ totals! {
 /// The count of numbers of a queue.
 pub const COUNTS: usize = NAMES.len() + 2 * CAUSES;
 
+/// Adds numbers, each modulo 2^64.
+pub fn add(sums: &mut [u64], numbers: &[u64]) {
+    for (sum, number) in sums.iter_mut().zip(numbers) {
+        *sum = sum.wrapping_add(*number);
+    }
+}
+
 /// The numbers of one queue at a time, or the sums of several.
 #[derive(Clone, Copy, Debug, PartialEq, Eq)]
 pub struct Counts(pub [u64; COUNTS]);
@@ -81,9 +88,7 @@ impl Default for Counts {
 impl Counts {
     /// Adds others, each modulo 2^64: the process of a guest may say any.
     pub fn add(&mut self, others: &Counts) {
-        for (sum, number) in self.0.iter_mut().zip(&others.0) {
-            *sum = sum.wrapping_add(*number);
-        }
+        add(&mut self.0, &others.0);
     }
 
     /// A fault of this program that ended the process.
@@ -145,6 +150,24 @@ pub struct MapCounts {
     pub entries: u32,
     pub counters: u32,
     pub values: Vec<(u32, u32, u64)>,
+}
+
+impl MapCounts {
+    /// The maps of a program with these of its counters.
+    pub fn of(program: &Program, counters: &[u64]) -> Vec<MapCounts> {
+        let value = |map: u32, entry: u32, counter: u32| {
+            let place = program.place(map, entry, counter)?;
+            counters.get(place).filter(|value| **value > 0).map(|value| (entry, counter, *value))
+        };
+        let counts = |map: u32, entries: u32, each: u32| {
+            (0..entries).flat_map(|entry| (0..each).filter_map(move |counter| value(map, entry, counter))).collect()
+        };
+        let one = |(map, (size, name)): (u32, (&MapSize, &String))| {
+            let MapSize { entries, counters } = *size;
+            MapCounts { name: name.clone(), entries, counters, values: counts(map, entries, counters) }
+        };
+        (0..).zip(program.maps().iter().zip(program.map_names())).map(one).collect()
+    }
 }
 
 /// All that is told of a device.

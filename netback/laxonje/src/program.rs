@@ -14,7 +14,7 @@ pub const MOST_BYTES: usize = sys::LAXONJE_PACKET;
 /// The size of an array map: entries, and counters of 64 bits of each.
 #[derive(Clone, Copy, Debug, PartialEq, Eq)]
 pub struct MapSize {
-    /// 1 to 1,024.
+    /// 1 to 1,024; of settings with `wide`, up to 65,536.
     pub entries: u32,
     /// 1 to 8.
     pub counters: u32,

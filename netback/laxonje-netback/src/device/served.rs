@@ -2,6 +2,7 @@
 use super::{Device, Shared, OFFER};
 use crate::guests::{Asked, Cause, Connect, QueueTold, Report};
 use crate::keys::{self, FrontKeys, QueueKeys, State};
+use crate::stats::add;
 use crate::xen::Events;
 use laxonje::Halt;
 use std::os::unix::io::RawFd;
@@ -72,6 +73,7 @@ impl Device {
             program: self.filter.number,
             fresh,
             notifies: front.notifies,
+            scatters: front.scatters,
             queues: keys,
         };
         let descriptors: Vec<RawFd> = open.iter().flat_map(|(tap, events)| [tap.fd(), events.fd()]).collect();
@@ -158,12 +160,5 @@ impl Device {
             }
             None => self.give_up(shared, &format!("its process has ended ({how}); the guest's driver has to be bound again")),
         }
-    }
-}
-
-/// Adds counters, each modulo 2^64.
-pub fn add(sums: &mut [u64], counters: &[u64]) {
-    for (sum, count) in sums.iter_mut().zip(counters) {
-        *sum = sum.wrapping_add(*count);
     }
 }

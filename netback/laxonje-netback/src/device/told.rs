@@ -1,9 +1,9 @@
 //! What is told of a device.
-use super::served::{add, ANSWERS};
+use super::served::ANSWERS;
 use super::{Device, Shared};
 use crate::guests::QueueTold;
 use crate::keys::State;
-use crate::stats::{DeviceStats, MapCounts};
+use crate::stats::{add, DeviceStats, MapCounts};
 use std::time::Instant;
 
 /// Asks all devices what they count before it waits for any.
@@ -43,33 +43,10 @@ impl Device {
             filter: self.filter.path.display().to_string(),
             queues,
             rings: (0..queues).map(|number| told.get(number).and_then(|queue| queue.rings)).collect(),
-            maps: self.maps(&counters),
+            maps: MapCounts::of(&self.filter.program, &counters),
             ..DeviceStats::default()
         };
         stats.tell(&counts);
         stats
-    }
-
-    fn maps(&self, counters: &[u64]) -> Vec<MapCounts> {
-        let program = &self.filter.program;
-        let value = |map: usize, entry: u32, counter: u32| {
-            let place = program.place(map as u32, entry, counter)?;
-            counters.get(place).filter(|value| **value > 0).map(|value| (entry, counter, *value))
-        };
-        let counts = |map: usize, entries: u32, each: u32| {
-            (0..entries).flat_map(|entry| (0..each).filter_map(move |counter| value(map, entry, counter))).collect()
-        };
-        program
-            .maps()
-            .iter()
-            .zip(program.map_names())
-            .enumerate()
-            .map(|(number, (size, name))| MapCounts {
-                name: name.clone(),
-                entries: size.entries,
-                counters: size.counters,
-                values: counts(number, size.entries, size.counters),
-            })
-            .collect()
     }
 }

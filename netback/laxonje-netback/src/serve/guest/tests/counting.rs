@@ -1,0 +1,105 @@
+//! What is told of a device with several queues: their sums, whatever counters each of them counts by.
+use super::*;
+use crate::serve::counting::SharedCounters;
+use crate::serve::Told;
+use crate::stats::{add, text, Counts, DeviceStats, MapCounts};
+use laxonje::MOST_SHARES;
+
+const COUNT_PROTOCOLS: &[u8] = include_bytes!("../../../../../../examples/count-protocols/settings.toml");
+const DATA: u32 = 20;
+/// Where the words of a packet say that it is IPv4, and that it is UDP.
+const ETHERTYPE: usize = 12;
+const PROTOCOL: usize = 23;
+const UDP: u8 = 17;
+
+fn program() -> Program {
+    Program::from_settings(COUNT_PROTOCOLS).unwrap()
+}
+
+fn queues(program: &Program, count: usize) -> (Vec<Bench>, SharedCounters) {
+    let mut benches: Vec<_> = (0..count).map(|_| Bench::of(Way::Copy, program)).collect();
+    let shared = SharedCounters::of(program, benches.iter_mut().map(|bench| &mut bench.queue));
+    (benches, shared)
+}
+
+impl Bench {
+    /// Sends so many UDP packets, one after another, each of which passes.
+    fn send_udp(&mut self, count: u32) {
+        let mut bytes = [0; PAGE_BYTES];
+        (bytes[ETHERTYPE], bytes[PROTOCOL]) = (8, UDP);
+        self.memory.grant(DATA, false);
+        fill(&self.memory.page(DATA), &bytes);
+        for _ in 0..count {
+            self.memory.send(self.guest.tx.done, DATA, 0, 0, 60);
+            self.guest.fetch().unwrap();
+            assert_eq!(self.action(), Action::Pass);
+            self.guest.forget();
+        }
+    }
+
+    fn told(&self) -> Told {
+        Told { counters: self.queue.counters().to_vec(), rings: Some(self.guest.rings()) }
+    }
+}
+
+/// What the main process tells of these queues.
+fn stats(program: &Program, benches: &[Bench], told: &[Option<Told>]) -> String {
+    let (mut counts, mut counters) = (Counts::default(), program.new_counters());
+    benches.iter().for_each(|bench| counts.add(&bench.guest.totals.counts()));
+    told.iter().flatten().for_each(|told| add(&mut counters, &told.counters));
+    let rings = told.iter().map(|told| told.as_ref().and_then(|told| told.rings)).collect();
+    let maps = MapCounts::of(program, &counters);
+    let mut stats = DeviceStats { queues: benches.len(), rings, maps, ..DeviceStats::default() };
+    stats.tell(&counts);
+    text(&[stats])
+}
+
+#[test]
+fn several_queues_are_told_as_their_sum() {
+    let program = program();
+    let (mut benches, mut shared) = queues(&program, 3);
+    (1..).zip(&mut benches).for_each(|(count, bench)| bench.send_udp(count));
+    // they count by what they share, and not each for itself
+    assert!(benches.iter().all(|bench| bench.queue.counters().iter().all(|count| *count == 0)));
+    let mut told: Vec<_> = benches.iter().map(|bench| Some(bench.told())).collect();
+    shared.add_to(&mut told);
+    let said = stats(&program, &benches, &told);
+    assert!(said.contains(", queues 3, ") && said.contains("  copied-pages 6\n"), "{said}");
+    assert!(said.contains("  rings 0 tx 1 1 rx 0 0\n  rings 1 tx 2 2 rx 0 0\n  rings 2 tx 3 3 rx 0 0\n"), "{said}");
+    assert!(said.ends_with("  counter protocols 17 0 6\n"), "{said}");
+    // a thread that doesn't answer takes nothing of it away
+    let mut told: Vec<_> = benches.iter().enumerate().map(|(number, bench)| (number > 0).then(|| bench.told())).collect();
+    shared.add_to(&mut told);
+    assert!(stats(&program, &benches, &told).ends_with("  counter protocols 17 0 6\n"));
+    // nor does one whose counters are lost with it
+    let mut told = vec![Some(Told { counters: Vec::new(), rings: None })];
+    shared.add_to(&mut told);
+    assert!(stats(&program, &benches, &told).ends_with("  counter protocols 17 0 6\n"));
+}
+
+#[test]
+fn queues_without_a_share_count_for_themselves() {
+    let program = program();
+    for count in [1, MOST_SHARES + 2] {
+        let (mut benches, mut shared) = queues(&program, count);
+        benches.iter_mut().for_each(|bench| bench.send_udp(1));
+        let alone = benches.iter().filter(|bench| bench.queue.counters().contains(&1)).count();
+        assert_eq!(alone, if count == 1 { 1 } else { 2 });
+        let mut told: Vec<_> = benches.iter().map(|bench| Some(bench.told())).collect();
+        shared.add_to(&mut told);
+        assert!(stats(&program, &benches, &told).ends_with(&format!("  counter protocols 17 0 {count}\n")));
+    }
+}
+
+#[test]
+fn a_program_with_other_maps_has_other_counters() {
+    let program = program();
+    let (mut benches, mut shared) = queues(&program, 2);
+    benches[1].send_udp(2);
+    let other = Program::load(&[0xb7, 0, 0, 0, 1, 0, 0, 0, 0x95, 0, 0, 0, 0, 0, 0, 0], &[]).unwrap();
+    benches.iter_mut().for_each(|bench| bench.queue.replace(&other).unwrap());
+    shared.replace(&other);
+    let mut told: Vec<_> = benches.iter().map(|bench| Some(bench.told())).collect();
+    shared.add_to(&mut told);
+    assert!(told.iter().flatten().all(|told| told.counters.is_empty()));
+}
