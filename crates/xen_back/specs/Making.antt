@@ -6,7 +6,7 @@ use Rattle.bpf_verify.specs.Consistent.{Accepted}
 use Rattle.xen_back.specs.Queues.{IsReady, rx_ring_of, state_of, tx_ring_of, wiring_of}
 use Rattle.xen_back.specs.declared.desc.QueueDesc.{QueueDesc}
 use Rattle.xen_back.specs.declared.queue.Queue.{Queue}
-use Rattle.xen_back.specs.declared.state.State.{State}
+use Rattle.xen_turns.specs.declared.state.State.{State}
 use Rattle.xen_rx_fill.specs.Wired.{IsWired}
 
 -- It is of the description, but for the index at which that has both rings begin, and is between turns in this state.

@@ -11,12 +11,11 @@ use crate::by_event::stage::Stage;
 use crate::copy_buf::CopyBuf;
 use crate::desc::QueueDesc;
 use crate::queue::Queue;
-use crate::state::State;
-use crate::wiring::Wiring;
 use bpf_lists::KeyedRows;
 use bpf_verify::Verified;
 use bpf_vm::Buffer;
 use xen_rx_fill::Vif;
+use xen_turns::{State, Wiring};
 
 impl<'p, 'b> Queue<'p, 'b> {
     /// A queue between turns, which keeps its packets in the buffer. The lists are those of the program's maps, by the maps'
