@@ -11,14 +11,14 @@ use Rattle.xen_host.proofs.engine.Engine.run.Goals as goal
 
 pub returns : goal.returns
 returns g c =
-    let q = engine_at (g.W.Wires.wiring c.args.wires.now) c.args.packet.now c.args.self.now in
+    let q = engine_at (g.W.Wires.wiring c.args.wires.now) (g.R.Room.held c.args.packet.now) c.args.self.now in
     let w = q.wires in
     let r = c.run-ran in
     let packet = q.work.packet in
     let before = c.args.counters.now in
     let after = r.new.counters in
     let number = r.result.number in
-    let left = r.new.self in
+    let left = g.R.Room.held r.new.self in
     let ops = r.result.ops in
     let accepted = subst (λ (p : Accepted). RanFrom p c.lists.result.now packet c.ifindex.result c.queue.result (Went (g.T.Tallies.did p.shapes) before after) number left ops) c.program.ensures r.ensures.ran in
     let listed = subst (λ (l : List (Option Keyed)). RanFrom w.program.now l packet c.ifindex.result c.queue.result (Went (g.T.Tallies.did w.program.now.shapes) before after) number left ops) c.lists.ensures accepted in

@@ -5,7 +5,7 @@ use Rattle.std.specs.Int.{w32, to_le_bytes}
 use Rattle.xen_netif.specs.Copy.{bytes_of}
 use Rattle.xen_turns.proofs.ReadLemmas.{bytes_of-append}
 use Rattle.xen_host.proofs.PageLemmas.{length-put_mid}
-use Rattle.xen_host.proofs.packet.write_words.Goals as goal
+use Rattle.xen_host.proofs.room.write_words.Goals as goal
 
 pub loop-number-preserved : goal.loop-number-preserved
 loop-number-preserved c =

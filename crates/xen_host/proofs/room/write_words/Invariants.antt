@@ -1,6 +1,6 @@
 use Rattle.std.proofs.Common.{◌≡◌, ◌*◌, length, take}
 use Rattle.xen_netif.specs.Copy.{bytes_of}
-use Rattle.xen_host.proofs.packet.write_words.Given as goal
+use Rattle.xen_host.proofs.room.write_words.Given as goal
 
 abbrev pub invariant-loop-number : goal.invariant-loop-number
 invariant-loop-number l =
