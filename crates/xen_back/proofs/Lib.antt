@@ -1,4 +1,5 @@
 pub mod RestLemmas
 pub mod FeedLemmas
 pub mod DriveLemmas
+pub mod StageLemmas
 pub mod InOneGoLemmas

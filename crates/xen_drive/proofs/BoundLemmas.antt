@@ -29,7 +29,8 @@ use Rattle.xen_turns.specs.declared.wiring.Wiring.{Wiring}
 use Rattle.xen_host.specs.Asks.{Ask, IsSized, Read, Entry, Write, Store, StoreTwo, Push, Notify, TurnOver, DeliveryOver, WaitOver, did_all, did_by}
 use Rattle.xen_host.specs.Completing.{Arriving, TaskCompletes, Waiting}
 use Rattle.xen_host.specs.EngineAt.{WorkAt}
-use Rattle.xen_host.specs.Queues.{DeliveryGoesOn, IsDelivering, IsTurning, IsWaiting, TurnGoesOn, WaitGoesOn, first_read, packet_of, seen, wired_to, wiring}
+use Rattle.xen_host.specs.Queues.{DeliveryGoesOn, IsDelivering, IsTurning, IsWaiting, TurnGoesOn, WaitGoesOn, packet_of, seen, wired_to, wiring}
+use Rattle.xen_host.specs.UnderWay.{first_read}
 use Rattle.xen_host.specs.Rest.{is_delivering, is_turning, is_waiting, rest_in, rest_of_delivery, rest_of_wait}
 use Rattle.xen_host.specs.Wired.{wiring_of}
 use Rattle.xen_host.specs.declared.queue.Queue.{Queue}

@@ -9,7 +9,8 @@ use Rattle.xen_turns.specs.Drive.{labels}
 use Rattle.xen_turns.specs.Program.{event_of}
 use Rattle.xen_turns.specs.declared.state.State.{State}
 use Rattle.xen_host.specs.Asks.{Ask, Read, Entry, Write, Store, StoreTwo, Push, Notify, TurnOver, DeliveryOver, WaitOver, did_all, did_by, read_by}
-use Rattle.xen_host.specs.Queues.{DeliveryGoesOn, HasStepped, IsDelivering, IsTurning, IsWaiting, TurnGoesOn, WaitGoesOn, between, resting, wired_to}
+use Rattle.xen_host.specs.Queues.{DeliveryGoesOn, HasStepped, IsDelivering, IsTurning, IsWaiting, TurnGoesOn, WaitGoesOn, resting, wired_to}
+use Rattle.xen_host.specs.UnderWay.{between}
 use Rattle.xen_host.specs.Rest.{is_delivering, is_turning, is_waiting}
 use Rattle.xen_host.specs.declared.op.Op.{Op}
 use Rattle.xen_host.specs.declared.queue.Queue.{Queue}

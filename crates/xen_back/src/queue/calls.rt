@@ -1,19 +1,15 @@
 //! A queue's turns, one event at a time and in one go, and its end.
 
-ghost use Rattle.std.specs.Prelude.{◌≡◌, ◌≢◌, ⊤, [], List, Some, length, suc};
+ghost use Rattle.std.specs.Prelude.{◌≡◌, ◌≢◌, ⊤, [], length};
 ghost use Rattle.std.specs.Borrow.{sem};
 ghost use denote.Follow.{follows_so};
 ghost use mir.Syntax.{named};
 ghost use mathlib.Core.Option.{none};
 ghost use Rattle.bpf_maps.specs.Seats.{IsSeatOf};
 ghost use Rattle.xen_steps.specs.Answers.{Fits};
-ghost use Rattle.xen_steps.specs.Event.{Event};
 ghost use Rattle.xen_steps.specs.Steps.{done, want_of};
-ghost use Rattle.xen_turns.specs.Drive.{Driven};
 ghost use Rattle.xen_back.specs.Drive.{IsTurnOver};
-ghost use Rattle.xen_back.specs.InOneGo.{ended_in};
 ghost use Rattle.xen_back.specs.Queues.{HasRest, IsAsked, IsFed, IsOver, IsReady, IsSameWiring, rest, rx_ring_of, state_of, tx_ring_of, wiring_of};
-ghost use Rattle.xen_turns.specs.Tree.{after_look, whole_turn};
 ghost use Rattle.xen_turns.specs.Turned.{Ending};
 ghost use Rattle.xen_turns.specs.Within.{may_want};
 ghost use Rattle.xen_back.specs.contracts.queue.Queue.{the_row};
@@ -22,15 +18,14 @@ use crate::by_event::ending::over;
 use crate::by_event::feeding::stage_fed;
 use crate::by_event::stage::Stage;
 use crate::by_event::wanting::stage_want;
-use crate::in_one_go::service::Service;
-use crate::in_one_go::turning::begin;
 use crate::queue::Queue;
 use crate::shown::shown;
 use bpf_maps::{CounterSeat, Counters};
+use xdp_program::Seated;
 use xen_page::{Bus, Mapped};
 use xen_ring::Ports;
 use xen_steps::{Answer, Want};
-use xen_turns::{Kind, State, Turn};
+use xen_turns::{State, Turn};
 
 impl<'p, 'b> Queue<'p, 'b> {
     /// What the queue wants next.
@@ -98,68 +93,6 @@ impl<'p, 'b> Queue<'p, 'b> {
         }
     }
 
-    /// Takes a turn from its first slot. `left` slots are left after it. The struct is made here, so that an idle turn doesn't
-    /// clear it.
-    fn take_packet<'c, B: Bus>(
-        &mut self,
-        bus: &mut B,
-        counters: &'c Counters,
-        seat: &mut CounterSeat,
-        ports: &'c Ports,
-        left: u32,
-    ) -> Kind
-        requires ready { IsReady self.old }
-        requires size { B.size bus.old ≡ length (wiring_of self.old).vif.owners.now }
-        requires shapes { counters.now.shapes ≡ (wiring_of self.old).program.now.shapes }
-        requires seat { IsSeatOf counters.now seat.old }
-        ensures ready { IsReady self.new }
-        ensures size { B.size bus.new ≡ B.size bus.old }
-        ensures same { IsSameWiring self.old self.new }
-        ensures seat { seat.new ≡ record seat.old { ops = seat.new.ops } }
-        ensures driven { (t : List Event) × Driven B.log B.access_gives
-            (after_look (wiring_of self.old) (state_of self.old) (Some (suc left))) (ended_in self.new result) bus.old bus.new
-            seat.old.ops seat.new.ops t }
-    {
-        match &mut self.stage {
-            Some(Stage::At(packet, _)) => {
-                let mut service = Service {
-                    wiring: &self.wiring,
-                    bus,
-                    counters,
-                    seat,
-                    ports,
-                };
-                service.from_slot(&mut self.state, packet, left)
-            }
-            _ => unreachable!(),
-        }
-    }
-
-    /// Takes a whole turn.
-    fn take_turn<B: Bus>(
-        &mut self,
-        bus: &mut B,
-        counters: &Counters,
-        seat: &mut CounterSeat,
-        ports: &Ports,
-    ) -> Kind
-        requires ready { IsReady self.old }
-        requires size { B.size bus.old ≡ length (wiring_of self.old).vif.owners.now }
-        requires shapes { counters.now.shapes ≡ (wiring_of self.old).program.now.shapes }
-        requires seat { IsSeatOf counters.now seat.old }
-        ensures ready { IsReady self.new }
-        ensures size { B.size bus.new ≡ B.size bus.old }
-        ensures same { IsSameWiring self.old self.new }
-        ensures seat { seat.new ≡ record seat.old { ops = seat.new.ops } }
-        ensures driven { (t : List Event) × Driven B.log B.access_gives (whole_turn (wiring_of self.old) (state_of self.old))
-            (ended_in self.new result) bus.old bus.new seat.old.ops seat.new.ops t }
-    {
-        match begin(&self.wiring, &mut self.state, bus) {
-            Err(kind) => kind,
-            Ok(left) => self.take_packet(bus, counters, seat, ports, left),
-        }
-    }
-
     /// A whole turn: its events over the bus, at the counters and to the ports.
     pub fn drive_turn<B: Bus>(
         &mut self,
@@ -182,7 +115,8 @@ impl<'p, 'b> Queue<'p, 'b> {
     {
         // The borrow checker has to see this type in the body.
         let _vif = &self.wiring.vif;
-        let kind = self.take_turn(bus, counters, seat, ports);
+        let mut shared = Seated { counters, seat };
+        let kind = self.take_turn(bus, &mut shared, ports);
         match &self.stage {
             Some(stage) => shown(stage, kind),
             None => unreachable!(),
@@ -208,6 +142,7 @@ impl<'p, 'b> Queue<'p, 'b> {
             tx_ring,
             rx_ring,
             state: _,
+            engine: _,
             stage: _,
         } = self;
         (tx_ring, rx_ring)

@@ -14,6 +14,7 @@ use crate::queue::Queue;
 use bpf_lists::KeyedRows;
 use bpf_verify::Verified;
 use bpf_vm::Buffer;
+use xen_host::Engine;
 use xen_rx_fill::Vif;
 use xen_turns::{State, Wiring};
 
@@ -79,6 +80,7 @@ impl<'p, 'b> Queue<'p, 'b> {
             tx_ring: desc.tx,
             rx_ring: desc.rx,
             state,
+            engine: Engine::new(state),
             stage: Some(stage),
         }
     }
