@@ -24,14 +24,14 @@ fn offset(off: i16) -> u64
 }
 
 /// Returns what an offset added to a form comes to.
-fn at_offset(form: LinearForm, off: i16) -> LinearForm
+pub(crate) fn at_offset(form: LinearForm, off: i16) -> LinearForm
     ensures { (f : ℕ → Option ℕ) → total f result ≡ plus (total f form) (Some (sign_extended off)) }
 {
     form.moved(offset(off))
 }
 
 /// Returns whether a number of the old program and an offset are the address that one of the new program and another offset are.
-fn is_same_address(
+pub(crate) fn is_same_address(
     relation: &Relation,
     there: Register,
     from: i16,
