@@ -13,14 +13,10 @@ use Rattle.bpf_same.specs.Same.{operations, Runs, IsSame}
 use Rattle.bpf_same.specs.Counts as counts
 use Rattle.bpf_same.specs.Counts.{Effect, Does, Stores, StoringWalk, Counts, RunsByCounts, IsSameByCounts}
 use Rattle.bpf_same.specs.Alone.{Counters, AreCounters, with_counter, IsFound, counters_after, FindsAndLeaves, RunsAlone, IsSameAlone}
-use Rattle.bpf_same.proofs.SimulationLemmas.{before}
+use Rattle.bpf_same.specs.Traces.{does}
+use Rattle.bpf_same.proofs.TraceLemmas.{before}
 use Rattle.bpf_same.proofs.BackLemmas.{found, same_op, no_more, same_label, none_some}
 use Rattle.bpf_same.proofs.WholeLemmas.{no_step, no_end, one_store, AreOne, in_front}
-
--- the effects of operations
-abbrev does : List Op → List Effect
-does [] = []
-does (op ∷ done) = Does op ∷ does done
 
 -- a walk stores nothing
 storing : (code : List Insn) (r0 : ℕ) (bytes : List ℕ) (s : State) (labels : List (Option Op)) → Walk code r0 bytes s labels → StoringWalk code r0 bytes s (does (operations labels))
@@ -145,12 +141,12 @@ found_alone zero code s c w h = absurd h
 found_alone (suc n) code s c w h = by_outcome n code s c w (λ t d v k. found_alone n code t d v k) (step code s) refl h
 
 -- --- what a program without a fault does alone, it does by operations
-record Operates (code : List Insn) (r0 : ℕ) (bytes : List ℕ) (s : State) (c d : Counters) : Type 0 where
-  done : List Op
-  run : Runs code r0 bytes s done
-  leaves : FindsAndLeaves c (does done) d
+pub record Operates (code : List Insn) (r0 : ℕ) (bytes : List ℕ) (s : State) (c d : Counters) : Type 0 where
+  pub done : List Op
+  pub run : Runs code r0 bytes s done
+  pub leaves : FindsAndLeaves c (does done) d
 
-operates : (n : ℕ) (code : List Insn) (r0 : ℕ) (bytes : List ℕ) (s : State) (c d : Counters) → AreCounters c → IsWhole (course n code s) → RunsAlone code r0 bytes s c d → Operates code r0 bytes s c d
+pub operates : (n : ℕ) (code : List Insn) (r0 : ℕ) (bytes : List ℕ) (s : State) (c d : Counters) → AreCounters c → IsWhole (course n code s) → RunsAlone code r0 bytes s c d → Operates code r0 bytes s c d
 operates n code r0 bytes s c d w h run =
     let a = found_alone n code s c w h in
     let one = one_alone code r0 a.r0 bytes a.bytes s run.effects (does a.done) c d a.left run.walk (run_storing code a.r0 a.bytes s a.done a.run) run.leaves a.leaves in

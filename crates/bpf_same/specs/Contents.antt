@@ -53,6 +53,10 @@ PreservesLoad i stutters low m e address number = (f g f' g' h h' : ℕ → Opti
 abbrev pub PreservesContent : Insn → Bool → ℕ → Facts → Relation → LinearForm → LinearForm → Type 0
 PreservesContent i stutters low m e address number = (f g f' g' h h' : ℕ → Option ℕ) → Stepped i stutters low m f g f' g' → Hold e f g → Contain e f h → Changes i f f' h h' → Stands f' h' address number
 
+-- the same of each content of another relation
+abbrev pub PreservesContents : Insn → Bool → ℕ → Facts → Relation → Relation → Type 0
+PreservesContents i stutters low m e next = (k : ℕ) (content : Content) → k < 8 → content_of next k ≡ Some content → PreservesContent i stutters low m e content.address content.number
+
 -- the old program stores to a counter what an addition of the new one leaves in it
 pub record IsAddedStore (e : Relation) (there i : Insn) : Type 0 where
   pub dst : Register

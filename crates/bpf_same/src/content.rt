@@ -1,7 +1,7 @@
 //! What is known to stand in counters, by the linear forms of their addresses.
 ghost use Rattle.std.specs.Prelude.{◌≡◌, ◌<◌, ℕ, Option, Some, None, true, false, if◌then◌else◌, ◌==◌, IsTrue, IfSome};
 ghost use Rattle.bpf_note.specs.Parts.{facts};
-ghost use Rattle.bpf_same.specs.Contents.{Contain, IsAdded, IsAddedStore, PreservesContent, PreservesLoad, Stands, StandsAfter, content_of, is_addition};
+ghost use Rattle.bpf_same.specs.Contents.{Contain, IsAdded, IsAddedStore, PreservesContent, PreservesContents, PreservesLoad, Stands, StandsAfter, content_of, is_addition};
 ghost use Rattle.bpf_same.specs.LinearForms.{Hold, plus, total};
 ghost use Rattle.bpf_same.specs.Moved.{address_in};
 ghost use Rattle.bpf_same.specs.declared.content.Content.{Content as AContent};
@@ -181,6 +181,20 @@ impl Step<'_> {
             Some(content) => self.has_content(content),
             None => true,
         }
+    }
+}
+
+impl Step<'_> {
+    /// Returns whether each of the next relation's contents is right after the step.
+    pub(crate) fn preserves_contents(&self, next: &Relation) -> bool
+        ensures { IsTrue result → PreservesContents self.now.insn self.now.stutters self.now.low (facts self.now.after.now) self.now.before.now next.now }
+    {
+        for index in 0..CONTENTS {
+            if !self.preserves_content(next, index) {
+                return false;
+            }
+        }
+        true
     }
 }
 

@@ -8,7 +8,7 @@ ghost use Rattle.bpf_same.specs.Simulated.{IsSimulation, IsInitial, Simulates, S
 
 use crate::relation::Relation;
 use crate::simulation::{Point, Simulation, insn_at, relation_at, witness_at};
-use crate::start::holds_at_entry;
+use crate::start::{holds_at_entry, is_without_contents};
 use crate::witness::Witness;
 use bpf_insn::Insn;
 use bpf_note::{MapShape, Note};
@@ -90,7 +90,7 @@ impl Simulation<'_> {
         let Some(relation) = relation_at(self.relations, 0) else {
             return false;
         };
-        holds_at_entry(&relation) && self.simulates_start(alloc)
+        holds_at_entry(&relation) && is_without_contents(&relation) && self.simulates_start(alloc)
     }
 
     /// Returns whether the candidate is a simulation.
