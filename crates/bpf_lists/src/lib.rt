@@ -1,19 +1,21 @@
-//! The rows of a keyed map: made once, and looked up by a key.
+//! The rows of a keyed map: made once, and looked up by a key. And the bytes of constants.
 //!
 //! - `numbers`: the bytes of keys as numbers in network byte order
 //! - `refusal`: which rows are refused
 //! - `keys`: the keys of rows, one after the other
 //! - `order`: rows in the order of their data, and the search
 //! - `sorting`: how the order is made
-//! - `rows`: what a map has
+//! - `rows`: what a map has; `list`: what is given for a map, rows or constants
 #![tactic(auto)]
 
 mod keys;
+mod list;
 mod numbers;
 mod order;
 mod refusal;
 mod rows;
 mod sorting;
 
+pub use list::MapList;
 pub use refusal::Refusal;
 pub use rows::KeyedRows;

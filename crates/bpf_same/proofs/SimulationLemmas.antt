@@ -1,5 +1,5 @@
 -- Where the old program simulates each instruction, each walk of the new program is one of the old.
-use Rattle.std.proofs.Common.{ℕ, ◌+◌, ◌^◌, ◌≡◌, ◌<◌, ◌≤◌, arith, pos, negsuc, not, inl, inr, refl, sym, ap, ◌∙◌, subst, ℤ, List, [], ◌∷◌, Option, None, Some, Bool, true, false}
+use Rattle.std.proofs.Common.{ℕ, ◌+◌, ◌^◌, ◌≡◌, ◌<◌, ◌≤◌, arith, pos, negsuc, not, inl, inr, refl, sym, ap, ◌∙◌, subst, ℤ, List, [], ◌∷◌, length, Option, None, Some, Bool, true, false}
 use Rattle.std.specs.Prelude.{if◌then◌else◌, slice_get, IfSome}
 use Rattle.std.specs.Global.{Box, Vec}
 use Rattle.bpf_insn.specs.Register.{number}
@@ -16,13 +16,14 @@ use Rattle.bpf_insn.specs.Size.{size_bytes}
 use Rattle.bpf_insn.specs.declared.size.Size.{Size}
 use Rattle.bpf_note.specs.Regions as regions
 use Rattle.bpf_note.specs.Regions.{InPacket, InStack, InContext, InCounter, Nowhere}
+use Rattle.bpf_note.specs.Constants.{are_constants}
 use Rattle.bpf_note.specs.State.{State, IsState, IsStart}
 use Rattle.bpf_note.specs.Parts.{Noted, facts}
 use Rattle.bpf_note.specs.Facts.{Facts, entry}
 use Rattle.bpf_note.specs.Describes.{Describes}
 use Rattle.bpf_note.specs.declared.op.Op.{Op}
 use Rattle.bpf_note.specs.declared.op.Op.TheVariants as ops
-use Rattle.bpf_flow.specs.Step.{Outcome, Next, Loads, Adds, Exited, Fault, need, at_slot, with_number, is_frame, written, operand, first_operand, reached, loaded, load_from, store_to, taken, target, jumped, exec, step, LeadsTo}
+use Rattle.bpf_flow.specs.Step.{Outcome, Next, Loads, Adds, Exited, Fault, need, at_slot, with_number, is_frame, written, operand, first_operand, address, reached, loaded, load_from, load_constants, load_at, store_to, taken, target, jumped, exec, step, LeadsTo}
 use Rattle.bpf_flow.specs.Graph.{next_slot}
 use Rattle.bpf_flow.specs.Edges.{Edges}
 use Rattle.bpf_flow.specs.Sound.{Accounts, Covers}
@@ -181,6 +182,13 @@ load_exits (InCounter m k j) s signed size dst r0 e = by (is_frame dst) e
     by false e = cc
 load_exits Nowhere s signed size dst r0 e = cc
 
+pub load_at_exits : (s : State) (a : ℕ) (signed : Bool) (size : Size) (dst r0 : ℕ) → load_at s a signed size dst ≡ Exited r0 → ⊥
+load_at_exits s a signed size dst r0 e = by (are_constants s.shapes a (size_bytes size)) e
+  where
+    by : (b : Bool) → (if b then load_constants s a signed size dst else load_from (regions.region (length s.packet) s.shapes a (size_bytes size)) s signed size dst) ≡ Exited r0 → ⊥
+    by true e = written_exits s (s.pc + 1) dst _ r0 e
+    by false e = load_exits (regions.region (length s.packet) s.shapes a (size_bytes size)) s signed size dst r0 e
+
 store_exits : (place : regions.Place) (s : State) (z x r0 : ℕ) → store_to place s z x ≡ Exited r0 → ⊥
 store_exits (InPacket i) s z x r0 e = cc
 store_exits (InStack i) s z x r0 e = cc
@@ -195,7 +203,7 @@ own_exits (End kind width dst) low n s r0 o e = need_exits (s.reg (number dst)) 
 own_exits (MovSx wide bits dst src) low n s r0 o e = need_exits (s.reg (number src)) _ r0 (λ x e. written_exits s (s.pc + 1) (number dst) _ r0 e) e
 own_exits (Const dst value) low n s r0 o e = written_exits s (s.pc + 2) (number dst) value r0 e
 own_exits (MapRef dst m) low n s r0 o e = written_exits s (s.pc + 2) (number dst) _ r0 e
-own_exits (Ldx size signed dst src off) low n s r0 o e = need_exits (s.reg (number src)) _ r0 (λ a e. load_exits (reached s a off (size_bytes size)) s signed size (number dst) r0 e) e
+own_exits (Ldx size signed dst src off) low n s r0 o e = need_exits (s.reg (number src)) _ r0 (λ a e. load_at_exits s (address a off) signed size (number dst) r0 e) e
 own_exits (St size dst off imm) low n s r0 o e = o
 own_exits (Stx size dst src off) low n s r0 o e = need_exits (s.reg (number src)) _ r0 (λ x e. need_exits (s.reg (number dst)) _ r0 (λ a e. store_exits (reached s a off (size_bytes size)) s (size_bytes size) x r0 e) e) e
 own_exits (AddCounter fetch dst src off) low n s r0 o e = o

@@ -35,7 +35,7 @@ pub walks_length : (p : Accepted) → IsConsistent p → (lists : List (Option K
 walks_length p k lists packet ifindex queue number bytes labels all same short i q walks =
     let u = blank p lists packet ifindex queue in
     let is : IsStart (start_of u) = record { state = start_is_state u (blank_is p k lists packet ifindex queue all (subst (λ (n : ℕ). n ≤ 65535) same short) i q); pc = refl; reg = λ r. refl; stack = λ r. refl } in
-    let w = walks (start_of u) is refl refl refl refl (λ m shape kind key e k. refl) in
+    let w = walks (start_of u) is refl refl refl refl (λ m shape key e k. refl) in
     walk_length p.code w.0 bytes (start_of u) labels w.2
 
 pub counting_length : (went : List (Option Op) → Type 0) (p : Accepted) → IsConsistent p → (lists : List (Option Keyed)) (packet : List ℕ) (ifindex queue number : ℕ) (bytes : List ℕ) (count ops : ℕ) → ((i : ℕ) → slice_index packet i < 256) → {n : ℕ} → n ≡ length packet → n ≤ 65535 → ifindex < 2 ^ 32 → queue < 2 ^ 32 →
