@@ -279,6 +279,20 @@ static inline const char *laxonje_made_name(uint32_t made)
 	}
 }
 
+/* Why a queue has the lists that it had, in words for a log (enum laxonje_relisted). */
+static inline const char *laxonje_relisted_name(uint32_t relisted)
+{
+	switch (relisted) {
+	case LAXONJE_RELISTED: return "the queue has the lists";
+	case LAXONJE_RELISTED_NOT: return "there is no queue";
+	case LAXONJE_RELISTED_BUSY: return "something is under way";
+	case LAXONJE_RELISTED_MAPS: return "the program has other maps than the queue";
+	case LAXONJE_RELISTED_MEMORY: return "memory ran out";
+	case LAXONJE_RELISTED_PROGRAM: return "there is no program";
+	default: return "no answer";
+	}
+}
+
 /* Why a packet was refused, in words for a log (enum laxonje_refusal). */
 static inline const char *laxonje_refusal_name(uint32_t cause)
 {

@@ -4,6 +4,8 @@
 #define laxonje_program_delete inline_program_delete
 #define laxonje_queue_new inline_queue_new
 #define laxonje_queue_delete inline_queue_delete
+#define laxonje_counters_new inline_counters_new
+#define laxonje_counters_delete inline_counters_delete
 #define laxonje_drive_turn inline_drive_turn
 #define laxonje_drive_deliver inline_drive_deliver
 #define laxonje_drive_await inline_drive_await
@@ -11,6 +13,7 @@
 #define laxonje_mapped_extents inline_mapped_extents
 #define laxonje_taken_name inline_taken_name
 #define laxonje_made_name inline_made_name
+#define laxonje_relisted_name inline_relisted_name
 #define laxonje_refusal_name inline_refusal_name
 #define laxonje_halt_name inline_halt_name
 #define laxonje_name inline_name
@@ -19,6 +22,8 @@
 #undef laxonje_program_delete
 #undef laxonje_queue_new
 #undef laxonje_queue_delete
+#undef laxonje_counters_new
+#undef laxonje_counters_delete
 #undef laxonje_drive_turn
 #undef laxonje_drive_deliver
 #undef laxonje_drive_await
@@ -26,6 +31,7 @@
 #undef laxonje_mapped_extents
 #undef laxonje_taken_name
 #undef laxonje_made_name
+#undef laxonje_relisted_name
 #undef laxonje_refusal_name
 #undef laxonje_halt_name
 #undef laxonje_name
@@ -35,6 +41,8 @@ extern __typeof__(inline_program_new) laxonje_program_new;
 extern __typeof__(inline_program_delete) laxonje_program_delete;
 extern __typeof__(inline_queue_new) laxonje_queue_new;
 extern __typeof__(inline_queue_delete) laxonje_queue_delete;
+extern __typeof__(inline_counters_new) laxonje_counters_new;
+extern __typeof__(inline_counters_delete) laxonje_counters_delete;
 extern __typeof__(inline_drive_turn) laxonje_drive_turn;
 extern __typeof__(inline_drive_deliver) laxonje_drive_deliver;
 extern __typeof__(inline_drive_await) laxonje_drive_await;
@@ -42,6 +50,7 @@ extern __typeof__(inline_mapped_page) laxonje_mapped_page;
 extern __typeof__(inline_mapped_extents) laxonje_mapped_extents;
 extern __typeof__(inline_taken_name) laxonje_taken_name;
 extern __typeof__(inline_made_name) laxonje_made_name;
+extern __typeof__(inline_relisted_name) laxonje_relisted_name;
 extern __typeof__(inline_refusal_name) laxonje_refusal_name;
 extern __typeof__(inline_halt_name) laxonje_halt_name;
 extern __typeof__(inline_name) laxonje_name;
@@ -64,6 +73,16 @@ struct laxonje_queue *laxonje_queue_new(void)
 void laxonje_queue_delete(struct laxonje_queue **queue)
 {
 	inline_queue_delete(queue);
+}
+
+struct laxonje_shared *laxonje_counters_new(struct laxonje_program *program, size_t queues)
+{
+	return inline_counters_new(program, queues);
+}
+
+void laxonje_counters_delete(struct laxonje_shared **counters)
+{
+	inline_counters_delete(counters);
 }
 
 struct laxonje_op laxonje_drive_turn(struct laxonje_drive *drive, const struct laxonje_io *io)
@@ -101,6 +120,11 @@ const char *laxonje_taken_name(uint32_t taken)
 const char *laxonje_made_name(uint32_t made)
 {
 	return inline_made_name(made);
+}
+
+const char *laxonje_relisted_name(uint32_t relisted)
+{
+	return inline_relisted_name(relisted);
 }
 
 const char *laxonje_refusal_name(uint32_t cause)

@@ -61,6 +61,7 @@ static void null_programs(struct laxonje_program *program)
 	is("map size", laxonje_map_size(NULL, 0).entries, 0);
 	is("map named", laxonje_map_named(NULL, name, 0), LAXONJE_NOWHERE);
 	is("map name", laxonje_map_name(NULL, 0, name, sizeof name), 0);
+	is("relist", laxonje_relist(NULL, (const uint8_t *)counts, strlen(counts)).kind, LAXONJE_EMPTY);
 	laxonje_free(NULL);
 }
 
@@ -84,6 +85,9 @@ static void null_queues(struct laxonje_program *program, struct laxonje_queue *q
 	is("flags", laxonje_queue_flags(NULL), 0);
 	is("packet", laxonje_queue_packet(NULL, packet, sizeof packet), 0);
 	is("state", laxonje_queue_state(NULL).kind, LAXONJE_STANDS_NOT);
+	is("queue relist", laxonje_queue_relist(NULL, program), LAXONJE_RELISTED_NOT);
+	is("queue relist of null", laxonje_queue_relist(NULL, NULL), LAXONJE_RELISTED_NOT);
+	is("queue relist of no queue", laxonje_queue_relist(queue, NULL), LAXONJE_RELISTED_NOT);
 	laxonje_queue_free(NULL);
 }
 
@@ -114,6 +118,7 @@ static void few_counters(struct laxonje_program *program)
 {
 	laxonje_load_settings((const uint8_t *)counts, strlen(counts), program);
 	is("a queue", laxonje_queue_make_extents(program, extents, 1, table, 1, &desc, drive.queue), LAXONJE_MADE);
+	is("lists of null", laxonje_queue_relist(drive.queue, NULL), LAXONJE_RELISTED_PROGRAM);
 	is("its counters", laxonje_queue_counters(drive.queue), 3);
 	drive.counters = counters, drive.counter_count = 2;
 	guest_sends();

@@ -72,6 +72,11 @@ static enum answer loads_settings(void)
 	return of_verdict(laxonje_load_settings((const uint8_t *)settings, sizeof settings - 1, other));
 }
 
+static enum answer relists(void)
+{
+	return of_verdict(laxonje_relist(other, (const uint8_t *)settings, sizeof settings - 1));
+}
+
 static enum answer loads_again(void)
 {
 	return of_verdict(laxonje_again(program, other));
@@ -118,6 +123,7 @@ int main(void)
 	tries("check", checks);
 	tries("load", loads);
 	tries("load of settings", loads_settings);
+	tries("lists of settings", relists);
 	tries("the same program again", loads_again);
 	tries("a queue of a list", makes_of_list);
 	tries("a queue of extents", makes_of_extents);

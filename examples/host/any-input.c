@@ -192,6 +192,21 @@ static void again_any(struct holder *of)
 	laxonje_program_delete(&other);
 }
 
+/* A handle keeps its program, whatever the text. */
+static void relist_any(struct holder *of)
+{
+	size_t length, counters = laxonje_counters(of->program);
+	uint8_t *bytes = any_bytes(&length);
+	struct laxonje_verdict verdict = laxonje_relist(of->program, bytes, length);
+
+	if (of->live ? verdict.kind != LAXONJE_ACCEPTED && verdict.kind != LAXONJE_SETTINGS && verdict.kind != LAXONJE_OTHER
+	             : verdict.kind != LAXONJE_EMPTY)
+		wrong("relist");
+	if (laxonje_counters(of->program) != counters)
+		wrong("relist keeps the program");
+	free(bytes);
+}
+
 static void place_any(struct holder *of)
 {
 	struct laxonje_program *program = of->program;
@@ -239,7 +254,7 @@ static void read_text(const char *name)
 int main(int argc, char **argv)
 {
 	static void (*const calls[])(struct holder *) = {
-		load_any, load_any, load_any, run_any, run_any, run_any, run_any, batch_any, batch_any, again_any, place_any, free_any,
+		load_any, load_any, load_any, run_any, run_any, run_any, run_any, batch_any, batch_any, again_any, relist_any, place_any, free_any,
 	};
 	struct holder programs[4] = {{0}};
 	unsigned long count = argc > 1 ? strtoul(argv[1], NULL, 10) : 0;

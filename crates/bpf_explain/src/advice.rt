@@ -100,8 +100,7 @@ fn advice_by(key: MapKey) -> &'static str
             "set all four bytes of the key that r2 points to, within the stack: an unsigned int",
         MapKey::Listed(_) =>
             "set all bytes of the key that r2 points to, within the stack: as many as each key of the map's list has",
-        MapKey::Constants(_) =>
-            "read constants at their address: a map of constants has no keys",
+        MapKey::Constants(_) => "read constants at their address: a map of constants has no keys",
     }
 }
 

@@ -16,7 +16,8 @@ use Rattle.bpf_note.specs.Facts.{Facts, with_reg}
 use Rattle.bpf_note.specs.Regions.{Place, Nowhere, region}
 use Rattle.bpf_note.specs.Shape.{Shape, AreShapes}
 use Rattle.bpf_note.specs.State.{State, constants_start, values_start}
-use Rattle.bpf_note.proofs.ConstantLemmas.{left_further, left_small, none_above, none_elsewhere}
+use Rattle.bpf_note.specs.Constants.{HaveNoConstants}
+use Rattle.bpf_note.proofs.ConstantLemmas.{none_at_all, left_further, left_small, none_above, none_elsewhere}
 use Rattle.bpf_flow.specs.Step.{Outcome, address, is_frame, load_at, load_constants, load_from, taken}
 use Rattle.bpf_flow.specs.Edges.{Edges, and_then, goes_to}
 use Rattle.bpf_flow.specs.Memory.{any_loaded, is_constant, load_value, loaded_value, reach}
@@ -96,6 +97,28 @@ left_in shapes a h = by (nat_le constants_start a && nat_lt a values_start) h
 pub constants_there : (shapes : List Shape) (a z : ℕ) → 0 < z → are_constants shapes a z ≡ true → (shape : Shape) × (slice_get shapes (map_of a) ≡ Some shape) × (0 < constant_bytes shape.key)
 constants_there shapes a z some e =
     there_by shapes a (slice_get shapes (map_of a)) refl (left_in shapes a (omega (arith, some, is_left shapes a z e)))
+
+-- where no map has constants
+pub plain_step : (s : State) (a : ℕ) (signed : Bool) (size : Size) (k : ℕ) → HaveNoConstants s.shapes → load_at s a signed size k ≡ load_from (region (length s.packet) s.shapes a (size_bytes size)) s signed size k
+plain_step s a signed size k none = plain_load s a signed size k (none_at_all s.shapes a none)
+
+more_bytes : (n z : ℕ) → 1 ≤ z → 1 ≤ n + z
+more_bytes n z h = omega (arith, h)
+
+none_constant : (shapes : List Shape) (v : Val) (o : ℤ) (z : ℕ) → 1 ≤ z → HaveNoConstants shapes → is_constant shapes v o z ≡ false
+none_constant shapes (Num lo hi) o z some none = none_left shapes (address lo o) (hi - lo + z) (more_bytes (hi - lo) z some) (none_at_all shapes (address lo o) none)
+none_constant shapes Unset o z some none = refl
+none_constant shapes (Pkt id off) o z some none = refl
+none_constant shapes PktEnd o z some none = refl
+none_constant shapes (Stack off) o z some none = refl
+none_constant shapes Ctx o z some none = refl
+none_constant shapes (Map m) o z some none = refl
+none_constant shapes (MaybeValue m id) o z some none = refl
+none_constant shapes (Value m) o z some none = refl
+
+pub plain_rule : (n : Facts) (shapes : List Shape) (v : Val) (o : ℤ) (signed : Bool) (size : Size) → HaveNoConstants shapes → load_value n shapes v o signed size ≡ and_then (reach n v o (size_bytes size)) (loaded_value n shapes signed size)
+plain_rule n shapes v o signed size none =
+    ap (λ (b : Bool). if b then Ok (any_loaded signed size) else and_then (reach n v o (size_bytes size)) (loaded_value n shapes signed size)) (none_constant shapes v o (size_bytes size) (some_bytes size) none)
 
 module _ (n : Facts) (s : State) (d : Describes n s) where
   constant_reached : (v : Val) (x z : ℕ) (o : ℤ) → 1 ≤ z → IsReading (meaning s d.base d.address) v x → is_constant s.shapes v o z ≡ true → are_constants s.shapes (address x o) z ≡ true

@@ -40,7 +40,7 @@ row_for keyed key = found_among keyed.kind keyed.keys key (count keyed.kind keye
 -- what a list has for a key: a row if its keys are of that size, or of constants the byte at the place that a __u32 names
 abbrev pub listed_in : MapList → List ℕ → Option ℕ
 listed_in (Rows keyed) key = if length key == size keyed.kind then row_for keyed key else None
-listed_in (Constants bytes) key = if length key == 4 then slice_get bytes.items (number_of key) else None
+listed_in (Constants bytes) key = if length key == 4 then slice_get bytes (number_of key) else None
 
 -- a list that isn't there has nothing
 abbrev pub found_in : Option (Option MapList) → List ℕ → Option ℕ

@@ -16,6 +16,6 @@ mod refusal;
 mod rows;
 mod sorting;
 
-pub use list::MapList;
+pub use list::{ConstantBytes, MapList};
 pub use refusal::Refusal;
 pub use rows::KeyedRows;

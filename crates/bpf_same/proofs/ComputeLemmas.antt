@@ -34,7 +34,7 @@ add_value : (x y : ℕ) → computed op.Add true x y ≡ (x + y) % 2 ^ 64
 unfolding computed
 add_value x y = omega arith
 
-mod_word : (x : ℕ) → x < 2 ^ 64 → x % 2 ^ 64 ≡ x
+pub mod_word : (x : ℕ) → x < 2 ^ 64 → x % 2 ^ 64 ≡ x
 mod_word x l = omega (arith, l)
 
 and_value : (x y : ℕ) → x < 2 ^ 64 → y < 2 ^ 64 → computed op.And true x y ≡ bit_and x y

@@ -91,6 +91,14 @@ apart f s t by same small fits e = ap (λ (m : ℕ). plus (Some s.constant) (gat
     of None = refl
     of (Some y) = ap Some (omega (arith, small, fits, e))
 
+-- a constant more
+pub moved_total : (f : ℕ → Option ℕ) (s : LinearForm) (by : ℕ) → total f (record { constant = (s.constant + by) % 2 ^ 64; terms = s.terms }) ≡ plus (total f s) (Some by)
+moved_total f s by = of (gathered f s.terms 64)
+  where
+    of : (o : Option ℕ) → plus (Some ((s.constant + by) % 2 ^ 64)) o ≡ plus (plus (Some s.constant) o) (Some by)
+    of None = refl
+    of (Some y) = ap Some (omega arith)
+
 -- the total of a linear form is a word
 pub total_small : (f : ℕ → Option ℕ) (s : LinearForm) (x : ℕ) → total f s ≡ Some x → x < 2 ^ 64
 total_small f s x = by (gathered f s.terms 64)

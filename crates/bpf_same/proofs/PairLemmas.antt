@@ -22,8 +22,10 @@ use Rattle.bpf_note.specs.declared.op.Op.TheVariants as ops
 use Rattle.bpf_flow.specs.Step.{Outcome, Next, Loads, Adds, Exited, Fault, need, at_slot, with_number, is_frame, written, operand, first_operand, address, reached, loaded, load_from, load_constants, load_at, store_to, add_to, map_at, key_in, value_or_null, after_call, called, looked_up, looked_up_in, row_of, helped, exec, LeadsTo, taken}
 use Rattle.bpf_flow.specs.Graph.{next_slot}
 use Rattle.bpf_flow.proofs.StepLemmas.{no_fault, exited}
+use Rattle.bpf_same.specs.LinearForms.{plus}
 use Rattle.bpf_same.specs.Simulated.{is_jump}
 use Rattle.bpf_same.specs.Stepped.{alters, operand_in, AreAlike, AreShared}
+use Rattle.bpf_same.specs.Moved.{IsMoved}
 
 -- s with another slot, other registers and another stack
 abbrev pub parted : State → ℕ → (ℕ → Option ℕ) → (ℕ → Option ℕ) → State
@@ -53,6 +55,15 @@ Pairs R Fault o = Unit {0}
 pub need_pairs : {A : Type 0} (R : State → State → Type 0) (o p : Option A) (f f' : A → Outcome) → p ≡ o → ((x : A) → o ≡ Some x → Pairs R (f x) (f' x)) → Pairs R (need o f) (need p f')
 need_pairs R None p f f' e r = tt
 need_pairs {A = A} R (Some x) p f f' e r = subst (λ (q : Option A). Pairs R (f x) (need q f')) (sym e) (r x refl)
+
+-- two registers and offsets that are one address
+address_pairs : (R : State → State → Type 0) (o q : Option ℕ) (off from : ℤ) (f f' : ℕ → Outcome) → plus q (Some (sign_extended from)) ≡ plus o (Some (sign_extended off)) → ((x : ℕ) → o ≡ Some x → Pairs R (f (address x off)) (f' (address x off))) →
+    Pairs R (need o (λ x. f (address x off))) (need q (λ y. f' (address y from)))
+address_pairs R None q off from f f' e r = tt
+address_pairs R (Some x) None off from f f' e r = cc
+address_pairs R (Some x) (Some y) off from f f' e r =
+    let same : address x off ≡ address y from = cc in
+    subst (λ (a : ℕ). Pairs R (f (address x off)) (f' a)) same (r x refl)
 
 pub pairs_lead : (R : State → State → Type 0) (o p : Outcome) (l : Option Op) (u : State) → Pairs R o p → LeadsTo o l u → (v : State) × LeadsTo p l v × R u v
 pairs_lead R (Next t) p None u k h = (k.0, subst (λ (o : Outcome). LeadsTo o None k.0) (sym k.1) refl, subst (λ (t : State). R t k.0) h k.2)
@@ -325,3 +336,29 @@ module _ (s : State) (p low : ℕ) (g h : ℕ → Option ℕ) (above : (i : ℕ)
   exec_pairs (Call helper) j a e = help_pairs helper a.0 a.1 e
   exec_pairs Exit j a e = need_pairs _ (s.reg 0) (g 0) _ _ a (λ x is. refl)
   exec_pairs Second j a e = tt
+
+  -- an access of the same address by another register or offset
+  pub moved_pairs : (i old : Insn) → IsMoved i old s.reg g → AreShared i low s → Pairs (Behind (λ k. alters i k) (next_slot i p) low s g) (exec i s) (exec old (parted s p g h))
+  moved_pairs (Ldx size signed dst src off) old m e =
+      subst (λ (o : Insn). Pairs (Behind (λ k. k == number dst) (p + 1) low s g) (exec (Ldx size signed dst src off) s) (exec o (parted s p g h))) (sym m.2)
+      (address_pairs _ (s.reg (number src)) (g (number m.0)) off m.1 (λ a. load_at s a signed size (number dst)) (λ a. load_at (parted s p g h) a signed size (number dst)) m.3
+      (λ x is. load_at_pairs (address x off) signed size (number dst) (λ i at. e x i is at)))
+  moved_pairs (Stx size dst src off) old m e =
+      let z = size_bytes size in
+      subst (λ (o : Insn). Pairs (Behind (λ k. false) (p + 1) low s g) (exec (Stx size dst src off) s) (exec o (parted s p g h))) (sym m.3)
+      (need_pairs _ (s.reg (number src)) (g (number m.1)) _ _ m.5 (λ y there.
+      address_pairs _ (s.reg (number dst)) (g (number m.0)) off m.2 (λ a. store_to (region (length s.packet) s.shapes a z) s z y) (λ a. store_to (region (length s.packet) s.shapes a z) (parted s p g h) z y) m.4
+      (λ x is. store_pairs (reached s x off z) z y (λ i at. e x i is at))))
+  moved_pairs (Alu op wide dst src) old m e = absurd m
+  moved_pairs (Neg wide dst) old m e = absurd m
+  moved_pairs (End kind width dst) old m e = absurd m
+  moved_pairs (MovSx wide bits dst src) old m e = absurd m
+  moved_pairs (Const dst value) old m e = absurd m
+  moved_pairs (MapRef dst k) old m e = absurd m
+  moved_pairs (St size dst off imm) old m e = absurd m
+  moved_pairs (AddCounter fetch dst src off) old m e = absurd m
+  moved_pairs (Ja wide_offset to) old m e = absurd m
+  moved_pairs (Jump cond wide dst src off) old m e = absurd m
+  moved_pairs (Call helper) old m e = absurd m
+  moved_pairs Exit old m e = absurd m
+  moved_pairs Second old m e = absurd m

@@ -23,7 +23,7 @@ use Rattle.bpf_same.proofs.LinearFormLemmas.{plus_assoc}
 some_same : {x y : ℕ} → Some x ≡ Some y → x ≡ y
 some_same e = cc
 
-same_number : (k n : ℕ) → (k == n) ≡ true → k ≡ n
+pub same_number : (k n : ℕ) → (k == n) ≡ true → k ≡ n
 same_number k n e = grind (arith, nat_tests)
 
 -- the register that an instruction alters

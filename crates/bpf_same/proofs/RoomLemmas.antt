@@ -113,6 +113,23 @@ number_address i stutters low m e here least d none p long at less = λ f g f' g
       to = omega (arith, p, at, less, to, fits);
     }
 
+-- a number up to which a jump compares
+pub reached_address : (i : Insn) (stutters : Bool) (low : ℕ) (m : Facts) (e : Relation) (here : LinearForm) (k distance by d : ℕ) → IsComparedAddress i stutters low m e k distance by → here.terms ≡ 0 → here.constant < 2 ^ 64 → d ≡ (here.constant + (2 ^ 64 - packet_start)) % 2 ^ 64 → d ≤ distance →
+    IsAddressAfter i stutters low m e here
+reached_address i stutters low m e here k distance by d compared none p at less = λ f g f' g' t h.
+    let a = compared f g f' g' t h in
+    let fits : a.stop < 2 ^ 64 = t.fits 64 a.stop a.packet_end in
+    let from = a.from in
+    let to = a.to in
+    record {
+      x = here.constant;
+      stop = a.stop;
+      is = constant_is f here none p;
+      packet_end = a.packet_end;
+      from = omega (arith, p, at, less, from, to, fits);
+      to = omega (arith, p, at, less, from, to, fits);
+    }
+
 -- a form after the step, by what it was before
 pub preserves_address : (i : Insn) (stutters : Bool) (low : ℕ) (m : Facts) (e : Relation) (there here : LinearForm) → IsPulledBack i stutters low m e there here → IsAddressAfter i stutters low m e here → PreservesAddress i stutters low m e there
 preserves_address i stutters low m e there here back address = λ f g f' g' t h. subst (λ (o : Option ℕ). IsAddress f' o) (sym (back f g f' g' t h)) (address f g f' g' t h)
@@ -157,12 +174,6 @@ pub below_end : (i : Insn) (stutters : Bool) (low : ℕ) (m : Facts) (e : Relati
 below_end i stutters low m e k small left v = λ f g f' g' t h.
     let l = t.long 0 (λ s d. omega arith) in
     record { y = l.stop; stop = l.stop; is = sym (t.kept k small left) ∙ (t.ends k v small ∙ l.packet_end); packet_end = l.packet_end; below = omega arith }
-
-pub far_by : (i : Insn) (stutters : Bool) (low : ℕ) (m : Facts) (e : Relation) (k first last distance : ℕ) (v : Val) → k < 11 → alters i k ≡ false → v ≡ m.reg k → IsRead m v first last → packet_start + distance ≤ first → IsDistance i stutters low m e k distance
-far_by i stutters low m e k first last distance v small left is read from = λ f g f' g' t h.
-    let r = t.ranged k first last (subst (λ (v : Val). IsRead m v first last) is read) small in
-    let least = r.least in
-    record { x = r.x; is = sym (t.kept k small left) ∙ r.is; from = omega (arith, from, least) }
 
 -- a register that is at most one that is at most the packet's end
 pub inside_by : (i : Insn) (stutters : Bool) (low : ℕ) (m : Facts) (e : Relation) (l j distance by : ℕ) → IsOrderOf i l j by → IsBelowEnd i stutters low m e j → IsDistance i stutters low m e l distance → IsComparedAddress i stutters low m e l distance by

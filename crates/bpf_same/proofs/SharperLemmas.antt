@@ -1,6 +1,12 @@
 -- What is known after a sum, by the ranges of both numbers.
 use Rattle.std.proofs.Common.{ℕ, ◌+◌, ◌%◌, ◌^◌, ◌≡◌, ◌<◌, ◌≤◌, refl, sym, ap, ◌∙◌, subst, arith, ◌∷◌, [], Option, None, Some, Bool, true, false}
-use Rattle.std.specs.Prelude.{◌==◌, if◌then◌else◌}
+use Rattle.std.specs.Prelude.{◌==◌, if◌then◌else◌, bit_and, bit_or, IfSome}
+use Rattle.std.specs.Int.Bits.{or_add_and}
+use Rattle.std.proofs.lemmas.Nat.{le_or_l}
+use Rattle.bpf_insn.specs.Arithmetic.{computed}
+use Rattle.bpf_insn.specs.declared.alu_op.AluOp.{AluOp}
+use Rattle.bpf_same.specs.declared.range.Range.{Range}
+use Rattle.bpf_same.specs.Stepped.{Computes, IsCombined}
 use Rattle.std.proofs.Common.{inl, inr}
 use Rattle.std.proofs.lemmas.Bool.Decides.{nat_tests}
 use Rattle.bpf_insn.specs.Register.{number}
@@ -17,8 +23,8 @@ use Rattle.bpf_note.specs.Describes.{Describes, Reads, meaning}
 use Rattle.bpf_flow.specs.Sound.{Accounts, Covers}
 use Rattle.bpf_flow.specs.Step.{Outcome, Next, Loads, Adds, Exited, Fault, exec, operand, LeadsTo}
 use Rattle.bpf_same.specs.LinearForms.{plus}
-use Rattle.bpf_same.specs.Ranges.{Lies, IsRead, IsOperandRead, IsAdded, IsSummed, IsSharper}
-use Rattle.bpf_same.proofs.ComputeLemmas.{added}
+use Rattle.bpf_same.specs.Ranges.{Lies, IsRead, IsOperandRead, IsAdded, IsUnited, IsSummed, IsSharper}
+use Rattle.bpf_same.proofs.ComputeLemmas.{added, computes_as, mod_word}
 use Rattle.bpf_same.proofs.StepLemmas.{alu_computes}
 use Rattle.bpf_same.proofs.PairLemmas.{operand_is}
 
@@ -28,13 +34,43 @@ adds from to first last low high fits a b is top = λ o p r q.
     let sum : plus o p ≡ Some ((r.x + q.x) % 2 ^ 64) = ap (λ (o : Option ℕ). plus o p) r.is ∙ ap (plus (Some r.x)) q.is in
     record { x = (r.x + q.x) % 2 ^ 64; is = sum; least = omega (arith, fits, a, b, is, top, r.least, r.most, q.least, q.most); most = omega (arith, fits, top, r.most, q.most) }
 
--- a register that gets a sum
-pub sums : (i : Insn) (n : Facts) (dst : Register) (src : Operand) (from to first last low high : ℕ) → i ≡ Alu op.Add true dst src → IsRead n (n.reg (number dst)) from to → IsOperandRead n src first last → IsAdded from to first last low high →
+-- the bits of two numbers are at most their sum
+pub unites : (from to first last low high : ℕ) → low ≡ from → high ≡ to + last → IsUnited from to first last low high
+unites from to first last low high bottom top = λ x y a b c d.
+    let least : x ≤ bit_or x y = le_or_l x y in
+    let most : bit_or x y + bit_and x y ≡ x + y = or_add_and x y in
+    (omega (arith, a, bottom, least), omega (arith, b, d, top, most))
+
+or_value : (x y : ℕ) → x < 2 ^ 64 → y < 2 ^ 64 → computed op.Or true x y ≡ bit_or x y
+unfolding computed
+or_value x y l m = ap (λ (x : ℕ). bit_or x (y % 2 ^ 64)) (mod_word x l) ∙ ap (bit_or x) (mod_word y m)
+
+some_is : {x y : ℕ} → Some x ≡ Some y → x ≡ y
+some_is e = cc
+
+-- what a sum, or the bits of both, comes to
+pub adds_if : (o : AluOp) (from to first last : ℕ) (r : Option Range) → o ≡ op.Add → IfSome r (λ r. IsAdded from to first last r.low r.high) → IfSome r (λ r. IsCombined o from to first last r.low r.high)
+adds_if o from to first last None is sum = tt
+adds_if o from to first last (Some r) is sum = λ a b x k p q. subst (λ (o : Option ℕ). Lies o r.low r.high) (sym (added a b x (computes_as o op.Add true true a b x is refl k))) (sum a b p q)
+
+unites_in : (from to first last low high : ℕ) → to < 2 ^ 64 → last < 2 ^ 64 → IsUnited from to first last low high → IsCombined op.Or from to first last low high
+unites_in from to first last low high fits small both = λ a b o k p q.
+    let x : k.x ≡ p.x = some_is (sym k.first ∙ p.is) in
+    let y : k.y ≡ q.x = some_is (sym k.second ∙ q.is) in
+    let bits = both p.x q.x p.least p.most q.least q.most in
+    let value : computed op.Or true k.x k.y ≡ bit_or p.x q.x = ap (λ (x : ℕ). computed op.Or true x k.y) x ∙ (ap (computed op.Or true p.x) y ∙ or_value p.x q.x (omega (arith, fits, p.most)) (omega (arith, small, q.most))) in
+    record { x = bit_or p.x q.x; is = k.is ∙ ap Some value; least = bits.0; most = bits.1 }
+
+pub unites_if : (o : AluOp) (from to first last : ℕ) (r : Option Range) → o ≡ op.Or → to < 2 ^ 64 → last < 2 ^ 64 → IfSome r (λ r. IsUnited from to first last r.low r.high) → IfSome r (λ r. IsCombined o from to first last r.low r.high)
+unites_if o from to first last None is fits small both = tt
+unites_if o from to first last (Some r) is fits small both = subst (λ (o : AluOp). IsCombined o from to first last r.low r.high) (sym is) (unites_in from to first last r.low r.high fits small both)
+
+-- a register that gets it
+pub sums : (i : Insn) (n : Facts) (o : AluOp) (dst : Register) (src : Operand) (from to first last low high : ℕ) → i ≡ Alu o true dst src → IsRead n (n.reg (number dst)) from to → IsOperandRead n src first last → IsCombined o from to first last low high →
     IsSummed i n (number dst) low high
-sums i n dst src from to first last low high is one other sum = λ s u label d h.
-    let c = alu_computes op.Add true dst src s label u (subst (λ (i : Insn). LeadsTo (exec i s) label u) is h) in
-    let o : u.reg (number dst) ≡ plus (s.reg (number dst)) (operand s src) = added (s.reg (number dst)) (operand s src) (u.reg (number dst)) (record { x = c.x; y = c.y; first = c.first; second = operand_is s src ∙ c.second; is = c.is }) in
-    subst (λ (o : Option ℕ). Lies o low high) (sym o) (sum (s.reg (number dst)) (operand s src) (one s d (s.reg (number dst)) (d.regs (number dst))) (other s d))
+sums i n o dst src from to first last low high is one other combined = λ s u label d h.
+    let c = alu_computes o true dst src s label u (subst (λ (i : Insn). LeadsTo (exec i s) label u) is h) in
+    combined (s.reg (number dst)) (operand s src) (u.reg (number dst)) (record { x = c.x; y = c.y; first = c.first; second = operand_is s src ∙ c.second; is = c.is }) (one s d (s.reg (number dst)) (d.regs (number dst))) (other s d)
 
 pub register_read : (n : Facts) (src : Operand) (k low high : ℕ) → ((s : State) → operand s src ≡ s.reg k) → IsRead n (n.reg k) low high → IsOperandRead n src low high
 register_read n src k low high is r = λ s d. subst (λ (o : Option ℕ). Lies o low high) (sym (is s)) (r s d (s.reg k) (d.regs k))

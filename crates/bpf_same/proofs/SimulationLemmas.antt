@@ -38,10 +38,12 @@ use Rattle.bpf_flow.proofs.JumpLemmas.{met_is, opposite_holds}
 use Rattle.bpf_flow.proofs.RegisterLemmas.{number_small}
 use Rattle.bpf_same.specs.declared.relation.Relation.{Relation}
 use Rattle.bpf_same.specs.LinearForms.{held, Hold}
-use Rattle.bpf_same.specs.Stepped.{alters, operand_in, Stepped, AreAlike, ReadsAlike, IsOwnStep}
+use Rattle.bpf_same.specs.Stepped.{alters, operand_in, Stepped, AreAlike, AreShared, ReadsAlike, IsOwnStep}
+use Rattle.bpf_same.specs.Moved.{DoesAlike, IsMoved}
+use Rattle.bpf_insn.specs.declared.alu_op.AluOp.{AluOp}
 use Rattle.bpf_same.specs.Simulated.{Candidate, IsKnown, IsRelated, IsSimulated, ReachesSilently, SimulatesFrom, Establishes, IsSharedStep, SimulatesStep, SimulatesPlain, SimulatesWay, SimulatesWays, AreSameJump, SimulatesBranch, IsBranch, IsAccounted, in_front, Simulates, IsSilent, SimulatesSlot, is_jump, IsSimulation}
-use Rattle.bpf_same.proofs.PairLemmas.{parted, Behind, Pairs, pairs_lead, pairs_exit, operand_is, exec_pairs}
-use Rattle.bpf_same.proofs.StepLemmas.{needed_is, held_register, held_fits, alike_of, noted_within, noted_long, noted_end, noted_range, noted_is, copied_stepped}
+use Rattle.bpf_same.proofs.PairLemmas.{parted, Behind, Pairs, pairs_lead, pairs_exit, operand_is, exec_pairs, moved_pairs}
+use Rattle.bpf_same.proofs.StepLemmas.{needed_is, held_register, held_fits, alike_of, noted_within, noted_long, noted_end, noted_range, noted_is, moved_of, copied_stepped}
 use Rattle.bpf_same.proofs.OwnLemmas.{own_alone}
 
 operations_front : (label : Option Op) (labels : List (Option Op)) → operations (label ∷ labels) ≡ in_front label (operations labels)
@@ -269,24 +271,38 @@ jump_stepped i low q m s g j met d = record {
   alike = λ k small e. absurd (true_false e);
 }
 
+-- both programs do the same
+does_pairs : (e : Relation) (low p : ℕ) (i old : Insn) (s t : State) → is_jump i ≡ false → AreShared i low s → IsRelated e low p s t → DoesAlike e old i → Pairs (Behind (λ k. alters i k) (next_slot i p) low s t.reg) (exec i s) (exec old t)
+does_pairs e low p i old s t j shares beside (inl same) =
+    subst (λ (o : Insn). Pairs (Behind (λ k. alters i k) (next_slot i p) low s t.reg) (exec i s) (exec o t)) (sym same.0)
+    (subst (λ (x : State). Pairs (Behind (λ k. alters i k) (next_slot i p) low s t.reg) (exec i s) (exec i x)) (sym (parted_is e low p s t beside))
+    (exec_pairs s p low t.reg t.stack beside.stack i j (alike_there e low p i s t beside same.1) shares))
+does_pairs e low p i old s t j shares beside (inr moved) =
+    subst (λ (x : State). Pairs (Behind (λ k. alters i k) (next_slot i p) low s t.reg) (exec i s) (exec old x)) (sym (parted_is e low p s t beside))
+    (moved_pairs s p low t.reg t.stack beside.stack i old (moved_of i old (held s) s.reg t.reg (λ k l. held_register s k l) (moved (held s) t.reg beside.relation)) shares)
+
+-- an operation isn't moved
+does_operation : (e : Relation) (low p : ℕ) (i old : Insn) (s t v : State) (l : Option Op) → IsRelated e low p s t → DoesAlike e old i → LeadsTo (exec old t) l v →
+    (op : AluOp) (wide : Bool) (dst : Register) (src : Operand) → i ≡ Alu op wide dst src → LeadsTo (exec i t) l v
+does_operation e low p i old s t v l beside (inl same) h op wide dst src is = subst (λ (o : Insn). LeadsTo (exec o t) l v) same.0 h
+does_operation e low p i old s t v l beside (inr moved) h op wide dst src is = absurd (subst (λ (i : Insn). IsMoved i old (held s) t.reg) is (moved (held s) t.reg beside.relation))
+
 -- a step that both programs take
 both_step : (b : Candidate) (shapes : List Shape) (p : ℕ) (i : Insn) (e : Relation) (n m : Facts) (pc q : ℕ) → is_jump i ≡ false → IsSharedStep b p i e n m q → IsAccounted ((q, m) ∷ []) shapes i n pc → Simulates b shapes p i e n pc
 both_step b shapes p i e n m pc q j st sound = record {
   goes = λ s t beside at sh d label u h r0 bytes done go.
       let cover : (u.pc ≡ q) × Describes m u = by_one q m u (covered ((q, m) ∷ []) (exec i s) label u (sound s d at sh) h) in
-      let v = pairs_lead (Behind (λ k. alters i k) (next_slot i p) b.low s t.reg) (exec i s) (exec i t) label u (pairs s t beside d) h in
-      let there : slice_get b.old t.pc ≡ Some i = ap (slice_get b.old) beside.pc ∙ st.there in
+      let v = pairs_lead (Behind (λ k. alters i k) (next_slot i p) b.low s t.reg) (exec i s) (exec st.copied.old t) label u (does_pairs e b.low p i st.copied.old s t j (st.copied.shares s d) beside st.copied.does) h in
+      let there : slice_get b.old t.pc ≡ Some st.copied.old = ap (slice_get b.old) beside.pc ∙ st.copied.there in
       let behind = v.2 in
-      before b.old r0 bytes t v.0 label done (step_at b.old t i label v.0 there v.1)
-      (established b i false e b.low m (next_slot i p) q st.establishes s t u v.0 beside.relation (copied_stepped i s u t v.0 b.low (next_slot i p) m label h v.1 j cover.1 behind) cover.1 cover.0 behind.pc
+      before b.old r0 bytes t v.0 label done (step_at b.old t st.copied.old label v.0 there v.1)
+      (established b i false e b.low m (next_slot i p) q st.establishes s t u v.0 beside.relation
+      (copied_stepped i s u t v.0 b.low (next_slot i p) m label h (does_operation e b.low p i st.copied.old s t v.0 label beside st.copied.does v.1) j cover.1 behind) cover.1 cover.0 behind.pc
       behind.packet behind.ifindex behind.queue behind.shapes behind.find behind.stack r0 bytes done go);
   ends = λ s t beside d r0 x.
-      ap (λ (o : Option Insn). need o (λ i. exec i t)) (ap (slice_get b.old) beside.pc ∙ st.there) ∙ pairs_exit (Behind (λ k. alters i k) (next_slot i p) b.low s t.reg) (exec i s) (exec i t) r0 (pairs s t beside d) x;
+      ap (λ (o : Option Insn). need o (λ i. exec i t)) (ap (slice_get b.old) beside.pc ∙ st.copied.there)
+      ∙ pairs_exit (Behind (λ k. alters i k) (next_slot i p) b.low s t.reg) (exec i s) (exec st.copied.old t) r0 (does_pairs e b.low p i st.copied.old s t j (st.copied.shares s d) beside st.copied.does) x;
 }
-  where
-    pairs : (s t : State) → IsRelated e b.low p s t → Describes n s → Pairs (Behind (λ k. alters i k) (next_slot i p) b.low s t.reg) (exec i s) (exec i t)
-    pairs s t beside d = subst (λ (x : State). Pairs (Behind (λ k. alters i k) (next_slot i p) b.low s t.reg) (exec i s) (exec i x)) (sym (parted_is e b.low p s t beside))
-        (exec_pairs s p b.low t.reg t.stack beside.stack i j (alike_there e b.low p i s t beside st.alike) (st.shares s d))
 
 -- a step of the new program's own
 own_step : (b : Candidate) (shapes : List Shape) (p : ℕ) (i : Insn) (e : Relation) (n m : Facts) (pc q : ℕ) → IsOwnStep i b.low n → Establishes b i true e m p q → IsAccounted ((q, m) ∷ []) shapes i n pc → Simulates b shapes p i e n pc

@@ -22,7 +22,9 @@ use Rattle.bpf_flow.specs.Step.{Outcome, Next, Loads, Adds, Exited, Fault, need,
 use Rattle.bpf_flow.proofs.StepLemmas.{no_fault, exited}
 use Rattle.bpf_flow.proofs.KeptLemmas.{Keeps, exec_keeps}
 use Rattle.bpf_flow.proofs.RegisterLemmas.{number_small}
-use Rattle.bpf_same.specs.LinearForms.{held, IsWord}
+use Rattle.bpf_insn.specs.Signed.{sign_extended}
+use Rattle.bpf_same.specs.LinearForms.{held, plus, IsWord}
+use Rattle.bpf_same.specs.Moved.{IsMoved}
 use Rattle.bpf_same.specs.Ranges.{IsLeastLength, IsRead, Lies}
 use Rattle.bpf_same.specs.Simulated.{is_jump}
 use Rattle.bpf_same.specs.Stepped.{alters, IsOwn, operand_in, Computes, number_in, IsWithin, IsLong, Stepped, AreAlike}
@@ -86,6 +88,24 @@ alike_of (Jump cond wide dst src off) f f' g h a = (a.0 ∙ h (number dst) (numb
 alike_of (Call helper) f f' g h a = (a.0 ∙ h 1 (omega arith), a.1 ∙ h 2 (omega arith))
 alike_of Exit f f' g h a = a ∙ h 0 (omega arith)
 alike_of Second f f' g h a = tt
+
+-- the same of an access that is moved
+pub moved_of : (i old : Insn) (f f' g : ℕ → Option ℕ) → ((k : ℕ) → k < 11 → f k ≡ f' k) → IsMoved i old f g → IsMoved i old f' g
+moved_of (Ldx size signed dst src off) old f f' g h m = (m.0, m.1, m.2, m.3 ∙ ap (λ (o : Option ℕ). plus o (Some (sign_extended off))) (h (number src) (number_small src)))
+moved_of (Stx size dst src off) old f f' g h m = (m.0, m.1, m.2, m.3, m.4 ∙ ap (λ (o : Option ℕ). plus o (Some (sign_extended off))) (h (number dst) (number_small dst)), m.5 ∙ h (number src) (number_small src))
+moved_of (Alu op wide dst src) old f f' g h m = absurd m
+moved_of (Neg wide dst) old f f' g h m = absurd m
+moved_of (End kind width dst) old f f' g h m = absurd m
+moved_of (MovSx wide bits dst src) old f f' g h m = absurd m
+moved_of (Const dst value) old f f' g h m = absurd m
+moved_of (MapRef dst k) old f f' g h m = absurd m
+moved_of (St size dst off imm) old f f' g h m = absurd m
+moved_of (AddCounter fetch dst src off) old f f' g h m = absurd m
+moved_of (Ja wide_offset to) old f f' g h m = absurd m
+moved_of (Jump cond wide dst src off) old f f' g h m = absurd m
+moved_of (Call helper) old f f' g h m = absurd m
+moved_of Exit old f f' g h m = absurd m
+moved_of Second old f f' g h m = absurd m
 
 one_number : (lo hi x y : ℕ) (b : Bool) → b ≡ (lo == hi) → (if b then Some lo else None) ≡ Some x → lo ≤ y → y ≤ hi → Some y ≡ Some x
 one_number lo hi x y true t e l h = let same : lo ≡ x = cc in let both : lo ≡ hi = grind (arith, nat_tests) in ap Some (omega (arith, same, both, l, h))
@@ -206,7 +226,7 @@ length_kept s (Exited x) l u k h = absurd (exited x l u h)
 length_kept s Fault l u k h = absurd (no_fault l u h)
 
 -- a step that both programs take
-pub copied_stepped : (i : Insn) (s u t v : State) (low q : ℕ) (m : Facts) (l : Option Op) → LeadsTo (exec i s) l u → LeadsTo (exec i t) l v → is_jump i ≡ false → Describes m u → Behind (λ k. alters i k) q low s t.reg u v →
+pub copied_stepped : (i : Insn) (s u t v : State) (low q : ℕ) (m : Facts) (l : Option Op) → LeadsTo (exec i s) l u → ((op : AluOp) (wide : Bool) (dst : Register) (src : Operand) → i ≡ Alu op wide dst src → LeadsTo (exec i t) l v) → is_jump i ≡ false → Describes m u → Behind (λ k. alters i k) q low s t.reg u v →
     Stepped i false low m (held s) t.reg (held u) v.reg
 copied_stepped i s u t v low q m l h g j d b = record {
   fits = held_fits u d.state;
@@ -225,6 +245,6 @@ copied_stepped i s u t v low q m l h g j d b = record {
   met = λ cond wide dst src off e. false_true (sym j ∙ ap is_jump e);
   stays = λ k e. false_true e;
   old_kept = λ k e. (b.left k e).1;
-  old_made = λ op wide dst src f e. alu_computes op wide dst src t l v (subst (λ (i : Insn). LeadsTo (exec i t) l v) e g);
+  old_made = λ op wide dst src f e. alu_computes op wide dst src t l v (subst (λ (i : Insn). LeadsTo (exec i t) l v) e (g op wide dst src e));
   alike = λ k small f e. b.changed k e ∙ sym (held_register u k small);
 }

@@ -6,6 +6,7 @@ use Rattle.bpf_note.specs.Bytes.{word_at}
 use Rattle.bpf_same.specs.declared.linear_form.LinearForm.{LinearForm}
 use Rattle.bpf_same.specs.declared.relation.Relation.{Relation}
 use Rattle.bpf_same.specs.declared.room.Room.{Room}
+use Rattle.bpf_same.specs.declared.range.Range.{Range}
 
 -- what a term of the new program holds: a register, or from 11 on eight bytes of the stack, from its top downwards; and past all
 -- terms of a form the packet's end
@@ -48,6 +49,12 @@ new_of e n = slice_index_or e.new n None
 abbrev pub room_of : Relation → ℕ → Option Room
 room_of e r = slice_index_or e.rooms r None
 
+abbrev pub bound_of : Relation → ℕ → Option Range
+bound_of e k = slice_index_or e.bounds k None
+
+abbrev pub shifted_of : Relation → ℕ → Option LinearForm
+shifted_of e k = slice_index_or e.shifted k None
+
 -- the linear forms of a room's ends
 abbrev pub first_form : Room → LinearForm
 first_form r = record { constant = r.first; terms = r.terms }
@@ -69,9 +76,25 @@ pub record IsRoom (f : ℕ → Option ℕ) (r : Room) : Type 0 where
   pub first : IsAddress f (total f (first_form r))
   pub last : IsAddress f (total f (last_form r))
 
+-- register k holds a number of a range
+pub record IsBounded (f : ℕ → Option ℕ) (k : ℕ) (r : Range) : Type 0 where
+  pub x : ℕ
+  pub is : f k ≡ Some x
+  pub least : r.low ≤ x
+  pub most : x ≤ r.high
+
+-- register k holds a linear form, which is below 2 ^ 31, shifted to its upper half
+pub record IsShifted (f : ℕ → Option ℕ) (k : ℕ) (s : LinearForm) : Type 0 where
+  pub x : ℕ
+  pub is : total f s ≡ Some x
+  pub small : x < 2 ^ 31
+  pub shifted : f k ≡ Some (x * 2 ^ 32)
+
 -- the relation holds of what the terms of the new program and the registers of the old one hold
 pub record Hold (e : Relation) (f g : ℕ → Option ℕ) : Type 0 where
   pub olds : (k : ℕ) (s : LinearForm) → k < 11 → old_of e k ≡ Some s → g k ≡ total f s
   pub news : (n : ℕ) (s : LinearForm) → n < 64 → new_of e n ≡ Some s → f n ≡ total f s
   pub rooms : (r : ℕ) (room : Room) → r < 8 → room_of e r ≡ Some room → IsRoom f room
+  pub bounds : (k : ℕ) (r : Range) → k < 11 → bound_of e k ≡ Some r → IsBounded f k r
+  pub shifted : (k : ℕ) (s : LinearForm) → k < 11 → shifted_of e k ≡ Some s → IsShifted f k s
   pub words : (n : ℕ) → IsWord (f n)

@@ -1,6 +1,6 @@
 -- For proofs: no claim rests on this file.
 -- Between which numbers something lies.
-use Rattle.std.specs.Prelude.{ℕ, ◌≡◌, ◌≤◌, length, Option, Some}
+use Rattle.std.specs.Prelude.{ℕ, ◌≡◌, ◌≤◌, length, Option, Some, bit_or}
 use Rattle.bpf_insn.specs.declared.insn.Insn.{Insn}
 use Rattle.bpf_insn.specs.declared.operand.Operand.{Operand}
 use Rattle.bpf_note.specs.declared.val.Val.{Val}
@@ -50,6 +50,10 @@ IsOperandRead n src low high = (s : State) → Describes n s → Lies (operand s
 -- a sum of a number of each lies between these numbers
 abbrev pub IsAdded : ℕ → ℕ → ℕ → ℕ → ℕ → ℕ → Type 0
 IsAdded from to first last low high = (o p : Option ℕ) → Lies o from to → Lies p first last → Lies (plus o p) low high
+
+-- the bits of a number of each lie between these numbers
+abbrev pub IsUnited : ℕ → ℕ → ℕ → ℕ → ℕ → ℕ → Type 0
+IsUnited from to first last low high = (x y : ℕ) → from ≤ x → x ≤ to → first ≤ y → y ≤ last → (low ≤ bit_or x y) × (bit_or x y ≤ high)
 
 -- after the instruction register k lies between these numbers
 abbrev pub IsSummed : Insn → Facts → ℕ → ℕ → ℕ → Type 0

@@ -20,6 +20,7 @@ use Rattle.bpf_same.specs.Decided.{IsDecided, on_way}
 use Rattle.bpf_same.specs.Same.{Runs}
 use Rattle.bpf_same.specs.LinearForms.{held, IsWord, Hold}
 use Rattle.bpf_same.specs.Stepped.{Preserves, ReadsAlike, Shares, IsOwnStep}
+use Rattle.bpf_same.specs.Moved.{DoesAlike}
 
 abbrev pub Notes : Type 0
 Notes = List (Vec (Box Noted))
@@ -87,11 +88,16 @@ abbrev pub EstablishesAt : Candidate → Insn → Bool → Relation → Facts �
 EstablishesAt b i stutters e n (Some p) q = Establishes b i stutters e n p q
 EstablishesAt b i stutters e n None q = ⊥
 
+-- the old program has an instruction at slot p that does the same, above low
+pub record IsCopied (b : Candidate) (p : ℕ) (i : Insn) (e : Relation) (n : Facts) : Type 0 where
+  pub old : Insn
+  pub there : slice_get b.old p ≡ Some old
+  pub does : DoesAlike e old i
+  pub shares : Shares b.low n i
+
 -- both programs take the step
 pub record IsSharedStep (b : Candidate) (p : ℕ) (i : Insn) (e : Relation) (n m : Facts) (q : ℕ) : Type 0 where
-  pub there : slice_get b.old p ≡ Some i
-  pub alike : ReadsAlike e i
-  pub shares : Shares b.low n i
+  pub copied : IsCopied b p i e n
   pub establishes : Establishes b i false e m (next_slot i p) q
 
 -- a step in which the old program stutters, or which both take

@@ -1,12 +1,13 @@
 -- For proofs: no claim rests on this file.
 -- What a step makes of what the new program's terms and the old one's registers hold.
-use Rattle.std.specs.Prelude.{ℕ, ℤ, negsuc, ◌+◌, ◌-◌, ◌*◌, ◌^◌, ◌≡◌, ◌<◌, ◌≤◌, ◌⊎◌, length, Option, None, Some, Bool, true, false, ◌&&◌, if◌then◌else◌, ◌==◌, nat_le}
+use Rattle.std.specs.Prelude.{ℕ, ℤ, pos, negsuc, ◌+◌, ◌-◌, ◌*◌, ◌^◌, ◌≡◌, ◌<◌, ◌≤◌, ◌⊎◌, length, Option, None, Some, Bool, true, false, ◌&&◌, if◌then◌else◌, ◌==◌, nat_le}
 use Rattle.bpf_insn.specs.Register.{number}
 use Rattle.bpf_insn.specs.Size.{size_bytes}
 use Rattle.bpf_insn.specs.Signed.{sign_extended}
 use Rattle.bpf_insn.specs.Arithmetic.{computed}
 use Rattle.bpf_insn.specs.Conditions.{relation}
 use Rattle.bpf_insn.specs.declared.alu_op.AluOp.{AluOp}
+use Rattle.bpf_insn.specs.declared.alu_op.AluOp.TheVariants.{Lsh}
 use Rattle.bpf_insn.specs.declared.condition.Condition.{Condition}
 use Rattle.bpf_insn.specs.declared.register.Register.{Register}
 use Rattle.bpf_insn.specs.declared.register.Register.TheVariants.{R10}
@@ -25,7 +26,8 @@ use Rattle.bpf_flow.specs.Step.{first_operand, reached}
 use Rattle.bpf_same.specs.declared.linear_form.LinearForm.{LinearForm}
 use Rattle.bpf_same.specs.declared.relation.Relation.{Relation}
 use Rattle.bpf_same.specs.declared.room.Room.{Room}
-use Rattle.bpf_same.specs.LinearForms.{plus, gathered, total, IsWord, IsAddress, IsRoom, Hold}
+use Rattle.bpf_same.specs.declared.range.Range.{Range}
+use Rattle.bpf_same.specs.LinearForms.{plus, gathered, total, IsWord, IsAddress, IsRoom, IsBounded, IsShifted, Hold}
 use Rattle.bpf_same.specs.Ranges.{IsLeastLength, IsRead, Lies}
 use Rattle.bpf_same.specs.Decided.{Compared}
 
@@ -69,6 +71,10 @@ pub record Computes (op : AluOp) (wide : Bool) (a b o : Option ℕ) : Type 0 whe
   pub first : first_operand op a ≡ Some x
   pub second : b ≡ Some y
   pub is : o ≡ Some (computed op wide x y)
+
+-- what an operation makes of a number of each lies between these numbers
+abbrev pub IsCombined : AluOp → ℕ → ℕ → ℕ → ℕ → ℕ → ℕ → Type 0
+IsCombined op from to first last low high = (a b o : Option ℕ) → Computes op true a b o → Lies a from to → Lies b first last → Lies o low high
 
 -- the number that a value is, if it is one
 abbrev pub number_in : Val → Option ℕ
@@ -204,6 +210,39 @@ PreservesAddress i stutters low m e s = (f g f' g' : ℕ → Option ℕ) → Ste
 -- after the step the room is one
 abbrev pub PreservesRoom : Insn → Bool → ℕ → Facts → Relation → Room → Type 0
 PreservesRoom i stutters low m e room = (f g f' g' : ℕ → Option ℕ) → Stepped i stutters low m f g f' g' → Hold e f g → IsRoom f' room
+
+-- a linear form of what is held before the step lies between these numbers
+abbrev pub LiesBefore : Insn → Bool → ℕ → Facts → Relation → LinearForm → ℕ → ℕ → Type 0
+LiesBefore i stutters low m e s from to = (f g f' g' : ℕ → Option ℕ) → Stepped i stutters low m f g f' g' → Hold e f g → Lies (total f s) from to
+
+-- after the step register k holds a number of this range
+abbrev pub PreservesBound : Insn → Bool → ℕ → Facts → Relation → ℕ → Range → Type 0
+PreservesBound i stutters low m e k r = (f g f' g' : ℕ → Option ℕ) → Stepped i stutters low m f g f' g' → Hold e f g → IsBounded f' k r
+
+-- an instruction shifts register k to its upper half
+pub record IsShift (i : Insn) (k : ℕ) : Type 0 where
+  pub dst : Register
+  pub is : i ≡ Alu Lsh true dst (operands.Immediate (pos 32))
+  pub register : k ≡ number dst
+
+-- register k holds before the step what a linear form does after it, and that is below 2 ^ 31
+pub record IsSmall (f f' : ℕ → Option ℕ) (k : ℕ) (s : LinearForm) : Type 0 where
+  pub x : ℕ
+  pub before : f k ≡ Some x
+  pub after : total f' s ≡ Some x
+  pub small : x < 2 ^ 31
+
+abbrev pub IsSmallAfter : Insn → Bool → ℕ → Facts → Relation → ℕ → LinearForm → Type 0
+IsSmallAfter i stutters low m e k s = (f g f' g' : ℕ → Option ℕ) → Stepped i stutters low m f g f' g' → Hold e f g → IsSmall f f' k s
+
+-- after the step register k holds this linear form of what is held then, shifted
+abbrev pub PreservesShifted : Insn → Bool → ℕ → Facts → Relation → ℕ → LinearForm → Type 0
+PreservesShifted i stutters low m e k s = (f g f' g' : ℕ → Option ℕ) → Stepped i stutters low m f g f' g' → Hold e f g → IsShifted f' k s
+
+-- a shift to the right by half a register brings back what is below 2 ^ 31
+pub record BringsBack (op : AluOp) : Type 0 where
+  pub reads : (o : Option ℕ) → first_operand op o ≡ o
+  pub value : (x : ℕ) → x < 2 ^ 31 → computed op true (x * 2 ^ 32) 32 ≡ x
 
 -- a relation that holds before the step is followed by another one
 abbrev pub Preserves : Insn → Bool → ℕ → Facts → Relation → Relation → Type 0

@@ -7,7 +7,7 @@ ghost use Rattle.bpf_same.specs.Stepped.{IsAddressAfter, IsBelowEnd, IsComparedA
 ghost use Rattle.bpf_same.specs.declared.room.Room.{Room};
 
 use crate::linear_form::{LinearForm, REGISTERS};
-use crate::range::{MOST_BYTES, least_length, range_of};
+use crate::range::{MOST_BYTES, least_length};
 use crate::relation::Relation;
 use crate::step::{PACKET_START, Step, alters};
 use bpf_insn::{Condition, Insn, Operand, Register};
@@ -151,15 +151,12 @@ impl Step<'_> {
         !alters(self.insn, register) && matches!(self.after.register(register), Val::PktEnd)
     }
 
-    /// How far from the packet's start a register that the step leaves at least is.
+    /// How far from the packet's start a register at least is before the step.
     fn least_distance(&self, register: u8) -> Option<u64>
         requires { register < 11 }
         ensures { IfSome result (IsDistance self.now.insn self.now.stutters self.now.low (facts self.now.after.now) self.now.before.now register) }
     {
-        if alters(self.insn, register) {
-            return None;
-        }
-        let Some(range) = range_of(self.after, self.after.register(register)) else {
+        let Some(range) = self.range_before(self.before.new_form(register)) else {
             return None;
         };
         if range.low < PACKET_START {
@@ -204,6 +201,19 @@ impl Step<'_> {
         end.wrapping_sub(form.constant) <= address.distance
     }
 
+    /// Returns whether a number is an address in the packet by a jump that compares one that is at least as far.
+    fn is_reached(&self, form: LinearForm) -> bool
+        ensures { IsTrue result → IsAddressAfter self.now.insn self.now.stutters self.now.low (facts self.now.after.now) self.now.before.now form }
+    {
+        let Some(address) = self.compared() else {
+            return false;
+        };
+        if form.terms != 0 {
+            return false;
+        }
+        form.constant.wrapping_sub(PACKET_START) <= address.distance
+    }
+
     /// Returns whether a form before the step lies in a room before it.
     fn is_in_room(&self, form: LinearForm) -> bool
         ensures { IsTrue result → IsAddressAfter self.now.insn self.now.stutters self.now.low (facts self.now.after.now) self.now.before.now form }
@@ -224,7 +234,10 @@ impl Step<'_> {
         if self.is_noted(here) {
             return true;
         }
-        self.is_compared(here)
+        if self.is_compared(here) {
+            return true;
+        }
+        self.is_reached(here)
     }
 
     /// Returns whether the next relation's room is one after the step.

@@ -5,6 +5,12 @@ ghost use Rattle.bpf_insn.specs.declared.insn.Insn.TheVariants.{Alu, Neg, End, M
 
 use bpf_insn::{AluOp, Condition, Insn, Operand, Register, Size, SwapKind, Width};
 
+pub(crate) fn is_exit(insn: Insn) -> bool
+    ensures { IsTrue result → insn ≡ Insn.Exit }
+{
+    matches!(insn, Insn::Exit)
+}
+
 fn are_registers(a: Register, b: Register, c: Register, d: Register) -> bool
     ensures { IsTrue result ↔ (a ≡ b) × (c ≡ d) }
 {
@@ -104,7 +110,14 @@ fn is_map_ref(there: Insn, dst: Register, m: u32) -> bool
     }
 }
 
-fn is_load(there: Insn, size: Size, signed: bool, dst: Register, src: Register, off: i16) -> bool
+pub(crate) fn is_load(
+    there: Insn,
+    size: Size,
+    signed: bool,
+    dst: Register,
+    src: Register,
+    off: i16,
+) -> bool
     ensures { IsTrue result ↔ there ≡ Ldx size signed dst src off }
 {
     match there {
@@ -133,7 +146,13 @@ fn is_store(there: Insn, size: Size, dst: Register, off: i16, imm: i32) -> bool
     }
 }
 
-fn is_register_store(there: Insn, size: Size, dst: Register, src: Register, off: i16) -> bool
+pub(crate) fn is_register_store(
+    there: Insn,
+    size: Size,
+    dst: Register,
+    src: Register,
+    off: i16,
+) -> bool
     ensures { IsTrue result ↔ there ≡ Stx size dst src off }
 {
     match there {

@@ -4,9 +4,10 @@
 //! - `witness`: the slot of the old program that is claimed to match a slot of the new one
 //! - `find`: notes and a relation for each slot, as instructions leave them (`sharper`); `simulation`: whether the old program
 //!   simulates an instruction; `induction`: whether the relations hold at the start and each instruction is simulated
-//! - `relation`: the old program's registers, as a `linear_form` of the new one's terms: at the `start`, after a `step`, where ways
-//!   `meet`; `room`: forms that are addresses in the packet; `preserve`: whether a step preserves the relations, `address`: of rooms;
-//!   `access`: what a copied access may touch
+//! - `relation`: the old program's registers, as a `linear_form` of the new one's terms: at the `start`, `after` a `step`, where ways
+//!   `meet`; `room`: forms that are addresses in the packet; `bound`: the ranges of registers; `shifted`: what they hold in their upper
+//!   halves; `preserve`: whether a step preserves the relations, `address`: of rooms
+//! - `copied`: whether both programs do the same; `access`: what a copied access may touch
 //! - `fuse`: the old program with its counts (a load, additions and a store of one counter) made additions; `fused`: whether it is the
 //!   same by counts: what is known inside a `count`, and which registers are `live` after it
 //! - `obstacle`: where a comparison stops
@@ -18,6 +19,9 @@
 
 mod access;
 mod address;
+mod after;
+mod bound;
+mod copied;
 mod count;
 mod decide;
 mod equal;
@@ -37,6 +41,7 @@ mod renumbered;
 mod room;
 mod same;
 mod sharper;
+mod shifted;
 mod simulation;
 mod start;
 mod step;

@@ -1,5 +1,6 @@
 //! Linear forms of what the new program holds, modulo 2 ^ 64.
 ghost use Rattle.std.specs.Prelude.{◌≡◌, ◌<◌, ℕ, Option, Some, IsTrue, IsFalse, IfSome};
+ghost use Rattle.bpf_insn.specs.Signed.{sign_extended};
 ghost use Rattle.bpf_same.specs.LinearForms.{IsWord, bit, plus, total};
 
 /// The number of terms: the registers by their numbers, then words of eight bytes of the stack, from its top downwards.
@@ -13,6 +14,13 @@ pub(crate) const REGISTERS: u8 = 11;
 pub(crate) struct LinearForm {
     pub(crate) constant: u64,
     pub(crate) terms: u64,
+}
+
+/// A constant of an instruction, extended by its sign.
+pub(crate) fn extended(value: i32) -> u64
+    ensures { result ≡ sign_extended value }
+{
+    i64::from(value).cast_unsigned()
 }
 
 impl LinearForm {
@@ -66,6 +74,16 @@ impl LinearForm {
             return None;
         };
         if whole.is(self) { Some(rest) } else { None }
+    }
+
+    /// Returns this form with a constant added to it.
+    pub(crate) fn moved(self, by: u64) -> LinearForm
+        ensures { (f : ℕ → Option ℕ) → total f result ≡ plus (total f self) (Some by) }
+    {
+        LinearForm {
+            constant: self.constant.wrapping_add(by),
+            terms: self.terms,
+        }
     }
 
     /// Returns whether the forms are one.

@@ -1,12 +1,11 @@
-//! The relation after a step, and where ways meet. Nothing is promised of it: `preserve` judges.
+//! The relation where ways meet. Nothing is promised of it: `preserve` judges.
+ghost use Rattle.std.specs.Prelude.{◌<◌};
 
-ghost use Rattle.std.specs.Prelude.{◌<◌, IfSome};
-
+use crate::after::{add_room, in_order};
 use crate::linear_form::{LinearForm, REGISTERS, TERMS};
+use crate::range::Range;
 use crate::relation::Relation;
-use crate::room::{LONGEST, ROOMS, Room};
-use crate::step::{Step, alters};
-use bpf_note::Val;
+use crate::room::{ROOMS, Room};
 
 /// A linear form in which each term is replaced by what is known of it.
 fn total_in(relation: &Relation, form: LinearForm) -> Option<LinearForm> {
@@ -22,130 +21,12 @@ fn total_in(relation: &Relation, form: LinearForm) -> Option<LinearForm> {
     Some(total)
 }
 
-/// A linear form before a step, by terms that hold the same after it.
-fn moved(step: &Step, form: LinearForm) -> Option<LinearForm> {
-    let mut total = LinearForm::constant(form.constant);
-    for part in 0..TERMS {
-        if form.has(part) {
-            match term_of(step, part) {
-                Some(term) => total.terms |= LinearForm::held(term).terms,
-                None => return None,
-            }
-        }
-    }
-    Some(total)
-}
-
-/// The term that has after a step what another had before: itself, if it is left as it was.
-fn term_of(step: &Step, part: u8) -> Option<u8>
-    requires { part < 64 }
-    ensures { IfSome result (λ h. h < 64) }
-{
-    let wanted = Some(LinearForm::held(part));
-    if step.new_after(part) == wanted {
-        return Some(part);
-    }
-    for term in 0..TERMS {
-        if step.new_after(term) == wanted {
-            return Some(term);
-        }
-    }
-    None
-}
-
-/// The relation after a step.
-pub(crate) fn relation_after(step: &Step) -> Relation {
-    let mut found = Relation::none();
-    for term in 0..TERMS {
-        if let Some(form) = step.new_after(term) {
-            if let Some(form) = moved(step, form) {
-                if form != LinearForm::held(term) {
-                    found.new[term as usize] = Some(form);
-                }
-            }
-        }
-    }
-    for register in 0..REGISTERS {
-        found.old[register as usize] = old_claim_after(step, &found, register);
-    }
-    add_rooms_after(step, &mut found);
-    found
-}
-
-/// A room before a step, by terms that hold the same after it.
-fn moved_room(step: &Step, room: Room) -> Option<Room> {
-    let form = moved(step, room.first_form())?;
-    Some(Room {
-        terms: form.terms,
-        ..room
-    })
-}
-
-/// The room that the note after a step says by where a register points.
-fn noted_room(step: &Step, found: &Relation, register: u8) -> Option<Room>
-    requires { register < 11 }
-{
-    let Val::Pkt { id, off } = step.after.register(register) else {
-        return None;
-    };
-    let safe = step.after.safe(id)?;
-    let form = found.new_form(register);
-    let first = form.constant.wrapping_sub(u64::from(off));
-    Some(Room {
-        first,
-        last: first.wrapping_add(u64::from(safe)),
-        terms: form.terms,
-    })
-}
-
-/// The room up to an address that a jump compares. A jump leaves what terms hold.
-fn compared_room(step: &Step) -> Option<Room> {
-    let address = step.compared()?;
-    let form = step.before.new_form(address.register);
-    let last = form.constant.wrapping_add(address.by);
-    Some(Room {
-        first: last.wrapping_sub(address.distance),
-        last,
-        terms: form.terms,
-    })
-}
-
-/// Adds the rooms before a step, and those that the note after it says.
-fn add_rooms_after(step: &Step, found: &mut Relation) {
-    for number in 0..ROOMS {
-        if let Some(room) = step.before.room(number) {
-            if let Some(room) = moved_room(step, room) {
-                add_room(found, room);
-            }
-        }
-    }
-    for register in 0..REGISTERS {
-        if let Some(room) = noted_room(step, found, register) {
-            add_room(found, room);
-        }
-    }
-    if let Some(room) = compared_room(step) {
-        add_room(found, room);
-    }
-}
-
-/// Two rooms of the same terms: the one that begins first, the other one, and by how much that begins later; unless they lie apart.
-fn in_order(one: Room, other: Room) -> Option<(Room, Room, u64)> {
-    let later = other.first.wrapping_sub(one.first);
-    if later <= LONGEST {
-        return Some((one, other, later));
-    }
-    let later = one.first.wrapping_sub(other.first);
-    (later <= LONGEST).then_some((other, one, later))
-}
-
-/// The room from the first address of both to the last one.
-fn joined(one: Room, other: Room) -> Option<Room> {
-    let (from, to, later) = in_order(one, other)?;
-    let length = from.length().max(later.wrapping_add(to.length()));
-    Some(Room {
-        last: from.first.wrapping_add(length),
-        ..from
+/// The numbers that a register lies between in one relation or another one.
+fn common_bound(one: &Relation, other: &Relation, register: u8) -> Option<Range> {
+    let (here, there) = (one.bound(register)?, other.bound(register)?);
+    Some(Range {
+        low: here.low.min(there.low),
+        high: here.high.max(there.high),
     })
 }
 
@@ -157,25 +38,6 @@ fn common(one: Room, other: Room) -> Option<Room> {
         last: to.first.wrapping_add(length),
         ..to
     })
-}
-
-/// Adds a room, joined to one of the same terms. The first one makes place for it if there are eight.
-fn add_room(relation: &mut Relation, room: Room) {
-    for number in 0..ROOMS {
-        match relation.room(number) {
-            None => {
-                relation.rooms[number as usize] = Some(room);
-                return;
-            }
-            Some(here) if here.terms == room.terms => {
-                relation.rooms[number as usize] = joined(here, room).or(Some(here));
-                return;
-            }
-            Some(_) => {}
-        }
-    }
-    relation.rooms.rotate_left(1);
-    relation.rooms[7] = Some(room);
 }
 
 /// The addresses that are in a room and in one of a relation.
@@ -198,24 +60,6 @@ fn add_common_rooms(met: &mut Relation, one: &Relation, other: &Relation) {
                 add_room(met, room);
             }
         }
-    }
-}
-
-/// The linear form of a register of the old program after a step.
-fn old_claim_after(step: &Step, found: &Relation, register: u8) -> Option<LinearForm>
-    requires { register < 11 }
-{
-    let same = if step.stutters || !alters(step.insn, register) {
-        step.old_after(register) == step.new_after(register) && step.old_after(register).is_some()
-    } else {
-        true
-    };
-    if same {
-        return Some(found.new_form(register));
-    }
-    match step.old_after(register) {
-        Some(form) => moved(step, form),
-        None => None,
     }
 }
 
@@ -316,5 +160,11 @@ pub(crate) fn met(one: &Relation, other: &Relation) -> Relation {
     }
     let mut met = meeting.met;
     add_common_rooms(&mut met, one, other);
+    for register in 0..REGISTERS {
+        met.bounds[register as usize] = common_bound(one, other, register);
+        if one.shifted_form(register) == other.shifted_form(register) {
+            met.shifted[register as usize] = one.shifted_form(register);
+        }
+    }
     met
 }

@@ -1,12 +1,12 @@
 //! Where a comparison stops. Nothing is promised of it but that it is a slot of the new program: `simulation` judges.
 ghost use Rattle.std.specs.Prelude.{◌<◌, ◌≤◌, length, IfSome};
 
-use crate::access::{is_own_step, is_shared, reads_alike};
+use crate::access::{is_own_step, reads_alike};
 use crate::relation::Relation;
 use crate::sharper::known_after;
 use crate::simulation::{
-    MOST_JUMPS, Point, Simulation, insn_at, is_at, is_ruled, is_ruled_out, relation_at,
-    same_target, witness_at,
+    MOST_JUMPS, Point, Simulation, insn_at, is_ruled, is_ruled_out, relation_at, same_target,
+    witness_at,
 };
 use crate::way::on_way;
 use bpf_flow::{Successor, Successors, next_slot};
@@ -102,13 +102,6 @@ impl Simulation<'_> {
         } else {
             stop_at(old, ObstacleKind::Registers)
         }
-    }
-
-    /// Returns whether the old program has the instruction too, and reads the same by it.
-    fn is_copied(&self, before: &Point) -> bool {
-        is_at(self.old, before.witness.at, before.insn)
-            && reads_alike(before.relation, before.insn)
-            && is_shared(before.insn, before.note, self.low)
     }
 
     /// Why a step that leads to one slot isn't simulated.

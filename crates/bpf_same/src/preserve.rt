@@ -127,6 +127,16 @@ impl Step<'_> {
                 return false;
             }
         }
+        for index in 0..REGISTERS {
+            if !self.preserves_bound(next, index) {
+                return false;
+            }
+        }
+        for shifted in 0..REGISTERS {
+            if !self.preserves_shifted(next, shifted) {
+                return false;
+            }
+        }
         true
     }
 }

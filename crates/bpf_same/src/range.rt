@@ -2,13 +2,13 @@
 ghost use Rattle.std.specs.Prelude.{◌≡◌, ◌<◌, ℕ, Option, IfSome};
 ghost use Rattle.bpf_note.specs.Facts.{Facts};
 ghost use Rattle.bpf_note.specs.Parts.{facts};
-ghost use Rattle.bpf_same.specs.LinearForms.{Hold, IsRoom};
+ghost use Rattle.bpf_same.specs.LinearForms.{Hold, IsRoom, total};
 ghost use Rattle.bpf_same.specs.Ranges.{IsFarthest, IsLeastLength, IsMoved, IsOperandSpan, IsRead, IsSpan, Lies};
 
-use crate::linear_form::REGISTERS;
+use crate::linear_form::{LinearForm, REGISTERS, extended};
 use crate::relation::Relation;
 use crate::room::{LONGEST, ROOMS, Room};
-use crate::step::{PACKET_START, extended};
+use crate::step::PACKET_START;
 use bpf_insn::Operand;
 use bpf_note::{Note, PACKET_ID, Val};
 
@@ -70,6 +70,16 @@ fn moved(range: Range, by: u64) -> Option<Range>
     } else {
         None
     }
+}
+
+/// The numbers that a form lies between, by those of another one with the same terms.
+pub(crate) fn range_by(form: LinearForm, there: LinearForm, range: Range) -> Option<Range>
+    ensures { IfSome result (λ r. (f : ℕ → Option ℕ) → Lies (total f there) range.low range.high → Lies (total f form) r.low r.high) }
+{
+    if form.terms != there.terms {
+        return None;
+    }
+    moved(range, form.constant.wrapping_sub(there.constant))
 }
 
 /// The numbers that a register may hold by what another one does, which holds as much but for a constant.
@@ -134,8 +144,26 @@ fn in_both(one: Option<Range>, other: Range) -> Range
     }
 }
 
-/// The numbers that a register may hold.
-pub(crate) fn span(note: &Note, relation: &Relation, register: u8) -> Option<Range>
+/// The numbers that are in both, where one of them may be unknown.
+pub(crate) fn narrowed(one: Option<Range>, other: Option<Range>) -> Option<Range>
+    ensures { (o : Option ℕ) → IfSome one (λ r. Lies o r.low r.high) → IfSome other (λ r. Lies o r.low r.high) → IfSome result (λ r. Lies o r.low r.high) }
+{
+    match other {
+        Some(other) => Some(in_both(one, other)),
+        None => one,
+    }
+}
+
+/// The numbers that a register may hold by the bounds.
+fn in_bound(relation: &Relation, register: u8) -> Option<Range>
+    requires { register < 11 }
+    ensures { IfSome result (λ r. (n : Facts) → IsSpan n relation.now register r.low r.high) }
+{
+    relation.bounded(relation.new_form(register))
+}
+
+/// The numbers that a register may hold by the note and the rooms.
+fn noted_span(note: &Note, relation: &Relation, register: u8) -> Option<Range>
     requires { register < 11 }
     ensures { IfSome result (λ r. IsSpan (facts note.now) relation.now register r.low r.high) }
 {
@@ -151,6 +179,18 @@ pub(crate) fn span(note: &Note, relation: &Relation, register: u8) -> Option<Ran
         }
     }
     found
+}
+
+/// The numbers that a register may hold.
+pub(crate) fn span(note: &Note, relation: &Relation, register: u8) -> Option<Range>
+    requires { register < 11 }
+    ensures { IfSome result (λ r. IsSpan (facts note.now) relation.now register r.low r.high) }
+{
+    let found = noted_span(note, relation, register);
+    match in_bound(relation, register) {
+        Some(range) => Some(in_both(found, range)),
+        None => found,
+    }
 }
 
 /// The numbers that an operand may be.

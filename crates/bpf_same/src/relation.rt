@@ -3,15 +3,19 @@ ghost use Rattle.std.specs.Prelude.{◌≡◌, ◌<◌, ℕ, Option, IsTrue};
 ghost use Rattle.bpf_same.specs.LinearForms.{Hold, new_of, old_of, total};
 
 use crate::linear_form::{LinearForm, REGISTERS};
+use crate::range::Range;
 use crate::room::Room;
 
 /// Of each register of the old program the linear form of the new one's terms that it holds, if that is related; of each term of the new
-/// one the same, if it is another form than the term itself; and which forms are addresses in the packet.
+/// one the same, if it is another form than the term itself; which forms are addresses in the packet; between which
+/// numbers registers lie; and which forms registers hold shifted to their upper halves.
 #[derive(Clone, Copy, Debug, Drop)]
 pub(crate) struct Relation {
     pub(crate) old: [Option<LinearForm>; 11],
     pub(crate) new: [Option<LinearForm>; 64],
     pub(crate) rooms: [Option<Room>; 8],
+    pub(crate) bounds: [Option<Range>; 11],
+    pub(crate) shifted: [Option<LinearForm>; 11],
 }
 
 impl Relation {
@@ -21,6 +25,8 @@ impl Relation {
             old: [None; 11],
             new: [None; 64],
             rooms: [None; 8],
+            bounds: [None; 11],
+            shifted: [None; 11],
         }
     }
 

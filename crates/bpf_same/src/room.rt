@@ -3,13 +3,14 @@ ghost use Rattle.std.specs.Prelude.{◌≡◌, ◌+◌, ◌-◌, ◌%◌, ◌^�
 ghost use Rattle.bpf_same.specs.LinearForms.{Hold, IsAddress, IsRoom, first_form, last_form, room_of, total};
 
 use crate::linear_form::LinearForm;
+use crate::range::MOST_BYTES;
 use crate::relation::Relation;
 
 /// The most rooms of a relation.
 pub(crate) const ROOMS: u8 = 8;
 
 /// The most bytes of a room.
-pub(crate) const LONGEST: u64 = 65535;
+pub(crate) const LONGEST: u64 = MOST_BYTES as u64;
 
 /// With each constant from the first to the last, the sum with these terms is an address from the packet's start to its end.
 #[derive(Clone, Copy, Debug, PartialEq, Eq, Drop)]

@@ -1,14 +1,16 @@
-//! What an instruction leaves known: by the verifier's rule, and for a sum that it forgets by the ranges of both numbers.
+//! What an instruction leaves known: by the verifier's rule, and for a sum, or the bits of both, that it forgets, by the ranges of
+//! both numbers.
 ghost use Rattle.std.specs.Prelude.{◌≡◌, ◌<◌, length, true, IfSome, IsTrue};
 ghost use Rattle.bpf_insn.specs.declared.insn.Insn.TheVariants as insns;
 ghost use Rattle.bpf_note.specs.Parts.{facts};
 ghost use Rattle.bpf_flow.specs.Rule.{IsRuled};
-ghost use Rattle.bpf_same.specs.Ranges.{IsAdded, IsOperandRead, IsSharper, IsSummed};
+ghost use Rattle.bpf_same.specs.Ranges.{IsAdded, IsOperandRead, IsSharper, IsSummed, IsUnited};
+ghost use Rattle.bpf_same.specs.Stepped.{IsCombined};
 ghost use Rattle.bpf_same.specs.Simulated.{IsAccounted};
 ghost use Rattle.bpf_flow.specs.Gives.{edges_of};
 
+use crate::linear_form::extended;
 use crate::range::{Range, range_of};
-use crate::step::extended;
 use bpf_flow::{Successor, Successors, after};
 use bpf_insn::{AluOp, Insn, Operand, Register};
 use bpf_note::{MapShape, Note, Val};
@@ -35,7 +37,7 @@ fn operand_range(note: &Note, src: Operand) -> Option<Range>
 }
 
 /// The sums of a number of each, if none wraps.
-fn added(one: Range, other: Range) -> Option<Range>
+pub(crate) fn added(one: Range, other: Range) -> Option<Range>
     ensures { IfSome result (λ r. IsAdded one.low one.high other.low other.high r.low r.high) }
 {
     match one.high.checked_add(other.high) {
@@ -47,15 +49,36 @@ fn added(one: Range, other: Range) -> Option<Range>
     }
 }
 
-/// The register that gets a sum of both, and which numbers that may be.
-fn sum_of(note: &Note, dst: Register, src: Operand) -> Option<Bounded>
+/// The numbers that have the bits of a number of each, if no sum of both wraps.
+fn united(one: Range, other: Range) -> Option<Range>
+    ensures { IfSome result (λ r. IsUnited one.low one.high other.low other.high r.low r.high) }
+{
+    match one.high.checked_add(other.high) {
+        Some(high) => Some(Range { low: one.low, high }),
+        None => None,
+    }
+}
+
+/// The numbers that an operation of 64 bits makes of a number of each, where that is known.
+fn combined(op: AluOp, one: Range, other: Range) -> Option<Range>
+    ensures { IfSome result (λ r. IsCombined op one.low one.high other.low other.high r.low r.high) }
+{
+    match op {
+        AluOp::Add => added(one, other),
+        AluOp::Or => united(one, other),
+        _ => None,
+    }
+}
+
+/// The register that gets what an operation makes of both, and which numbers that may be.
+fn combined_of(op: AluOp, note: &Note, dst: Register, src: Operand) -> Option<Bounded>
     ensures small { IfSome result (λ r. r.register < 11) }
-    ensures lies { IfSome result (λ r. IsSummed (insns.Alu AluOp.Add true dst src) (facts note.now) r.register r.range.low r.range.high) }
+    ensures lies { IfSome result (λ r. IsSummed (insns.Alu op true dst src) (facts note.now) r.register r.range.low r.range.high) }
 {
     let register = dst.number();
     match range_of(note, note.register(register)) {
         Some(one) => match operand_range(note, src) {
-            Some(other) => match added(one, other) {
+            Some(other) => match combined(op, one, other) {
                 Some(range) => Some(Bounded { register, range }),
                 None => None,
             },
@@ -65,24 +88,15 @@ fn sum_of(note: &Note, dst: Register, src: Operand) -> Option<Bounded>
     }
 }
 
-fn is_sum(op: AluOp, wide: bool) -> bool
-    ensures { IsTrue result → (op ≡ AluOp.Add) × (wide ≡ true) }
-{
-    match op {
-        AluOp::Add => wide,
-        _ => false,
-    }
-}
-
-/// The register that gets a sum, and which numbers that may be.
+/// The register that gets a sum, or the bits of two numbers, and which numbers that may be.
 fn summed(insn: Insn, note: &Note) -> Option<Bounded>
     ensures small { IfSome result (λ r. r.register < 11) }
     ensures lies { IfSome result (λ r. IsSummed insn (facts note.now) r.register r.range.low r.range.high) }
 {
     match insn {
         Insn::Alu { op, wide, dst, src } => {
-            if is_sum(op, wide) {
-                sum_of(note, dst, src)
+            if wide {
+                combined_of(op, note, dst, src)
             } else {
                 None
             }

@@ -9,9 +9,9 @@ ghost use Rattle.bpf_same.specs.Decided.{IsDecided};
 ghost use Rattle.bpf_same.specs.Simulated.{IsKnown, ReachesSilently, SimulatesFrom, Establishes, EstablishesAt, PreservesAt, IsSharedStep, SimulatesStep, SimulatesPlain, SimulatesWay, SimulatesWays, IsSharedBranch, AreSameJump, SimulatesBranch, IsBranch, Simulates, IsSilent};
 ghost use Rattle.bpf_same.specs.Candidates.{candidate_of};
 
-use crate::access::{is_own_step, is_shared, reads_alike};
+use crate::access::{is_own_step, reads_alike};
 use crate::decide::decided;
-use crate::equal::{is_but_for_offset, is_same_insn};
+use crate::equal::{is_but_for_offset, is_exit, is_same_insn};
 use crate::relation::Relation;
 use crate::sharper::known_after;
 use crate::step::Step;
@@ -145,12 +145,6 @@ pub(crate) fn same_target(there: Insn, at: u32, insn: Insn) -> Option<Option<u32
         )),
         _ => None,
     }
-}
-
-fn is_exit(insn: Insn) -> bool
-    ensures { IsTrue result → insn ≡ Insn.Exit }
-{
-    matches!(insn, Insn::Exit)
 }
 
 /// Returns whether an instruction is a conditional jump to these two slots.
@@ -330,11 +324,10 @@ impl Simulation<'_> {
         ensures { IsTrue result → IsSharedStep (candidate_of self.now) before.now.witness.at before.now.insn before.now.relation.now (facts before.now.note.now) (facts there.now.note.value) there.now.pc }
     {
         let at = before.witness.at;
-        is_at(self.old, at, before.insn)
-            && at < 4096
-            && reads_alike(before.relation, before.insn)
-            && is_shared(before.insn, before.note, self.low)
-            && self.establishes(before, false, next_slot(before.insn, at), there)
+        if at >= 4096 {
+            return false;
+        }
+        self.is_copied(before) && self.establishes(before, false, next_slot(before.insn, at), there)
     }
 
     /// Returns whether the step is simulated: the old program stutters, or takes it too.

@@ -1,6 +1,6 @@
 //! The relation where both programs begin.
 ghost use Rattle.std.specs.Prelude.{◌≡◌, ◌<◌, ℕ, Option, Some, None, IsTrue};
-ghost use Rattle.bpf_same.specs.LinearForms.{new_of, old_of, room_of, IsWord, total};
+ghost use Rattle.bpf_same.specs.LinearForms.{bound_of, new_of, old_of, room_of, shifted_of, IsWord, total};
 ghost use Rattle.bpf_same.specs.Simulated.{HoldsAtStart};
 ghost use Rattle.bpf_same.specs.declared.linear_form.LinearForm.{LinearForm};
 
@@ -31,6 +31,18 @@ fn is_roomless(relation: &Relation, number: u8) -> bool
     relation.room(number).is_none()
 }
 
+fn is_boundless(relation: &Relation, register: u8) -> bool
+    ensures { IsTrue result → bound_of relation.now register ≡ None }
+{
+    relation.bound(register).is_none()
+}
+
+fn is_unshifted(relation: &Relation, register: u8) -> bool
+    ensures { IsTrue result → shifted_of relation.now register ≡ None }
+{
+    relation.shifted_form(register).is_none()
+}
+
 /// Returns whether the relation says no more than that registers are the same.
 pub(crate) fn holds_at_entry(relation: &Relation) -> bool
     ensures { IsTrue result → HoldsAtStart relation.now }
@@ -47,6 +59,16 @@ pub(crate) fn holds_at_entry(relation: &Relation) -> bool
     }
     for number in 0..ROOMS {
         if !is_roomless(relation, number) {
+            return false;
+        }
+    }
+    for index in 0..REGISTERS {
+        if !is_boundless(relation, index) {
+            return false;
+        }
+    }
+    for shifted in 0..REGISTERS {
+        if !is_unshifted(relation, shifted) {
             return false;
         }
     }

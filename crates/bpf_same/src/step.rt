@@ -4,12 +4,11 @@ ghost use Rattle.bpf_insn.specs.declared.insn.Insn.TheVariants as insns;
 ghost use Rattle.bpf_insn.specs.declared.operand.Operand.TheVariants as operands;
 ghost use Rattle.bpf_insn.specs.declared.size.Size.TheVariants as sizes;
 ghost use Rattle.bpf_insn.specs.Register.{number};
-ghost use Rattle.bpf_insn.specs.Signed.{sign_extended};
 ghost use Rattle.bpf_note.specs.Parts.{facts};
 ghost use Rattle.bpf_same.specs.LinearForms.{Hold, total};
 ghost use Rattle.bpf_same.specs.Stepped.{Computes, IsNewAfter, IsOldAfter, IsOwn, IsWordAt, alters, is_register_store, number_in, operand_in};
 
-use crate::linear_form::{LinearForm, REGISTERS};
+use crate::linear_form::{LinearForm, REGISTERS, extended};
 use crate::relation::Relation;
 use bpf_insn::{AluOp, Insn, Operand, Register, Size};
 use bpf_note::{Note, PACKET_ID, Val};
@@ -127,13 +126,6 @@ fn is_register_store(insn: Insn) -> bool
     matches!(insn, Insn::Stx { .. })
 }
 
-/// A constant of an instruction, extended by its sign.
-pub(crate) fn extended(value: i32) -> u64
-    ensures { result ≡ sign_extended value }
-{
-    i64::from(value).cast_unsigned()
-}
-
 /// A step, the relation before it, and the note after it. `stutters`: the old program doesn't take it.
 #[derive(Clone, Copy, Drop)]
 pub(crate) struct Step<'a> {
@@ -181,6 +173,9 @@ impl Step<'_> {
     {
         if is_cleared(op, wide, dst, src) {
             return Some(LinearForm::constant(0));
+        }
+        if let Some(form) = self.brought_back(op, wide, dst, src) {
+            return Some(form);
         }
         computed(
             op,
@@ -268,7 +263,7 @@ impl Step<'_> {
     {
         match self.old_computed(register) {
             Some(form) => Some(form),
-            None => self.noted(register),
+            None => self.new_written(register),
         }
     }
 

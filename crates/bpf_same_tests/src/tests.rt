@@ -4,6 +4,7 @@ mod counts_apart;
 mod counts_used;
 mod ends;
 mod jumps;
+mod moved;
 mod obstacles;
 mod own;
 mod ranges;

@@ -98,8 +98,9 @@ impl<'p, 'b> Machine<'p, 'b> {
         let m = past / CONSTANTS_STRIDE;
         let place = past % CONSTANTS_STRIDE;
         if let Some(Some(MapList::Constants(bytes))) = self.lists.get(m as usize) {
+            let bytes = bytes.as_slice();
             if place as usize + size.bytes() <= bytes.len() {
-                return in_bytes(bytes.as_slice(), place as usize, size);
+                return in_bytes(bytes, place as usize, size);
             }
         }
         number_in(self.lists, m, place as u32, size)

@@ -3,10 +3,10 @@ use Rattle.std.proofs.Common.{◌≡◌, ℕ, suc, ◌+◌, ◌*◌, ◌%◌, �
 use Rattle.std.specs.Int.{w16, cast_unsigned}
 use Rattle.std.proofs.lemmas.Bool.Decides.{eqb_tells}
 use Rattle.bpf_vm.specs.Course.{Course, Exiting, Stepping, Loading, Adding, Broken}
-use Rattle.xen_back.specs.Tree.{Left, answer, answered, notice, program, publish, read_event, respond, response, responses}
-use Rattle.xen_back.specs.Turned.{Ending, Turned}
-use Rattle.xen_back.specs.declared.state.State.{State}
-use Rattle.xen_back.specs.declared.wiring.Wiring.{Wiring as BackWiring}
+use Rattle.xen_turns.specs.Tree.{Left, answer, answered, notice, program, publish, read_event, respond, response, responses}
+use Rattle.xen_turns.specs.Turned.{Ending, Turned}
+use Rattle.xen_turns.specs.declared.state.State.{State}
+use Rattle.xen_turns.specs.declared.wiring.Wiring.{Wiring as BackWiring}
 use Rattle.xen_buffers.specs.declared.wiring.Wiring.{Wiring}
 use Rattle.xen_netif.specs.Chain.{requests_after}
 use Rattle.xen_netif.specs.Slots.{status_code, tx_req_of}

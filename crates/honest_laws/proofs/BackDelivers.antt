@@ -2,12 +2,12 @@
 use Rattle.std.proofs.Common.{◌≡◌, ℕ, ◌+◌, ◌^◌, ◌<◌, ◌≤◌, inl, inr, Bool, true, false, List, [], ◌∷◌, ◌++◌, length, None, refl, sym, ◌∙◌, ap, arith, subst}
 use Rattle.std.specs.Prelude.{get_or, nat_lt, if◌then◌else◌}
 use Rattle.std.proofs.lemmas.Bool.Decides.{nat_tests}
-use Rattle.xen_back.specs.Delivered.{is_frame}
-use Rattle.xen_back.specs.Deliveries.{Arrival, arrived, if_frame, unless_halted, whole_delivery}
-use Rattle.xen_back.specs.Responses.{after_slots}
-use Rattle.xen_back.specs.declared.delivery.delivering.Delivery.TheVariants as delivery
-use Rattle.xen_back.specs.declared.state.State.{State}
-use Rattle.xen_back.specs.declared.wiring.Wiring.{Wiring as BackWiring}
+use Rattle.xen_turns.specs.Delivered.{is_frame}
+use Rattle.xen_turns.specs.Deliveries.{Arrival, arrived, if_frame, unless_halted, whole_delivery}
+use Rattle.xen_turns.specs.Responses.{after_slots}
+use Rattle.xen_turns.specs.declared.delivery.delivering.Delivery.TheVariants as delivery
+use Rattle.xen_turns.specs.declared.state.State.{State}
+use Rattle.xen_turns.specs.declared.wiring.Wiring.{Wiring as BackWiring}
 use Rattle.xen_buffers.specs.declared.wiring.Wiring.{Wiring}
 use Rattle.xen_steps.specs.Places.{add32}
 use Rattle.xen_steps.specs.Steps.{bind}

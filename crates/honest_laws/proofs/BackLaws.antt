@@ -1,7 +1,7 @@
 -- What the pair's assembly wants of the back.
 use Rattle.honest_laws.proofs.Lists.{bytes_append}
 use Rattle.std.proofs.Common.{◌≡◌, ℕ, ◌+◌, inl, inr, true, false, List, [], ◌++◌, length, Some, None, refl, sym, ◌∙◌, ap, subst}
-use Rattle.xen_back.specs.declared.wiring.Wiring.{Wiring as BackWiring}
+use Rattle.xen_turns.specs.declared.wiring.Wiring.{Wiring as BackWiring}
 use Rattle.xen_buffers.specs.declared.wiring.Wiring.{Wiring}
 use Rattle.xen_steps.specs.Places.{add32}
 use Rattle.honest_laws.specs.Backs.{BackLaw, WakeLaw, PrefixLaw, GivenLaw, HeardLaw, woken}

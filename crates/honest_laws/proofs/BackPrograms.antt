@@ -10,8 +10,8 @@ use Rattle.bpf_flow.proofs.KeptLemmas.{kept}
 use Rattle.bpf_verify.specs.Consistent.{Accepted, GoesOn, IsConsistent, IsDescribed, OneDescribes, instructions}
 use Rattle.bpf_vm.specs.Course.{course, course_by, start_state}
 use Rattle.bpf_vm.proofs.RunLemmas.{edge_of, rank_below}
-use Rattle.xen_back.proofs.EndLemmas.{start_none, start_words}
-use Rattle.xen_back.specs.declared.wiring.Wiring.{Wiring as BackWiring}
+use Rattle.xen_turns.proofs.EndLemmas.{start_none, start_words}
+use Rattle.xen_turns.specs.declared.wiring.Wiring.{Wiring as BackWiring}
 use Rattle.honest_laws.specs.Ended.{Fits, Leaves, Programmed}
 use Rattle.honest_machine.specs.Layout.{IsBack}
 

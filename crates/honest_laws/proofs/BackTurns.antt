@@ -2,10 +2,10 @@
 use Rattle.std.proofs.Common.{◌≡◌, ℕ, zero, suc, ◌+◌, ◌^◌, ◌<◌, ◌≤◌, inl, Bool, true, false, List, [], ◌∷◌, ◌++◌, length, length-append, map, Option, Some, None, Ok, refl, sym, ◌∙◌, ap, arith, subst}
 use Rattle.std.specs.Prelude.{◌==◌, if◌then◌else◌}
 use Rattle.std.proofs.lemmas.Bool.Decides.{nat_tests}
-use Rattle.xen_back.specs.Tree.{Left, Scan, after_run, answered, copy, look, program, read_slots, respond, run_of, send, status_of}
-use Rattle.xen_back.specs.Turned.{Ran}
-use Rattle.xen_back.specs.declared.state.State.{State}
-use Rattle.xen_back.specs.declared.wiring.Wiring.{Wiring as BackWiring}
+use Rattle.xen_turns.specs.Tree.{Left, Scan, after_run, answered, copy, look, program, read_slots, respond, run_of, send, status_of}
+use Rattle.xen_turns.specs.Turned.{Ran}
+use Rattle.xen_turns.specs.declared.state.State.{State}
+use Rattle.xen_turns.specs.declared.wiring.Wiring.{Wiring as BackWiring}
 use Rattle.xen_buffers.specs.declared.wiring.Wiring.{Wiring}
 use Rattle.xen_netif.specs.Chain.{Slot}
 use Rattle.xen_netif.specs.Fragments.{fragments_of}

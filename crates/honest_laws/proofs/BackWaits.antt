@@ -2,7 +2,7 @@
 use Rattle.std.proofs.Common.{◌≡◌, ℕ, ◌+◌, ◌-◌, ◌*◌, ◌^◌, ◌<◌, ◌≤◌, inl, inr, Bool, true, false, List, [], ◌++◌, length, Some, refl, sym, ◌∙◌, ap, arith, subst}
 use Rattle.std.specs.Prelude.{nat_lt}
 use Rattle.std.proofs.lemmas.Bool.{ltb-true}
-use Rattle.xen_back.specs.declared.state.State.{State}
+use Rattle.xen_turns.specs.declared.state.State.{State}
 use Rattle.xen_buffers.specs.declared.wiring.Wiring.{Wiring}
 use Rattle.xen_ring.specs.Index.{distance}
 use Rattle.xen_steps.specs.Places.{add32, available, page_word}

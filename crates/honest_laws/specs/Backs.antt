@@ -1,9 +1,9 @@
 -- Stated: claims rest on this file.
 -- What holds of the back of an honest pair.
 use Rattle.std.specs.Prelude.{ℕ, ◌≡◌, ◌<◌, ◌^◌, Bool, true, false, List, ◌++◌, Some, None, get_or, nat_lt}
-use Rattle.xen_back.specs.Deliveries.{whole_delivery}
-use Rattle.xen_back.specs.declared.state.State.{State}
-use Rattle.xen_back.specs.declared.wiring.Wiring.{Wiring as BackWiring}
+use Rattle.xen_turns.specs.Deliveries.{whole_delivery}
+use Rattle.xen_turns.specs.declared.state.State.{State}
+use Rattle.xen_turns.specs.declared.wiring.Wiring.{Wiring as BackWiring}
 use Rattle.xen_buffers.specs.declared.wiring.Wiring.{Wiring}
 use Rattle.xen_ring.specs.Index.{distance}
 use Rattle.xen_steps.specs.Places.{add32, available, page_word}

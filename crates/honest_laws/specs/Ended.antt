@@ -2,13 +2,13 @@
 -- How a turn or a delivery of a back that is paired with an honest front ends.
 use Rattle.std.specs.Prelude.{ℕ, ◌≡◌, ◌+◌, ◌<◌, ◌⊎◌, Bool, true, false, List, [], ◌∷◌, ◌++◌, length, get_or, None, ◌==◌, if◌then◌else◌}
 use Rattle.bpf_vm.specs.Course.{Course, Exiting, Stepping, Loading, Adding, Broken}
-use Rattle.xen_back.specs.Tree.{Left, after_run, run_of}
-use Rattle.xen_back.specs.Turned.{Ending, Turned, Idle, Ran, Refused, Halted}
-use Rattle.xen_back.specs.declared.delivery.delivering.Delivery.{Delivery}
-use Rattle.xen_back.specs.declared.delivery.delivering.Delivery.TheVariants as delivery
-use Rattle.xen_back.specs.declared.state.State.{State}
-use Rattle.xen_back.specs.declared.turn.Refusal.TheVariants as refusal
-use Rattle.xen_back.specs.declared.wiring.Wiring.{Wiring as BackWiring}
+use Rattle.xen_turns.specs.Tree.{Left, after_run, run_of}
+use Rattle.xen_turns.specs.Turned.{Ending, Turned, Idle, Ran, Refused, Halted}
+use Rattle.xen_turns.specs.declared.delivery.delivering.Delivery.{Delivery}
+use Rattle.xen_turns.specs.declared.delivery.delivering.Delivery.TheVariants as delivery
+use Rattle.xen_turns.specs.declared.state.State.{State}
+use Rattle.xen_turns.specs.declared.turn.Refusal.TheVariants as refusal
+use Rattle.xen_turns.specs.declared.wiring.Wiring.{Wiring as BackWiring}
 use Rattle.xen_steps.specs.Places.{add32}
 use Rattle.honest_laws.specs.Ends.{BackSafe}
 use Rattle.honest_machine.specs.Halves.{Half, Over, HasRun}

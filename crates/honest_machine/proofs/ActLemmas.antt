@@ -5,11 +5,11 @@ use Rattle.xen_steps.specs.Drive.{LedBy}
 use Rattle.xen_steps.specs.Event.{Event}
 use Rattle.xen_steps.specs.Steps.{Runs, Steps, done, ask, never}
 use Rattle.xen_steps.proofs.DriveLemmas.{gone_more, runs_of_gone}
-use Rattle.xen_back.specs.Deliveries.{Arrival, whole_delivery}
-use Rattle.xen_back.specs.Tree.{Left, after_run}
-use Rattle.xen_back.specs.Turned.{Ending as BackEnding}
-use Rattle.xen_back.specs.Waits.{Wait, whole_wait}
-use Rattle.xen_back.specs.declared.wiring.Wiring.{Wiring as BackWiring}
+use Rattle.xen_turns.specs.Deliveries.{Arrival, whole_delivery}
+use Rattle.xen_turns.specs.Tree.{Left, after_run}
+use Rattle.xen_turns.specs.Turned.{Ending as BackEnding}
+use Rattle.xen_turns.specs.Waits.{Wait, whole_wait}
+use Rattle.xen_turns.specs.declared.wiring.Wiring.{Wiring as BackWiring}
 use Rattle.xen_buffers.specs.declared.wiring.Wiring.{Wiring}
 use Rattle.xen_front.specs.Given.{Ending, Given}
 use Rattle.xen_front.specs.Tree.{poll}

@@ -12,18 +12,18 @@ use Rattle.xen_steps.specs.Steps.{Runs, Steps, done}
 use Rattle.xen_steps.proofs.StepsLemmas.{split}
 use Rattle.xen_steps.specs.Places.{available}
 use Rattle.xen_rx_fill.specs.Places.{tx_word}
-use Rattle.xen_back.specs.declared.turn.Halt.TheVariants as halt
-use Rattle.xen_back.proofs.TurnParts.{regroup, run_parts}
-use Rattle.xen_back.specs.Turns.{HasRun as Ran}
-use Rattle.xen_back.specs.Parts.{HasRead, IsCopy, IsLook, once, twice}
-use Rattle.xen_back.specs.Tree.{Left, Scan, after_chain, after_copy, after_look, after_scan, copy, look, program, read_slots, run_of, seen, unless_halted}
-use Rattle.xen_back.specs.Turned.{Ending}
-use Rattle.xen_back.specs.declared.state.State.{State}
-use Rattle.xen_back.specs.declared.turn.Halt.{Halt}
-use Rattle.xen_back.specs.declared.wiring.Wiring.{Wiring}
-use Rattle.xen_back.proofs.ChainLemmas.{beginning_by}
-use Rattle.xen_back.proofs.CopyParts.{copy_parts}
-use Rattle.xen_back.proofs.TurnParts.{ScanEnds, is_faulty, is_whole, none_left, slots_parts}
+use Rattle.xen_turns.specs.declared.turn.Halt.TheVariants as halt
+use Rattle.xen_turns.proofs.TurnParts.{regroup, run_parts}
+use Rattle.xen_turns.specs.Turns.{HasRun as Ran}
+use Rattle.xen_turns.specs.Parts.{HasRead, IsCopy, IsLook, once, twice}
+use Rattle.xen_turns.specs.Tree.{Left, Scan, after_chain, after_copy, after_look, after_scan, copy, look, program, read_slots, run_of, seen, unless_halted}
+use Rattle.xen_turns.specs.Turned.{Ending}
+use Rattle.xen_turns.specs.declared.state.State.{State}
+use Rattle.xen_turns.specs.declared.turn.Halt.{Halt}
+use Rattle.xen_turns.specs.declared.wiring.Wiring.{Wiring}
+use Rattle.xen_turns.proofs.ChainLemmas.{beginning_by}
+use Rattle.xen_turns.proofs.CopyParts.{copy_parts}
+use Rattle.xen_turns.proofs.TurnParts.{ScanEnds, is_faulty, is_whole, none_left, slots_parts}
 use Rattle.honest_machine.specs.Halves.{Half, Over, HasRun, half_chain, half_copy, half_look, half_scan, half_turn, half_unless, over}
 
 seen_parts : (w : Wiring) (t p : ℕ) (tr : List Event) (o x : Option ℕ) → p < 2 ^ 32 → available t p ≡ x → Runs (seen w t x) tr o → IsLook w t (Read (tx_word w.vif 0) p ∷ tr) o

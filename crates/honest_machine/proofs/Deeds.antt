@@ -2,10 +2,10 @@
 use Rattle.std.proofs.Common.{◌≡◌, ℕ, refl, sym, ◌∙◌, ap, subst, Bool, true, false, List, [], ◌∷◌, ◌++◌, Option, Some}
 use Rattle.std.specs.Prelude.{if◌then◌else◌, flat_map}
 use Rattle.std.proofs.lemmas.List.{append-nil, append_assoc}
-use Rattle.xen_back.specs.Turned.{Idle, Ran, Refused}
-use Rattle.xen_back.specs.declared.delivery.wait.Awaited.{Awaited}
-use Rattle.xen_back.specs.declared.delivery.delivering.Delivery.{Delivery}
-use Rattle.xen_back.specs.declared.turn.Refusal.TheVariants as refusal
+use Rattle.xen_turns.specs.Turned.{Idle, Ran, Refused}
+use Rattle.xen_turns.specs.declared.delivery.wait.Awaited.{Awaited}
+use Rattle.xen_turns.specs.declared.delivery.delivering.Delivery.{Delivery}
+use Rattle.xen_turns.specs.declared.turn.Refusal.TheVariants as refusal
 use Rattle.honest_machine.specs.Law.{AllArrived, HasArrived, HasLooked, HaveCopies, none, idle, ran, few, given_by}
 use Rattle.honest_machine.specs.Pair.{Deed, OfTurn, OfDelivery, OfWait, Past, turns_of}
 

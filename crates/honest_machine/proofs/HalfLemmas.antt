@@ -6,11 +6,11 @@ use Rattle.xen_netif.specs.Fragments.{fragments_of}
 use Rattle.xen_netif.specs.declared.fault.SizeFault.{SizeFault}
 use Rattle.xen_netif.specs.declared.fragment.Fragment.{Fragment}
 use Rattle.xen_steps.specs.Steps.{Steps, done, ask, never, bind}
-use Rattle.xen_back.specs.Tree.{Scan, after_chain, after_copy, after_look, after_scan, copy, look, program, read_slots, run_of, unless_halted, whole_turn}
-use Rattle.xen_back.specs.Turned.{Ending}
-use Rattle.xen_back.specs.declared.state.State.{State}
-use Rattle.xen_back.specs.declared.turn.Halt.{Halt}
-use Rattle.xen_back.specs.declared.wiring.Wiring.{Wiring}
+use Rattle.xen_turns.specs.Tree.{Scan, after_chain, after_copy, after_look, after_scan, copy, look, program, read_slots, run_of, unless_halted, whole_turn}
+use Rattle.xen_turns.specs.Turned.{Ending}
+use Rattle.xen_turns.specs.declared.state.State.{State}
+use Rattle.xen_turns.specs.declared.turn.Halt.{Halt}
+use Rattle.xen_turns.specs.declared.wiring.Wiring.{Wiring}
 use Rattle.honest_machine.specs.Halves.{Over, HasRun, over, half_copy, half_chain, half_scan, half_look, half_unless, half_turn, second_half}
 
 pub bind_assoc : {A B C : Type 0} (s : Steps A) (f : A → Steps B) (g : B → Steps C) → bind (bind s f) g ≡ bind s (λ x. bind (f x) g)

@@ -4,11 +4,11 @@ use Rattle.xen_page.specs.declared.place.Place.{Place}
 use Rattle.xen_steps.specs.Steps.{Steps, done, ask, never}
 use Rattle.xen_steps.specs.declared.want.Want.{Want}
 use Rattle.xen_steps.specs.declared.want.Want.TheVariants as want
-use Rattle.xen_back.specs.Deliveries.{Arrival, whole_delivery}
-use Rattle.xen_back.specs.Tree.{Left, after_run}
-use Rattle.xen_back.specs.Turned.{Ending}
-use Rattle.xen_back.specs.Waits.{Wait, whole_wait}
-use Rattle.xen_back.specs.declared.wiring.Wiring.{Wiring as BackWiring}
+use Rattle.xen_turns.specs.Deliveries.{Arrival, whole_delivery}
+use Rattle.xen_turns.specs.Tree.{Left, after_run}
+use Rattle.xen_turns.specs.Turned.{Ending}
+use Rattle.xen_turns.specs.Waits.{Wait, whole_wait}
+use Rattle.xen_turns.specs.declared.wiring.Wiring.{Wiring as BackWiring}
 use Rattle.xen_buffers.specs.declared.wiring.Wiring.{Wiring as FrontWiring}
 use Rattle.xen_front.specs.Given.{Ending as FrontEnding}
 use Rattle.xen_front.specs.declared.turn.PollRefusal.{PollRefusal}

@@ -8,17 +8,17 @@ use Rattle.xen_steps.specs.Places.{add32, available, page_word}
 use Rattle.xen_steps.specs.Steps.{Steps, done, ask, never}
 use Rattle.xen_steps.specs.declared.want.Want.{Want}
 use Rattle.xen_steps.specs.declared.want.Want.TheVariants as want
-use Rattle.xen_back.specs.Deliveries.{Arrival, whole_delivery}
-use Rattle.xen_back.specs.Tree.{Left, after_run}
-use Rattle.xen_back.specs.Turned.{Turned, Idle, Ran, Refused, Halted, Ending}
-use Rattle.xen_back.specs.Waits.{Wait, check_unless, final_check, last_read, whole_wait}
-use Rattle.xen_back.specs.declared.delivery.wait.Awaited.{Awaited}
-use Rattle.xen_back.specs.declared.delivery.wait.Awaited.TheVariants as awaited
-use Rattle.xen_back.specs.declared.delivery.delivering.Delivery.{Delivery}
-use Rattle.xen_back.specs.declared.delivery.delivering.Delivery.TheVariants as delivery
-use Rattle.xen_back.specs.declared.state.State.{State as BackState}
-use Rattle.xen_back.specs.declared.turn.Refusal.TheVariants as refusal
-use Rattle.xen_back.specs.declared.wiring.Wiring.{Wiring as BackWiring}
+use Rattle.xen_turns.specs.Deliveries.{Arrival, whole_delivery}
+use Rattle.xen_turns.specs.Tree.{Left, after_run}
+use Rattle.xen_turns.specs.Turned.{Turned, Idle, Ran, Refused, Halted, Ending}
+use Rattle.xen_turns.specs.Waits.{Wait, check_unless, final_check, last_read, whole_wait}
+use Rattle.xen_turns.specs.declared.delivery.wait.Awaited.{Awaited}
+use Rattle.xen_turns.specs.declared.delivery.wait.Awaited.TheVariants as awaited
+use Rattle.xen_turns.specs.declared.delivery.delivering.Delivery.{Delivery}
+use Rattle.xen_turns.specs.declared.delivery.delivering.Delivery.TheVariants as delivery
+use Rattle.xen_turns.specs.declared.state.State.{State as BackState}
+use Rattle.xen_turns.specs.declared.turn.Refusal.TheVariants as refusal
+use Rattle.xen_turns.specs.declared.wiring.Wiring.{Wiring as BackWiring}
 use Rattle.xen_buffers.specs.declared.wiring.Wiring.{Wiring as FrontWiring}
 use Rattle.xen_front.specs.Given.{Ending as FrontEnding}
 use Rattle.xen_front.specs.Tree.{poll}

@@ -2,7 +2,7 @@
 -- What the front has: the traces of its sends, posts and polls, with the packets that these took and gave, and a beginning of one more.
 use Rattle.std.specs.Prelude.{ℕ, ◌≡◌, List, [], ◌∷◌, ◌++◌, length, get_or, Ok}
 use Rattle.xen_buffers.specs.declared.wiring.Wiring.{Wiring}
-use Rattle.xen_back.specs.declared.wiring.Wiring.{Wiring as BackWiring}
+use Rattle.xen_turns.specs.declared.wiring.Wiring.{Wiring as BackWiring}
 use Rattle.xen_front.specs.Activities.{IsPoll, IsPost, IsSend}
 use Rattle.xen_front.specs.Fronts.{all_free, chosen}
 use Rattle.xen_front.specs.Given.{Given}

@@ -4,10 +4,10 @@ use Rattle.std.specs.Prelude.{ℕ, ◌≡◌, List}
 use Rattle.xen_netif.specs.Chain.{Slot}
 use Rattle.xen_steps.specs.Event.{Event}
 use Rattle.xen_steps.specs.Steps.{Runs}
-use Rattle.xen_back.specs.Tree.{Left}
-use Rattle.xen_back.specs.Turns.{HasRun as Ran}
-use Rattle.xen_back.specs.declared.state.State.{State}
-use Rattle.xen_back.specs.declared.wiring.Wiring.{Wiring}
+use Rattle.xen_turns.specs.Tree.{Left}
+use Rattle.xen_turns.specs.Turns.{HasRun as Ran}
+use Rattle.xen_turns.specs.declared.state.State.{State}
+use Rattle.xen_turns.specs.declared.wiring.Wiring.{Wiring}
 use Rattle.honest_machine.specs.Halves.{HasRun, half_turn}
 
 -- The events of a first half that ends in a run are a look, the reads of a chain, the copy of this packet, and the program's run on it.

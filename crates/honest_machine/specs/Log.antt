@@ -6,7 +6,7 @@ use Rattle.xen_steps.specs.Event.{Event, Read, Write, Instr, Load, Add, Notify}
 use Rattle.xen_steps.specs.Steps.{Steps, done, ask, never}
 use Rattle.xen_steps.specs.declared.want.Want.{Want}
 use Rattle.xen_steps.specs.declared.want.Want.TheVariants as want
-use Rattle.xen_back.specs.declared.wiring.Wiring.{Wiring as BackWiring}
+use Rattle.xen_turns.specs.declared.wiring.Wiring.{Wiring as BackWiring}
 use Rattle.xen_buffers.specs.declared.wiring.Wiring.{Wiring as FrontWiring}
 use Rattle.xdp_world.specs.Activities.{Given, Item, SlotsAwaited, all_came}
 use Rattle.honest_machine.specs.Memory.{Memory, answer, put}

@@ -3,15 +3,15 @@
 use Rattle.std.specs.Prelude.{ℕ, Bool, true, false, List, [], ◌∷◌, ◌++◌, length, get_or, Option, Some, None, Result}
 use Rattle.std.specs.Prelude.{Ok, Err, nat_lt}
 use Rattle.xen_steps.specs.Steps.{Steps, done, ask, never}
-use Rattle.xen_back.specs.Deliveries.{Arrival, whole_delivery}
-use Rattle.xen_back.specs.Tree.{Left, after_run}
-use Rattle.xen_back.specs.Turned.{Turned, Idle, Ran, Refused, Halted, Ending}
-use Rattle.xen_back.specs.Waits.{Wait, whole_wait}
-use Rattle.xen_back.specs.declared.delivery.wait.Awaited.{Awaited}
-use Rattle.xen_back.specs.declared.delivery.wait.Awaited.TheVariants as awaited
-use Rattle.xen_back.specs.declared.delivery.delivering.Delivery.{Delivery}
-use Rattle.xen_back.specs.declared.state.State.{State as BackState}
-use Rattle.xen_back.specs.declared.wiring.Wiring.{Wiring as BackWiring}
+use Rattle.xen_turns.specs.Deliveries.{Arrival, whole_delivery}
+use Rattle.xen_turns.specs.Tree.{Left, after_run}
+use Rattle.xen_turns.specs.Turned.{Turned, Idle, Ran, Refused, Halted, Ending}
+use Rattle.xen_turns.specs.Waits.{Wait, whole_wait}
+use Rattle.xen_turns.specs.declared.delivery.wait.Awaited.{Awaited}
+use Rattle.xen_turns.specs.declared.delivery.wait.Awaited.TheVariants as awaited
+use Rattle.xen_turns.specs.declared.delivery.delivering.Delivery.{Delivery}
+use Rattle.xen_turns.specs.declared.state.State.{State as BackState}
+use Rattle.xen_turns.specs.declared.wiring.Wiring.{Wiring as BackWiring}
 use Rattle.xen_buffers.specs.declared.wiring.Wiring.{Wiring as FrontWiring}
 use Rattle.xen_front.specs.Fronts.{all_free, chosen, poll_tests, post_tests, send_tests}
 use Rattle.xen_front.specs.Given.{Given, Ending as FrontEnding}

@@ -6,17 +6,17 @@ use Rattle.xen_netif.specs.Chain.{Slot}
 use Rattle.xen_steps.specs.Drive.{LedBy}
 use Rattle.xen_steps.specs.Event.{Event, Occurs}
 use Rattle.xen_steps.specs.Steps.{Runs, Steps, done, ask, never}
-use Rattle.xen_back.specs.Awaited.{IsAwaiting}
-use Rattle.xen_back.specs.Delivered.{IsDelivery}
-use Rattle.xen_back.specs.Deliveries.{whole_delivery}
-use Rattle.xen_back.specs.Tree.{Left, after_run}
-use Rattle.xen_back.specs.Turned.{Ending}
-use Rattle.xen_back.specs.Turns.{HasRun as Ran, IsTurn}
-use Rattle.xen_back.specs.Waits.{whole_wait}
-use Rattle.xen_back.specs.declared.delivery.wait.Awaited.{Awaited}
-use Rattle.xen_back.specs.declared.delivery.delivering.Delivery.{Delivery}
-use Rattle.xen_back.specs.declared.state.State.{State}
-use Rattle.xen_back.specs.declared.wiring.Wiring.{Wiring}
+use Rattle.xen_turns.specs.Awaited.{IsAwaiting}
+use Rattle.xen_turns.specs.Delivered.{IsDelivery}
+use Rattle.xen_turns.specs.Deliveries.{whole_delivery}
+use Rattle.xen_turns.specs.Tree.{Left, after_run}
+use Rattle.xen_turns.specs.Turned.{Ending}
+use Rattle.xen_turns.specs.Turns.{HasRun as Ran, IsTurn}
+use Rattle.xen_turns.specs.Waits.{whole_wait}
+use Rattle.xen_turns.specs.declared.delivery.wait.Awaited.{Awaited}
+use Rattle.xen_turns.specs.declared.delivery.delivering.Delivery.{Delivery}
+use Rattle.xen_turns.specs.declared.state.State.{State}
+use Rattle.xen_turns.specs.declared.wiring.Wiring.{Wiring}
 use Rattle.honest_machine.specs.Halves.{HasRun, half_turn}
 use Rattle.xen_buffers.specs.declared.wiring.Wiring.{Wiring as FrontWiring}
 use Rattle.xdp_world.specs.Activities.{Given, Item, SlotsAwaited, all_came}

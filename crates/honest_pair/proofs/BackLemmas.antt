@@ -12,16 +12,16 @@ use Rattle.xen_steps.specs.declared.want.Want.{Want}
 use Rattle.xen_steps.specs.declared.want.Want.TheVariants as want
 use Rattle.xen_back.proofs.RestLemmas.{ready_rest as back_rest}
 use Rattle.xen_back.specs.Queues.{IsReady, rest, state_of, wiring_of}
-use Rattle.xen_back.specs.Tree.{Left, after_run, whole_turn}
-use Rattle.xen_back.specs.Turned.{Ending, Turned, Idle, Ran, Refused, Halted}
-use Rattle.xen_back.specs.Within.{IsWithin, may_want}
-use Rattle.xen_back.specs.declared.delivery.wait.Awaited.{Awaited}
-use Rattle.xen_back.specs.declared.delivery.delivering.Delivery.{Delivery}
+use Rattle.xen_turns.specs.Tree.{Left, after_run, whole_turn}
+use Rattle.xen_turns.specs.Turned.{Ending, Turned, Idle, Ran, Refused, Halted}
+use Rattle.xen_turns.specs.Within.{IsWithin, may_want}
+use Rattle.xen_turns.specs.declared.delivery.wait.Awaited.{Awaited}
+use Rattle.xen_turns.specs.declared.delivery.delivering.Delivery.{Delivery}
 use Rattle.xen_back.specs.declared.delivery.wait_stage.Awaiting.{Awaiting}
 use Rattle.xen_back.specs.declared.queue.Queue.{Queue}
-use Rattle.xen_back.specs.declared.state.State.{State}
-use Rattle.xen_back.specs.declared.turn.Halt.{Halt}
-use Rattle.xen_back.specs.declared.wiring.Wiring.{Wiring}
+use Rattle.xen_turns.specs.declared.state.State.{State}
+use Rattle.xen_turns.specs.declared.turn.Halt.{Halt}
+use Rattle.xen_turns.specs.declared.wiring.Wiring.{Wiring}
 use Rattle.honest_machine.specs.Halves.{Half, Over, HasRun, half_turn, half_unless, second_half}
 use Rattle.honest_machine.specs.Log.{back_asks, event_by}
 use Rattle.honest_machine.specs.Memory.{Memory, after, answer}

@@ -7,7 +7,7 @@ use Rattle.xen_steps.specs.Steps.{Steps, done, ask, never, next, want_of}
 use Rattle.xen_steps.specs.Event.{Event, Occurs}
 use Rattle.xen_steps.specs.declared.want.Want.{Want}
 use Rattle.xen_steps.specs.declared.want.Want.TheVariants as want
-use Rattle.xen_back.specs.declared.wiring.Wiring.{Wiring as BackWiring}
+use Rattle.xen_turns.specs.declared.wiring.Wiring.{Wiring as BackWiring}
 use Rattle.xen_back.specs.Queues.{wiring_of as back_wiring}
 use Rattle.xen_back.specs.declared.queue.Queue.{Queue}
 use Rattle.xen_buffers.specs.declared.wiring.Wiring.{Wiring}

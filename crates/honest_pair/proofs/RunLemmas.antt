@@ -2,13 +2,13 @@
 use Rattle.std.proofs.Common.{◌≡◌, ℕ, zero, suc, ◌<◌, ◌^◌, refl, sym, ◌∙◌, ap, subst, arith, List, [], ◌∷◌, ◌++◌, length, map, true, Option, Some, None}
 use Rattle.bpf_verify.specs.Consistent.{Accepted, IsConsistent}
 use Rattle.xen_back.specs.Queues.{rest, state_of}
-use Rattle.xen_back.specs.Tree.{unless_halted, whole_turn}
-use Rattle.xen_back.specs.Turned.{Turned}
-use Rattle.xen_back.specs.Turns.{IsTurn}
+use Rattle.xen_turns.specs.Tree.{unless_halted, whole_turn}
+use Rattle.xen_turns.specs.Turned.{Turned}
+use Rattle.xen_turns.specs.Turns.{IsTurn}
 use Rattle.xen_back.specs.declared.queue.Queue.{Queue}
-use Rattle.xen_back.specs.declared.state.State.{State as BackState}
-use Rattle.xen_back.specs.declared.turn.Halt.{Halt}
-use Rattle.xen_back.proofs.TurnRuns.{runs_turn}
+use Rattle.xen_turns.specs.declared.state.State.{State as BackState}
+use Rattle.xen_turns.specs.declared.turn.Halt.{Halt}
+use Rattle.xen_turns.proofs.TurnRuns.{runs_turn}
 use Rattle.xen_front.specs.Fronts.{state_of as front_state, wiring_of as front_wiring}
 use Rattle.xen_front.specs.declared.state.State.{State as FrontState}
 use Rattle.xen_steps.specs.Drive.{LedBy}
@@ -31,7 +31,7 @@ use Rattle.honest_pair.proofs.BackLemmas.{some_queue, world_doing}
 use Rattle.std.specs.Prelude.{if◌then◌else◌, ◌==◌}
 use Rattle.std.proofs.lemmas.List.{append-nil, append_assoc}
 use Rattle.xen_steps.specs.Event.{Event}
-use Rattle.xen_back.specs.declared.wiring.Wiring.{Wiring as BackWiring}
+use Rattle.xen_turns.specs.declared.wiring.Wiring.{Wiring as BackWiring}
 use Rattle.xen_buffers.specs.declared.wiring.Wiring.{Wiring as FrontWiring}
 use Rattle.honest_machine.specs.Log.{LogLaw, back_asks, back_item, back_items, log, logged}
 use Rattle.honest_machine.specs.Pair.{Await, BackStep, Deliver, FrontStep, Pair, PairEvent, Poll, Post, Send, opening, run, step, turns_of}
@@ -194,7 +194,7 @@ fit_all [] (x ∷ g) h b = absurd h
 fit_all (e ∷ es) [] h b = absurd h
 fit_all (e ∷ es) (x ∷ g) h b = fit_more x g (subst IsBytes (sym h.0) b.0, h.1) (fit_all es g h.2 b.1)
 
-pub is_run : (program : Accepted) (start : ℕ) (called : List PairEvent) (r : PairRun) (old new : Held) → Begins program 1 0 start old.world → IsConsistent program → start < 2 ^ 32 → IsFresh start old.front →
+pub is_run : (program : Accepted) (start : ℕ) (called : List PairEvent) (r : PairRun) (old new : Held) → Begins program [] 1 0 start old.world → IsConsistent program → start < 2 ^ 32 → IsFresh start old.front →
     memory_in old.memory ≡ opening_memory start → old.asleep ≡ true → old.calling ≡ calling.Nothing → old.received.items ≡ [] → old.world.counters.shapes ≡ program.shapes → HasDone old new called →
     r.received ≡ new.received → length r.report.turns.items ≡ 1 → length r.report.deliveries.items ≡ 1 → length r.report.waits.items ≡ 1 → r.report.turns.items ≡ new.world.turns.items → r.report.deliveries.items ≡ new.world.deliveries.items → r.report.waits.items ≡ new.world.waits.items → r.report.totals.shapes ≡ new.world.counters.shapes →
     ((wirings : ℕ → BackWiring) (s : ℕ) (es : List Entry) → Stands new.world wirings s es → Reports wirings s es r.report) →
@@ -223,7 +223,7 @@ is_run program start called r old new b cons small fresh mem aw dl none sh done 
     } in
     let a = done.does bw fw p shows in
     let x = a.3.stands b.wirings start [] b.stands in
-    let w0 : IsFor program 1 0 0 bw = b.wired 0 (omega arith) in
+    let w0 : IsFor program [] 1 0 0 bw = b.wired 0 (omega arith) in
     let laid : IsBack program bw = record {
       tx = w0.tx;
       rx = w0.rx;

@@ -2,16 +2,16 @@
 -- What was copied and given in a run, beside what was sent and received.
 use Rattle.std.specs.Prelude.{ℕ, ◌≡◌, List, [], ◌∷◌, ◌++◌, ◌==◌, if◌then◌else◌, None}
 use Rattle.xen_steps.specs.Event.{Event}
-use Rattle.xen_back.specs.Awaited.{IsAwaiting}
-use Rattle.xen_back.specs.Delivered.{IsDelivery}
-use Rattle.xen_back.specs.Tree.{Left}
-use Rattle.xen_back.specs.Turned.{Turned, Idle, Ran, Refused, Halted}
-use Rattle.xen_back.specs.Turns.{IsTurn}
-use Rattle.xen_back.specs.declared.delivery.wait.Awaited.{Awaited}
-use Rattle.xen_back.specs.declared.delivery.delivering.Delivery.{Delivery}
-use Rattle.xen_back.specs.declared.state.State.{State}
-use Rattle.xen_back.specs.declared.turn.Refusal.TheVariants as refusal
-use Rattle.xen_back.specs.declared.wiring.Wiring.{Wiring}
+use Rattle.xen_turns.specs.Awaited.{IsAwaiting}
+use Rattle.xen_turns.specs.Delivered.{IsDelivery}
+use Rattle.xen_turns.specs.Tree.{Left}
+use Rattle.xen_turns.specs.Turned.{Turned, Idle, Ran, Refused, Halted}
+use Rattle.xen_turns.specs.Turns.{IsTurn}
+use Rattle.xen_turns.specs.declared.delivery.wait.Awaited.{Awaited}
+use Rattle.xen_turns.specs.declared.delivery.delivering.Delivery.{Delivery}
+use Rattle.xen_turns.specs.declared.state.State.{State}
+use Rattle.xen_turns.specs.declared.turn.Refusal.TheVariants as refusal
+use Rattle.xen_turns.specs.declared.wiring.Wiring.{Wiring}
 use Rattle.xdp_world.specs.Activities.{Deed, DeliveryOf, Given, Item, SlotsAwaited, TurnOf, WaitOf}
 use Rattle.xdp_world.specs.Activities.{all_came, deliveries_in, turns_in, waits_in}
 use Rattle.xdp_world.specs.Core.{started_at}

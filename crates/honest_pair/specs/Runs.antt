@@ -2,7 +2,7 @@
 -- The honest pair: what a run of it is.
 use Rattle.std.specs.Prelude.{ℕ, ◌≡◌, ◌<◌, ◌^◌, List, [], ◌∷◌, length, map}
 use Rattle.bpf_verify.specs.Consistent.{Accepted}
-use Rattle.xen_back.specs.declared.wiring.Wiring.{Wiring as BackWiring}
+use Rattle.xen_turns.specs.declared.wiring.Wiring.{Wiring as BackWiring}
 use Rattle.xen_buffers.specs.declared.wiring.Wiring.{Wiring as FrontWiring}
 use Rattle.xen_front.specs.declared.state.State.{State as FrontState}
 use Rattle.honest_machine.specs.Acts.{HasActed, front_of}
@@ -40,7 +40,7 @@ NoneDelivers (e ∷ es) = IsPlain e × NoneDelivers es
 -- The report is of these calls of one queue of a program.
 pub record IsCallRun (program : Accepted) (start : ℕ) (calls : List Call) (r : Report) : Type 0 where
   pub wirings : ℕ → BackWiring
-  pub wired : (i : ℕ) → i < 1 → IsFor program 1 0 i (wirings i)
+  pub wired : (i : ℕ) → i < 1 → IsFor program [] 1 0 i (wirings i)
   pub count : length r.turns.items ≡ 1
   pub delivered : length r.deliveries.items ≡ 1
   pub waited : length r.waits.items ≡ 1
@@ -73,7 +73,7 @@ pub record IsPairRun (program : Accepted) (start : ℕ) (called : List PairEvent
   pub core : IsCallRun program start calls r.report
   pub alone : AreOwn calls
   pub own : items_of 0 calls ≡ back_items back front (opening state start) events
-  pub plain : NoneDelivers called → (steps : List (ℕ × ℕ)) × (plainly : IsCoreRun program 1 0 start steps r.report) ×
+  pub plain : NoneDelivers called → (steps : List (ℕ × ℕ)) × (plainly : IsCoreRun program [] 1 0 start steps r.report) ×
       (calls ≡ all_stepped plainly.entries)
   pub acts : HasActed front state (front_of (log back front (opening state start) events)) (run back front (opening state start) events)
   pub faithful : IsFaithful (opening_word start) (log back front (opening state start) events)

@@ -5,15 +5,15 @@ use Rattle.std.specs.Prelude.{Option, Some, None}
 use Rattle.xen_steps.specs.Steps.{Steps, done, ask, never, bind}
 use Rattle.xen_back.specs.ByEvent.{left_of}
 use Rattle.xen_back.specs.WaitsByEvent.{left_of_wait}
-use Rattle.xen_back.specs.declared.delivery.wait.Awaited.{Awaited}
-use Rattle.xen_back.specs.declared.delivery.wait.Awaited.TheVariants as awaited
+use Rattle.xen_turns.specs.declared.delivery.wait.Awaited.{Awaited}
+use Rattle.xen_turns.specs.declared.delivery.wait.Awaited.TheVariants as awaited
 use Rattle.xen_back.specs.declared.delivery.wait_stage.Awaiting.{Awaiting}
 use Rattle.xen_back.specs.Queues.{rest, state_of, wiring_of}
-use Rattle.xen_back.specs.Tree.{whole_turn}
+use Rattle.xen_turns.specs.Tree.{whole_turn}
 use Rattle.xen_back.specs.declared.delivery.underway.Delivering.{Delivering as Carried}
 use Rattle.xen_back.specs.declared.queue.Queue.{Queue}
-use Rattle.xen_back.specs.declared.state.State.{State as BackState}
-use Rattle.xen_back.specs.declared.wiring.Wiring.{Wiring as BackWiring}
+use Rattle.xen_turns.specs.declared.state.State.{State as BackState}
+use Rattle.xen_turns.specs.declared.wiring.Wiring.{Wiring as BackWiring}
 use Rattle.xen_buffers.specs.declared.wiring.Wiring.{Wiring as FrontWiring}
 use Rattle.xen_front.specs.Fronts.{busy, rest as front_rest, state_of as front_state, wiring_of as front_wiring}
 use Rattle.xen_front.specs.Given.{Given}

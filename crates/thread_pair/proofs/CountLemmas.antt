@@ -2,12 +2,12 @@
 use Rattle.std.proofs.Common.{◌≡◌, ◌∙◌, ◌+◌, ◌≤◌, List, ◌∷◌, None, Some, length, ap, sym, subst, refl, arith}
 use Rattle.std.specs.Prelude.{Bool, true, false, cond, count_by}
 use Rattle.std.proofs.lemmas.List.Sums.{count_by-le-length, sum_by-cons}
-use Rattle.xen_back.specs.Turned.{Turned, Idle, Ran, Refused, Halted, Shows}
-use Rattle.xen_back.specs.declared.delivery.delivering.Delivery.{Delivery}
-use Rattle.xen_back.specs.declared.delivery.delivering.Delivery.TheVariants as delivery
-use Rattle.xen_back.specs.declared.turn.Halt.{Halt}
-use Rattle.xen_back.specs.declared.turn.Turn.{Turn}
-use Rattle.xen_back.specs.declared.turn.Turn.TheVariants as shown
+use Rattle.xen_turns.specs.Turned.{Turned, Idle, Ran, Refused, Halted, Shows}
+use Rattle.xen_turns.specs.declared.delivery.delivering.Delivery.{Delivery}
+use Rattle.xen_turns.specs.declared.delivery.delivering.Delivery.TheVariants as delivery
+use Rattle.xen_turns.specs.declared.turn.Halt.{Halt}
+use Rattle.xen_turns.specs.declared.turn.Turn.{Turn}
+use Rattle.xen_turns.specs.declared.turn.Turn.TheVariants as shown
 use Rattle.thread_pair.specs.Answering.{reply, shown_reply, answer_to}
 use Rattle.thread_pair.specs.Rounds.{IsRest, Round, counted, delivered, halt_in, is_few, is_lost, is_refusal, is_run, is_sent, next_after, next_of, slots_by, slots_in, with_delivery, with_turn}
 use Rattle.thread_pair.specs.declared.host.Host.{Host}

@@ -1,13 +1,14 @@
 -- A round from its turn, and from its answer's delivery.
 use Rattle.std.proofs.Common.{◌≡◌, ◌∙◌, List, [], Option, None, Some, sym, subst, ℕ}
 use Rattle.bpf_note.specs.declared.op.Op.{Op}
-use Rattle.xen_back.specs.Delivered.{IsDelivered, IsDelivery}
+use Rattle.xen_back.specs.Delivered.{IsDelivered}
+use Rattle.xen_turns.specs.Delivered.{IsDelivery}
 use Rattle.xen_back.specs.Drive.{IsTurnOver}
 use Rattle.xen_back.specs.Queues.{state_of}
-use Rattle.xen_back.specs.declared.delivery.delivering.Delivery.{Delivery}
+use Rattle.xen_turns.specs.declared.delivery.delivering.Delivery.{Delivery}
 use Rattle.xen_back.specs.declared.queue.Queue.{Queue}
-use Rattle.xen_back.specs.declared.turn.Turn.{Turn}
-use Rattle.xen_back.specs.declared.wiring.Wiring.{Wiring}
+use Rattle.xen_turns.specs.declared.turn.Turn.{Turn}
+use Rattle.xen_turns.specs.declared.wiring.Wiring.{Wiring}
 use Rattle.xen_page.specs.declared.access.Access.{Access}
 use Rattle.xen_page.proofs.AccessLemmas.{performs_none, performs_then}
 use Rattle.xen_steps.specs.Drive.{accesses}

@@ -3,12 +3,12 @@ use Rattle.std.proofs.Common.{◌≡◌, ℕ, ◌+◌, ◌≤◌, ◌⊎◌, Lis
 use Rattle.bpf_note.specs.declared.op.Op.{Op}
 use Rattle.bpf_maps.specs.Seats.{SeatView}
 use Rattle.xdp_world.specs.Core.{started_at}
-use Rattle.xen_back.specs.Drive.{labels}
+use Rattle.xen_turns.specs.Drive.{labels}
 use Rattle.xen_back.specs.Queues.{state_of, wiring_of}
-use Rattle.xen_back.specs.Turned.{Turned}
-use Rattle.xen_back.specs.declared.delivery.delivering.Delivery.{Delivery}
+use Rattle.xen_turns.specs.Turned.{Turned}
+use Rattle.xen_turns.specs.declared.delivery.delivering.Delivery.{Delivery}
 use Rattle.xen_back.specs.declared.queue.Queue.{Queue}
-use Rattle.xen_back.specs.declared.wiring.Wiring.{Wiring}
+use Rattle.xen_turns.specs.declared.wiring.Wiring.{Wiring}
 use Rattle.xen_page.specs.Access.{Performs}
 use Rattle.xen_page.specs.declared.access.Access.{Access}
 use Rattle.xen_steps.specs.Drive.{accesses}

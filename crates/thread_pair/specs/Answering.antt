@@ -4,10 +4,10 @@ use Rattle.std.specs.Prelude.{ℕ, ◌++◌, List, drop, take, Option, None, Som
 use Rattle.bpf_vm.specs.Actions.{action_of}
 use Rattle.bpf_vm.specs.declared.action.Action.{Action}
 use Rattle.bpf_vm.specs.declared.action.Action.TheVariants as action
-use Rattle.xen_back.specs.Delivered.{is_frame}
-use Rattle.xen_back.specs.Turned.{Turned, Ran}
-use Rattle.xen_back.specs.declared.turn.Turn.{Turn}
-use Rattle.xen_back.specs.declared.turn.Turn.TheVariants as shown
+use Rattle.xen_turns.specs.Delivered.{is_frame}
+use Rattle.xen_turns.specs.Turned.{Turned, Ran}
+use Rattle.xen_turns.specs.declared.turn.Turn.{Turn}
+use Rattle.xen_turns.specs.declared.turn.Turn.TheVariants as shown
 use Rattle.thread_pair.specs.declared.host.Host.{Host}
 use Rattle.thread_pair.specs.declared.host.Host.TheVariants as host
 

@@ -7,11 +7,11 @@ use Rattle.bpf_maps.specs.Seats.{SeatView}
 use Rattle.xdp_load.specs.declared.setup.Setup.{Setup}
 use Rattle.xdp_world.specs.Core.{started_at}
 use Rattle.xdp_world.specs.Frames.{frame_of, owners_of, table_frames}
-use Rattle.xen_back.specs.Drive.{labels}
-use Rattle.xen_back.specs.Turned.{Turned}
-use Rattle.xen_back.specs.declared.delivery.delivering.Delivery.{Delivery}
-use Rattle.xen_back.specs.declared.state.State.{State}
-use Rattle.xen_back.specs.declared.wiring.Wiring.{Wiring}
+use Rattle.xen_turns.specs.Drive.{labels}
+use Rattle.xen_turns.specs.Turned.{Turned}
+use Rattle.xen_turns.specs.declared.delivery.delivering.Delivery.{Delivery}
+use Rattle.xen_turns.specs.declared.state.State.{State}
+use Rattle.xen_turns.specs.declared.wiring.Wiring.{Wiring}
 use Rattle.xen_page.specs.Access.{Performs}
 use Rattle.xen_page.specs.declared.access.Access.{Access}
 use Rattle.xen_steps.specs.Drive.{accesses}

@@ -1,6 +1,6 @@
 //! The host's answers.
 ghost use Rattle.std.specs.Prelude.{◌≡◌, ◌≤◌, ◌+◌, ◌++◌, ◌*◌, None, Some, false, true, length, vec_capacity, vec_len};
-ghost use Rattle.xen_back.specs.Delivered.{is_frame};
+ghost use Rattle.xen_turns.specs.Delivered.{is_frame};
 ghost use Rattle.thread_pair.specs.Answering.{answer_to, exchanged, frame_answer, shown_reply};
 
 use crate::host::Host;

@@ -1,9 +1,10 @@
 -- Runs on some packets and then on others are runs on all of them.
 use Rattle.std.proofs.Common.{◌≡◌, ◌∙◌, ℕ, suc, ◌+◌, ◌-◌, ◌<◌, ◌++◌, List, [], ◌∷◌, length, map, get_or, take, drop, zero, refl, ap, append_assoc, arith, subst, sym}
-use Rattle.std.specs.Prelude.{replicate}
+use Rattle.std.specs.Prelude.{replicate, Option}
 use Rattle.std.specs.List.{AllByRecursion}
 use Rattle.std.proofs.lemmas.List.{append-nil}
 use Rattle.std.proofs.Math.Seq.{drop-cons, take-append_seam}
+use Rattle.bpf_lists.specs.declared.list.MapList.{MapList}
 use Rattle.bpf_verify.specs.Consistent.{Accepted as Program}
 use Rattle.xdp_load.specs.Setup.{Packet}
 use Rattle.xdp_load.specs.SetupSeen.{packet_view}
@@ -12,36 +13,36 @@ use Rattle.xdp_load.specs.declared.packets.Packet.{Packet as CodePacket}
 use Rattle.xdp_program.specs.Ran.{Ran}
 use Rattle.xdp_commands.specs.Filtering.{AreRuns, Goes, Passed, inputs_of, passed_lines, passed_text}
 
-runs_append : (program : Program) (ifindex : ℕ) (ps qs : List Packet) (before between after : List ℕ) (rs ss : List Passed)
-    → AreRuns program ifindex ps before rs between → AreRuns program ifindex qs between ss after → AreRuns program ifindex (ps ++ qs) before (rs ++ ss) after
-runs_append program ifindex [] qs before between after [] ss h k = subst (λ (words : List ℕ). AreRuns program ifindex qs words ss after) (sym h) k
-runs_append program ifindex [] qs before between after (r ∷ rs) ss h k = absurd h
-runs_append program ifindex (p ∷ ps) qs before between after [] ss h k = absurd h
-runs_append program ifindex (p ∷ ps) qs before between after (r ∷ rs) ss h k =
-    (h.0, h.1, h.2, runs_append program ifindex ps qs h.1 between after rs ss h.3 k)
+runs_append : (program : Program) (lists : List (Option MapList)) (ifindex : ℕ) (ps qs : List Packet) (before between after : List ℕ) (rs ss : List Passed)
+    → AreRuns program lists ifindex ps before rs between → AreRuns program lists ifindex qs between ss after → AreRuns program lists ifindex (ps ++ qs) before (rs ++ ss) after
+runs_append program lists ifindex [] qs before between after [] ss h k = subst (λ (words : List ℕ). AreRuns program lists ifindex qs words ss after) (sym h) k
+runs_append program lists ifindex [] qs before between after (r ∷ rs) ss h k = absurd h
+runs_append program lists ifindex (p ∷ ps) qs before between after [] ss h k = absurd h
+runs_append program lists ifindex (p ∷ ps) qs before between after (r ∷ rs) ss h k =
+    (h.0, h.1, h.2, runs_append program lists ifindex ps qs h.1 between after rs ss h.3 k)
 
 lines_append : (rs ss : List Passed) → passed_lines (rs ++ ss) ≡ passed_lines rs ++ passed_lines ss
 lines_append [] ss = refl
 lines_append (r ∷ rs) ss =
     ap (λ (xs : List ℕ). passed_text r ++ xs) (lines_append rs ss) ∙ sym (append_assoc (passed_text r) (passed_lines rs) (passed_lines ss))
 
-pub goes_on : (program : Program) (ifindex : ℕ) (ps qs : List Packet) (before lines between more after all : List ℕ)
-    → Goes program ifindex ps before lines between more → Goes program ifindex qs between more after all → Goes program ifindex (ps ++ qs) before lines after all
-goes_on program ifindex ps qs before lines between more after all g h = record {
+pub goes_on : (program : Program) (lists : List (Option MapList)) (ifindex : ℕ) (ps qs : List Packet) (before lines between more after all : List ℕ)
+    → Goes program lists ifindex ps before lines between more → Goes program lists ifindex qs between more after all → Goes program lists ifindex (ps ++ qs) before lines after all
+goes_on program lists ifindex ps qs before lines between more after all g h = record {
   runs = g.runs ++ h.runs;
-  ran = runs_append program ifindex ps qs before between after g.runs h.runs g.ran h.ran;
+  ran = runs_append program lists ifindex ps qs before between after g.runs h.runs g.ran h.ran;
   printed = h.printed ∙ ap (λ (xs : List ℕ). xs ++ passed_lines h.runs) g.printed ∙ append_assoc lines (passed_lines g.runs) (passed_lines h.runs)
       ∙ ap (λ (xs : List ℕ). lines ++ xs) (sym (lines_append g.runs h.runs));
 }
 
-pub goes_nowhere : (program : Program) (ifindex : ℕ) (words lines : List ℕ) → Goes program ifindex [] words lines words lines
-goes_nowhere program ifindex words lines = record { runs = []; ran = refl; printed = sym (append-nil lines) }
+pub goes_nowhere : (program : Program) (lists : List (Option MapList)) (ifindex : ℕ) (words lines : List ℕ) → Goes program lists ifindex [] words lines words lines
+goes_nowhere program lists ifindex words lines = record { runs = []; ran = refl; printed = sym (append-nil lines) }
 
 -- one run, with its line
-pub goes_once : (program : Program) (ifindex : ℕ) (p : Packet) (before lines after more bytes line : List ℕ) (number count : ℕ)
-    → Ran program [] p.bytes ifindex p.queue before number bytes after count → line ≡ passed_text (record { number = number; bytes = bytes }) → more ≡ lines ++ line
-    → Goes program ifindex (p ∷ []) before lines after more
-goes_once program ifindex p before lines after more bytes line number count ran is printed = record {
+pub goes_once : (program : Program) (lists : List (Option MapList)) (ifindex : ℕ) (p : Packet) (before lines after more bytes line : List ℕ) (number count : ℕ)
+    → Ran program lists p.bytes ifindex p.queue before number bytes after count → line ≡ passed_text (record { number = number; bytes = bytes }) → more ≡ lines ++ line
+    → Goes program lists ifindex (p ∷ []) before lines after more
+goes_once program lists ifindex p before lines after more bytes line number count ran is printed = record {
   runs = record { number = number; bytes = bytes } ∷ [];
   ran = (count, after, ran, refl);
   printed = printed ∙ ap (λ (xs : List ℕ). lines ++ xs) (is ∙ sym (append-nil (passed_text (record { number = number; bytes = bytes }))));

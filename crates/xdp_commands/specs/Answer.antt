@@ -6,12 +6,14 @@ use Rattle.std.specs.Io.KnownBytes.{Appends, Consumes, IsAtEnd, Keeps}
 use Rattle.hex.specs.Hex.{decode_of}
 use Rattle.bpf_insn.specs.declared.refusal.Refusal.{Refusal}
 use Rattle.bpf_vm.specs.declared.ended.Ended.{Ended}
+use Rattle.xdp_load.specs.Listed.{ListedView}
 use Rattle.xdp_load.specs.Spot.{Refused as RefusedAt}
 use Rattle.xdp_load.specs.Spots.{IsSpotText}
 use Rattle.xdp_load.specs.Original.{RewrittenView, rewritten_of}
 use Rattle.xdp_load.specs.Setup.{SetupView, setup_of, text_of}
 use Rattle.xdp_load.specs.declared.fault.LoadFault.{LoadFault}
 use Rattle.xdp_load.specs.declared.fault.LoadFault.TheVariants.{Memory, Refused}
+use Rattle.xdp_program.specs.Settings.{IsFirstFault, IsSetupOf}
 use Rattle.xdp_world.specs.declared.report.Report.{Report}
 use Rattle.xdp_commands.specs.declared.answer.Question.{Question}
 use Rattle.xdp_commands.specs.declared.answer.Question.TheVariants as question
@@ -96,16 +98,16 @@ SameAnswer r said = (c : Compared) × Compares r c × (said ≡ compared_answer 
 abbrev pub ran_answer : List (List ℕ) → Result Report Refusal → Said
 ran_answer names c = (ran_text names c, program_status c)
 
--- the answer to a setup: by a run of its queues through its script
-abbrev pub RunAnswer : SetupView → Said → Type 0
-RunAnswer s said = (c : Result Report Refusal) × Runs s c × (said ≡ ran_answer s.names c)
+-- the answer to a setup: by a run of its queues through its script, with its lists
+abbrev pub RunAnswer : ListedView → Said → Type 0
+RunAnswer x said = (c : Result Report Refusal) × Runs x c × (said ≡ ran_answer x.setup.names c)
 
 abbrev pub filtered_answer : SetupView → Result Filtered Refusal → Said
 filtered_answer s c = (filtered_text s.names s.shapes c, program_status c)
 
--- the answer to a setup: by runs of its program on its packets
-abbrev pub FilterAnswer : SetupView → Said → Type 0
-FilterAnswer s said = (c : Result Filtered Refusal) × Filters s c × (said ≡ filtered_answer s c)
+-- the answer to a setup: by runs of its program on its packets, with its lists
+abbrev pub FilterAnswer : ListedView → Said → Type 0
+FilterAnswer x said = (c : Result Filtered Refusal) × Filters x c × (said ≡ filtered_answer x.setup c)
 
 abbrev pub paired_answer : Host → List (List ℕ) → Paired → Said
 paired_answer h names p = (paired_text h names p, paired_status p)
@@ -114,12 +116,12 @@ paired_answer h names p = (paired_text h names p, paired_status p)
 abbrev pub PairAnswer : ℕ → Host → SetupView → Said → Type 0
 PairAnswer turns h s said = (p : Paired) × IsPaired s turns h p × (said ≡ paired_answer h s.names p)
 
--- the answer to a setup of which this is asked
-abbrev pub AnswerTo : Question → SetupView → Said → Type 0
-AnswerTo question.Check = SetupAnswer
-AnswerTo question.Explain = ExplainAnswer
-AnswerTo question.Run = RunAnswer
-AnswerTo question.Filter = FilterAnswer
+-- the answer to a setup with lists of which this is asked
+abbrev pub AnswerTo : Question → ListedView → Said → Type 0
+AnswerTo question.Check x = SetupAnswer x.setup
+AnswerTo question.Explain x = ExplainAnswer x.setup
+AnswerTo question.Run x = RunAnswer x
+AnswerTo question.Filter x = FilterAnswer x
 
 -- the line of the first fault of settings
 abbrev pub RefusedAnswer : List ℕ → RefusedAt → Said → Type 0
@@ -143,9 +145,16 @@ SpelledAnswer answer refused (Err f) said = refused f said
 abbrev pub MemoryAnswer : List ℕ → Said → Type 0
 MemoryAnswer settings said = (text_of settings ≢ None) × (said ≡ settings_refused Memory)
 
--- the answer to settings
-abbrev pub SettingsAnswer : (SetupView → Said → Type 0) → (List ℕ → RefusedAt → Said → Type 0) → List ℕ → Said → Type 0
-SettingsAnswer answer refused settings said = SpelledAnswer answer (refused settings) (setup_of settings) said ⊎ MemoryAnswer settings said
+-- the answer to settings whose maps may have no lists
+abbrev pub SettingsAnswer : (SetupView → Said → Type 0) → List ℕ → Said → Type 0
+SettingsAnswer answer settings said = SpelledAnswer answer (RefusedAnswer settings) (setup_of settings) said ⊎ MemoryAnswer settings said
+
+-- the answer to settings whose maps may have lists, of which this is asked: to their setup, or to their first fault
+abbrev pub ListedAnswer : Question → List ℕ → Said → Type 0
+ListedAnswer q settings said =
+    ((x : ListedView) × IsSetupOf settings x × AnswerTo q x said)
+    ⊎ (((r : RefusedAt) × IsFirstFault settings r × RefusedTo q settings r said)
+    ⊎ MemoryAnswer settings said)
 
 -- the answer to settings with an original
 abbrev pub RewrittenAnswer : List ℕ → Said → Type 0
@@ -162,22 +171,24 @@ pub record IsSettings (old new : Option (List ℕ)) (settings : List ℕ) : Type
 abbrev pub InputSame : Option (List ℕ) → Option (List ℕ) → Said → Type 0
 InputSame old new said = (settings : List ℕ) × IsSettings old new settings × RewrittenAnswer settings said
 
--- the answer to the settings that a reader gives
-abbrev pub InputAnswer : (SetupView → Said → Type 0) → (List ℕ → RefusedAt → Said → Type 0) → Option (List ℕ) → Option (List ℕ) → Said →
-    Type 0
-InputAnswer answer refused old new said =
-    (settings : List ℕ) × IsSettings old new settings × SettingsAnswer answer refused settings said
+-- the answer to the settings that a reader gives, whose maps may have no lists
+abbrev pub InputAnswer : (SetupView → Said → Type 0) → Option (List ℕ) → Option (List ℕ) → Said → Type 0
+InputAnswer answer old new said = (settings : List ℕ) × IsSettings old new settings × SettingsAnswer answer settings said
+
+-- the answer to the settings that a reader gives, whose maps may have lists
+abbrev pub InputListed : Question → Option (List ℕ) → Option (List ℕ) → Said → Type 0
+InputListed q old new said = (settings : List ℕ) × IsSettings old new settings × ListedAnswer q settings said
 
 -- the answer to what the words ask for, over a reader before and after
 abbrev pub IsAnswer : Option Wanted → Option (List ℕ) → Option (List ℕ) → Said → Type 0
 IsAnswer None old new said = said ≡ words_refused
 IsAnswer (Some (exec program packet)) old new said = ExecAnswer program packet said
-IsAnswer (Some check) old new said = InputAnswer SetupAnswer RefusedAnswer old new said
-IsAnswer (Some explain) old new said = InputAnswer ExplainAnswer PlacedAnswer old new said
+IsAnswer (Some check) old new said = InputListed question.Check old new said
+IsAnswer (Some explain) old new said = InputListed question.Explain old new said
 IsAnswer (Some same) old new said = InputSame old new said
-IsAnswer (Some run) old new said = InputAnswer RunAnswer RefusedAnswer old new said
-IsAnswer (Some filter) old new said = InputAnswer FilterAnswer RefusedAnswer old new said
-IsAnswer (Some (pair turns h)) old new said = InputAnswer (PairAnswer turns h) RefusedAnswer old new said
+IsAnswer (Some run) old new said = InputListed question.Run old new said
+IsAnswer (Some filter) old new said = InputListed question.Filter old new said
+IsAnswer (Some (pair turns h)) old new said = InputAnswer (PairAnswer turns h) old new said
 IsAnswer (Some (help t)) old new said = said ≡ (help_lines t, 0)
 IsAnswer (Some version) old new said = said ≡ (version_line, 0)
 

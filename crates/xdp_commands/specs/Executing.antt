@@ -10,7 +10,7 @@ use Rattle.bpf_verify.specs.FirstRefusal.{IsFaultless, IsRefusal}
 use Rattle.bpf_verify.specs.Consistent.{Accepted as Program, instructions}
 use Rattle.bpf_vm.specs.Run.{IsRunOf}
 use Rattle.bpf_vm.specs.declared.ended.Ended.{Ended}
-use Rattle.xdp_load.specs.Setup.{SetupView}
+use Rattle.xdp_load.specs.Listed.{ListedView}
 use Rattle.xdp_world.specs.Report.{IsCoreRun}
 use Rattle.xdp_world.specs.declared.report.Report.{Report}
 use Rattle.xdp_commands.specs.declared.executing.Accepted.{Accepted}
@@ -45,16 +45,16 @@ pub record IsProgramOf (program : List ℕ) (shapes : List Shape) (p : Program) 
   pub faultless : IsFaultless p.code shapes
   pub maps : p.shapes ≡ shapes
 
--- the report is that of the queues of a setup's program through the steps of its script
-pub record IsRunOfSetup (s : SetupView) (r : Report) : Type 0 where
+-- the report is that of the queues of a setup's program through the steps of its script, with its lists
+pub record IsRunOfSetup (x : ListedView) (r : Report) : Type 0 where
   pub program : Program
-  pub accepted : IsProgramOf s.program s.shapes program
-  pub run : IsCoreRun program s.queues s.ifindex s.start s.script r
+  pub accepted : IsProgramOf x.setup.program x.setup.shapes program
+  pub run : IsCoreRun program x.lists x.setup.queues x.setup.ifindex x.setup.start x.setup.script r
 
 -- a run of a setup, or a refusal of its program
-abbrev pub Runs : SetupView → Result Report Refusal → Type 0
-Runs s (Ok report) = IsRunOfSetup s report
-Runs s (Err refusal) = IsRefusalOfBytes s.program s.shapes refusal
+abbrev pub Runs : ListedView → Result Report Refusal → Type 0
+Runs x (Ok report) = IsRunOfSetup x report
+Runs x (Err refusal) = IsRefusalOfBytes x.setup.program x.setup.shapes refusal
 
 -- the bytes spell a program without a cause of refusal, and it has this many instructions and slots
 pub record IsAccepted (program : List ℕ) (shapes : List Shape) (accepted : Accepted) : Type 0 where

@@ -1,13 +1,15 @@
 -- Stated: claims rest on this file.
--- What a program makes of a setup's packets, one after another, and the lines of it.
-use Rattle.std.specs.Prelude.{ℕ, ◌≡◌, List, [], ◌∷◌, ◌++◌, codes, decimal, length, replicate, string_bytes, vec_len, Result, Ok, Err}
+-- What a program makes of a setup's packets, one after another, with the setup's lists, and the lines of it.
+use Rattle.std.specs.Prelude.{ℕ, ◌≡◌, List, [], ◌∷◌, ◌++◌, codes, decimal, length, replicate, string_bytes, vec_len, Option, Result, Ok, Err}
 use Rattle.hex.specs.Hex.{encode_lower}
 use Rattle.bpf_insn.specs.declared.refusal.Refusal.{Refusal}
+use Rattle.bpf_lists.specs.declared.list.MapList.{MapList}
 use Rattle.bpf_maps.specs.Layout.{total}
 use Rattle.bpf_note.specs.Shape.{Shape}
 use Rattle.bpf_verify.specs.Consistent.{Accepted as Program}
 use Rattle.bpf_vm.specs.Actions.{action_name, action_of}
-use Rattle.xdp_load.specs.Setup.{Packet, SetupView}
+use Rattle.xdp_load.specs.Listed.{ListedView}
+use Rattle.xdp_load.specs.Setup.{Packet}
 use Rattle.xdp_program.specs.Ran.{Ran}
 use Rattle.xdp_commands.specs.CounterLines.{totals_text}
 use Rattle.xdp_commands.specs.Executing.{IsProgramOf, IsRefusalOfBytes}
@@ -24,14 +26,14 @@ pub record Passed : Type 0 where
   pub number : ℕ
   pub bytes : List ℕ
 
--- runs on these packets in turn, each with the packet's queue and the words that the last left of the counters
-abbrev pub AreRuns : Program → ℕ → List Packet → List ℕ → List Passed → List ℕ → Type 0
-AreRuns program ifindex [] before [] after = before ≡ after
-AreRuns program ifindex [] before (r ∷ rs) after = ⊥
-AreRuns program ifindex (p ∷ ps) before [] after = ⊥
-AreRuns program ifindex (p ∷ ps) before (r ∷ rs) after =
-    (count : ℕ) × (between : List ℕ) × Ran program [] p.bytes ifindex p.queue before r.number r.bytes between count ×
-    AreRuns program ifindex ps between rs after
+-- runs on these packets in turn with these lists, each with the packet's queue and the words that the last left of the counters
+abbrev pub AreRuns : Program → List (Option MapList) → ℕ → List Packet → List ℕ → List Passed → List ℕ → Type 0
+AreRuns program lists ifindex [] before [] after = before ≡ after
+AreRuns program lists ifindex [] before (r ∷ rs) after = ⊥
+AreRuns program lists ifindex (p ∷ ps) before [] after = ⊥
+AreRuns program lists ifindex (p ∷ ps) before (r ∷ rs) after =
+    (count : ℕ) × (between : List ℕ) × Ran program lists p.bytes ifindex p.queue before r.number r.bytes between count ×
+    AreRuns program lists ifindex ps between rs after
 
 -- the action, the packet's length and its bytes in lower-case hex
 abbrev pub passed_text : Passed → List ℕ
@@ -42,23 +44,24 @@ abbrev pub passed_lines : List Passed → List ℕ
 passed_lines [] = []
 passed_lines (r ∷ rs) = passed_text r ++ passed_lines rs
 
--- runs of the program, with their lines, from these words and lines to those
-pub record Goes (program : Program) (ifindex : ℕ) (packets : List Packet) (before lines after more : List ℕ) : Type 0 where
+-- runs of the program with these lists, with their lines, from these words and lines to those
+pub record Goes (program : Program) (lists : List (Option MapList)) (ifindex : ℕ) (packets : List Packet) (before lines after more : List ℕ) : Type 0 where
   pub runs : List Passed
-  pub ran : AreRuns program ifindex packets before runs after
+  pub ran : AreRuns program lists ifindex packets before runs after
   pub printed : more ≡ lines ++ passed_lines runs
 
 -- the runs of a setup's accepted program on its packets, from counters that are all 0
-pub record IsFilterOfSetup (s : SetupView) (f : Filtered) : Type 0 where
+pub record IsFilterOfSetup (x : ListedView) (f : Filtered) : Type 0 where
   pub program : Program
-  pub accepted : IsProgramOf s.program s.shapes program
-  pub width : vec_len f.words ≡ total s.shapes
-  pub goes : Goes program s.ifindex (inputs_of s.packets) (replicate (total s.shapes) 0) [] f.words.items (string_bytes f.lines)
+  pub accepted : IsProgramOf x.setup.program x.setup.shapes program
+  pub width : vec_len f.words ≡ total x.setup.shapes
+  pub goes : Goes program x.lists x.setup.ifindex (inputs_of x.setup.packets) (replicate (total x.setup.shapes) 0) [] f.words.items
+      (string_bytes f.lines)
 
 -- the runs of a setup's packets, or a refusal of its program
-abbrev pub Filters : SetupView → Result Filtered Refusal → Type 0
-Filters s (Ok f) = IsFilterOfSetup s f
-Filters s (Err refusal) = IsRefusalOfBytes s.program s.shapes refusal
+abbrev pub Filters : ListedView → Result Filtered Refusal → Type 0
+Filters x (Ok f) = IsFilterOfSetup x f
+Filters x (Err refusal) = IsRefusalOfBytes x.setup.program x.setup.shapes refusal
 
 -- the lines of the runs, then those of the counters of maps with these names
 abbrev pub filtered_text : List (List ℕ) → List Shape → Result Filtered Refusal → List ℕ

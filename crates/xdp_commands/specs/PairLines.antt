@@ -1,8 +1,8 @@
 -- Stated: claims rest on this file.
 -- The lines of queues that ran on threads.
 use Rattle.std.specs.Prelude.{ℕ, ◌+◌, List, [], ◌∷◌, ◌++◌, codes, decimal, Option, None, Some}
-use Rattle.xen_back.specs.Causes.{halt_number}
-use Rattle.xen_back.specs.declared.turn.Halt.{Halt}
+use Rattle.xen_turns.specs.Causes.{halt_number}
+use Rattle.xen_turns.specs.declared.turn.Halt.{Halt}
 use Rattle.thread_pair.specs.declared.host.Host.{Host}
 use Rattle.thread_pair.specs.declared.host.Host.TheVariants as host
 use Rattle.thread_pair.specs.declared.report.Deliveries.{Deliveries}

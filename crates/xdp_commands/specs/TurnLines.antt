@@ -4,7 +4,7 @@ use Rattle.std.specs.Prelude.{ℕ, ◌+◌, List, [], ◌∷◌, ◌++◌, codes
 use Rattle.std.specs.Global.{Vec}
 use Rattle.hex.specs.Hex.{encode_lower}
 use Rattle.bpf_vm.specs.Actions.{action_name}
-use Rattle.xen_back.specs.Causes.{halt_number, refusal_number}
+use Rattle.xen_turns.specs.Causes.{halt_number, refusal_number}
 use Rattle.xdp_world.specs.declared.kept.Kept.{Kept}
 use Rattle.xdp_world.specs.declared.kept.Kept.TheVariants as kept
 

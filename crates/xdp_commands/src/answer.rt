@@ -1,11 +1,14 @@
 //! What the program answers.
 ghost use Rattle.std.specs.Prelude.{◌≡◌, ◌≤◌, IfOk, IfErr, Some, length, option_map};
+ghost use Rattle.bpf_note.specs.Shape.{most_maps};
+ghost use Rattle.xdp_load.specs.ListedGiven.{listed_view};
+ghost use Rattle.xdp_load.specs.ListedSound.{IsListedSound};
 ghost use Rattle.xdp_load.specs.OriginalSeen.{rewritten_view};
 ghost use Rattle.xdp_load.specs.SetupSeen.{setup_view};
 ghost use Rattle.xdp_load.specs.Sound.{IsSound};
 ghost use Rattle.xdp_load.specs.SpotSeen.{refused_seen};
-ghost use Rattle.xdp_commands.specs.Answer.{AnswerTo, ExecAnswer, ExplainAnswer, FilterAnswer, InputAnswer, IsAnswer, PacketAnswer};
-ghost use Rattle.xdp_commands.specs.Answer.{PairAnswer, PlacedAnswer, Reads, RefusedAnswer, RefusedTo, RewrittenAnswer};
+ghost use Rattle.xdp_commands.specs.Answer.{AnswerTo, ExecAnswer, ExplainAnswer, FilterAnswer, InputListed, IsAnswer, ListedAnswer, PacketAnswer};
+ghost use Rattle.xdp_commands.specs.Answer.{PairAnswer, PlacedAnswer, Reads, RefusedTo, RewrittenAnswer};
 ghost use Rattle.xdp_commands.specs.Answer.{RunAnswer, SameAnswer, SettingsAnswer, SetupAnswer};
 ghost use Rattle.xdp_commands.specs.Answer.{checked_answer, executed_answer, hex_bytes, program_status, settings_refused};
 ghost use Rattle.xdp_commands.specs.Answer.{Takes, TakesAtMost, words_refused};
@@ -32,7 +35,9 @@ use std::io::Read;
 use std::sync::Wait;
 use std::thread::Threads;
 use thread_pair::Host;
-use xdp_load::{LoadError, LoadFault, Refused, Rewritten, Setup, fault_text, load, load_rewritten};
+use xdp_load::{
+    Listed, LoadError, LoadFault, Refused, Rewritten, Setup, fault_text, load, load_rewritten,
+};
 
 /// A text that is printed, and the exit status.
 #[derive(Drop)]
@@ -138,7 +143,7 @@ fn placed_answer(alloc: Global, settings: &[u8], refused: &Refused) -> Result<An
     Ok(Answer { text, status: 2 })
 }
 
-/// What is asked of settings, and is answered without threads.
+/// What is asked of settings whose maps may have lists.
 #[derive(Clone, Copy)]
 enum Question {
     /// Whether the program is accepted.
@@ -153,7 +158,7 @@ enum Question {
 
 /// The answer to a setup whose program is checked.
 fn checked_setup_answer(alloc: Global, setup: &Setup) -> Result<Answer, AllocError>
-    requires { length setup.now.shapes.items ≤ 4 }
+    requires { length setup.now.shapes.items ≤ most_maps }
     ensures { IfOk result (λ a. SetupAnswer (setup_view setup.now) (said_of a)) }
 {
     let checked = check(alloc, setup.program.as_slice(), setup.shapes.as_slice());
@@ -162,7 +167,7 @@ fn checked_setup_answer(alloc: Global, setup: &Setup) -> Result<Answer, AllocErr
 
 /// The answer to a setup whose program is explained.
 fn explain_answer(alloc: Global, setup: &Setup) -> Result<Answer, AllocError>
-    requires { length setup.now.shapes.items ≤ 4 }
+    requires { length setup.now.shapes.items ≤ most_maps }
     ensures { IfOk result (λ a. ExplainAnswer (setup_view setup.now) (said_of a)) }
 {
     let outcome = outcome_of(alloc, setup.program.as_slice(), setup.shapes.as_slice())?;
@@ -180,11 +185,12 @@ fn explain_answer(alloc: Global, setup: &Setup) -> Result<Answer, AllocError>
 }
 
 /// The answer to a setup whose queues are run.
-fn run_answer(alloc: Global, setup: &Setup) -> Result<Answer, AllocError>
-    requires { IsSound (setup_view setup.now) }
-    ensures { IfOk result (λ a. RunAnswer (setup_view setup.now) (said_of a)) }
+fn run_answer(alloc: Global, listed: &Listed) -> Result<Answer, AllocError>
+    requires { IsListedSound (listed_view listed.now) }
+    ensures { IfOk result (λ a. RunAnswer (listed_view listed.now) (said_of a)) }
 {
-    let ran = run(alloc, setup)?;
+    let ran = run(alloc, listed)?;
+    let setup = &listed.setup;
     let text = ran_text(alloc, setup.names.as_slice(), setup.shapes.as_slice(), &ran)?;
     Ok(Answer {
         text,
@@ -193,12 +199,13 @@ fn run_answer(alloc: Global, setup: &Setup) -> Result<Answer, AllocError>
 }
 
 /// The answer to a setup whose program is run on its packets.
-fn filter_answer(alloc: Global, setup: &Setup) -> Result<Answer, AllocError>
-    requires { IsSound (setup_view setup.now) }
-    ensures { IfOk result (λ a. FilterAnswer (setup_view setup.now) (said_of a)) }
+fn filter_answer(alloc: Global, listed: &Listed) -> Result<Answer, AllocError>
+    requires { IsListedSound (listed_view listed.now) }
+    ensures { IfOk result (λ a. FilterAnswer (listed_view listed.now) (said_of a)) }
 {
-    let filtered = filter(alloc, setup)?;
+    let filtered = filter(alloc, listed)?;
     let status = program_status(&filtered);
+    let setup = &listed.setup;
     let text = filtered_text(
         alloc,
         setup.names.as_slice(),
@@ -247,15 +254,15 @@ fn pair_answer<T: Threads + Wait + Sync>(
 }
 
 /// The answer to a setup.
-fn setup_answer(alloc: Global, question: Question, setup: &Setup) -> Result<Answer, AllocError>
-    requires { IsSound (setup_view setup.now) }
-    ensures { IfOk result (λ a. AnswerTo question (setup_view setup.now) (said_of a)) }
+fn setup_answer(alloc: Global, question: Question, listed: &Listed) -> Result<Answer, AllocError>
+    requires { IsListedSound (listed_view listed.now) }
+    ensures { IfOk result (λ a. AnswerTo question (listed_view listed.now) (said_of a)) }
 {
     match question {
-        Question::Check => checked_setup_answer(alloc, setup),
-        Question::Explain => explain_answer(alloc, setup),
-        Question::Run => run_answer(alloc, setup),
-        Question::Filter => filter_answer(alloc, setup),
+        Question::Check => checked_setup_answer(alloc, &listed.setup),
+        Question::Explain => explain_answer(alloc, &listed.setup),
+        Question::Run => run_answer(alloc, listed),
+        Question::Filter => filter_answer(alloc, listed),
     }
 }
 
@@ -276,10 +283,10 @@ fn fault_answer(
 
 /// The answer to settings.
 fn settings_answer(alloc: Global, question: Question, settings: &[u8]) -> Result<Answer, AllocError>
-    ensures { IfOk result (λ a. SettingsAnswer (AnswerTo question) (RefusedTo question) settings.now (said_of a)) }
+    ensures { IfOk result (λ a. ListedAnswer question settings.now (said_of a)) }
 {
-    match load(alloc, settings) {
-        Ok(setup) => setup_answer(alloc, question, &setup),
+    match xdp_program::read_settings(alloc, settings) {
+        Ok(listed) => setup_answer(alloc, question, &listed),
         Err(LoadError::Memory) => settings_refused(alloc, LoadFault::Memory),
         Err(LoadError::Refused(refused)) => fault_answer(alloc, question, settings, &refused),
     }
@@ -303,7 +310,7 @@ fn threads_answer<T: Threads + Wait + Sync>(
     turns: u32,
     settings: &[u8],
 ) -> Result<Answer, AllocError>
-    ensures { IfOk result (λ a. SettingsAnswer (PairAnswer turns host) RefusedAnswer settings.now (said_of a)) }
+    ensures { IfOk result (λ a. SettingsAnswer (PairAnswer turns host) settings.now (said_of a)) }
 {
     match load(alloc, settings) {
         Ok(setup) => pair_answer(rt, alloc, &setup, host, turns),
@@ -313,8 +320,7 @@ fn threads_answer<T: Threads + Wait + Sync>(
 
 /// The answer to the settings that the input gives.
 fn input_answer<R: Read>(alloc: Global, question: Question, input: &mut R) -> Result<Answer, Stop>
-    ensures answer { IfOk result (λ a. InputAnswer (AnswerTo question) (RefusedTo question) (R.remaining input.old)
-        (R.remaining input.new) (said_of a)) }
+    ensures answer { IfOk result (λ a. InputListed question (R.remaining input.old) (R.remaining input.new) (said_of a)) }
     ensures takes { TakesAtMost 1048577 (R.remaining input.old) (R.remaining input.new) }
 {
     let settings = read_settings(alloc, input)?;

@@ -1,5 +1,6 @@
 //! The lines of the counters that a run leaves.
-ghost use Rattle.std.specs.Prelude.{◌≡◌, ◌<◌, ◌++◌, IfOk, OnOk, Some, length, map, slice_get, string_bytes};
+ghost use Rattle.std.specs.Prelude.{◌≡◌, ◌<◌, ◌≤◌, ◌++◌, IfOk, OnOk, Some, length, map, slice_get, string_bytes};
+ghost use Rattle.bpf_note.specs.Shape.{most_maps};
 ghost use Rattle.xdp_commands.specs.CounterLines.{counter_text, map_text, maps_text, place_text, value_text};
 
 use crate::numbers::Numbers;
@@ -85,7 +86,7 @@ pub fn add_counters<N: Numbers>(
     numbers: &N,
 ) -> Result<(), AllocError>
     requires named { length names.now ≡ length shapes.now }
-    requires few { length shapes.now < 5 }
+    requires few { length shapes.now ≤ most_maps }
     requires shapes { N.shapes_of numbers.now ≡ shapes.now }
     ensures { OnOk result (string_bytes text.new ≡ string_bytes text.old
         ++ maps_text (N.number_at numbers.now) 0 (map string_bytes names.now) shapes.now) }

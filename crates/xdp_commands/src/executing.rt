@@ -1,19 +1,20 @@
 //! What becomes of a program's bytes.
 ghost use Rattle.std.specs.Prelude.{◌≤◌, IfErr, IfOk, length};
-ghost use Rattle.xdp_load.specs.SetupSeen.{setup_view};
-ghost use Rattle.xdp_load.specs.Sound.{IsSound};
+ghost use Rattle.bpf_note.specs.Shape.{most_maps};
+ghost use Rattle.xdp_load.specs.ListedGiven.{listed_view};
+ghost use Rattle.xdp_load.specs.ListedSound.{IsListedSound};
 ghost use Rattle.xdp_commands.specs.Executing.{Checks, Executes, IsProgramOf, IsRefusalOfBytes, Runs};
 
 use bpf_insn::{Refusal, decode};
 use bpf_verify::{MapShape, Verified, verify};
 use bpf_vm::{Ended, PacketBuf, run_to_end};
 use std::alloc::{AllocError, Global};
-use xdp_load::Setup;
+use xdp_load::Listed;
 use xdp_world::{Report, World};
 
 /// Accepts a program with its maps, or refuses it.
 pub fn accept(alloc: Global, program: &[u8], shapes: &[MapShape]) -> Result<Verified, Refusal>
-    requires { length shapes.now ≤ 4 }
+    requires { length shapes.now ≤ most_maps }
     ensures ok { IfOk result (IsProgramOf program.now shapes.now) }
     ensures err { IfErr result (IsRefusalOfBytes program.now shapes.now) }
 {
@@ -42,7 +43,7 @@ pub struct Accepted {
 
 /// Accepts a program with its maps, or refuses it.
 pub fn check(alloc: Global, program: &[u8], shapes: &[MapShape]) -> Result<Accepted, Refusal>
-    requires { length shapes.now ≤ 4 }
+    requires { length shapes.now ≤ most_maps }
     ensures { Checks program.now shapes.now result }
 {
     let verified = accept(alloc, program, shapes)?;
@@ -52,16 +53,19 @@ pub fn check(alloc: Global, program: &[u8], shapes: &[MapShape]) -> Result<Accep
     })
 }
 
-/// Accepts the program of a setup and runs the setup's queues through the steps of its script, or refuses the program.
-pub fn run(alloc: Global, setup: &Setup) -> Result<Result<Report, Refusal>, AllocError>
-    requires { IsSound (setup_view setup.now) }
-    ensures { IfOk result (Runs (setup_view setup.now)) }
+/// Accepts the program of a setup and runs the setup's queues through the steps of its script, with its lists, or refuses the
+/// program.
+pub fn run(alloc: Global, listed: &Listed) -> Result<Result<Report, Refusal>, AllocError>
+    requires { IsListedSound (listed_view listed.now) }
+    ensures { IfOk result (Runs (listed_view listed.now)) }
 {
+    let setup = &listed.setup;
     match accept(alloc, setup.program.as_slice(), setup.shapes.as_slice()) {
         Ok(program) => {
             let report = World::run(
                 alloc,
                 &program,
+                listed.lists.as_slice(),
                 setup.queues,
                 setup.ifindex,
                 setup.start,

@@ -1,5 +1,6 @@
 //! What becomes of a program's bytes, with what a refusal rests on.
 ghost use Rattle.std.specs.Prelude.{◌≡◌, ◌≤◌, IfOk, IfSome, Some, length, map, string_bytes};
+ghost use Rattle.bpf_note.specs.Shape.{most_maps};
 ghost use Rattle.bpf_verify.specs.Consistent.{IsOrdered};
 ghost use Rattle.bpf_verify.specs.FirstRefusal.{IsStructured};
 ghost use Rattle.xdp_commands.specs.Explaining.{IsLossOf, IsOutcome, accepted_text, asked_of, loss_line, loss_text, outcome_status};
@@ -94,7 +95,7 @@ fn loss_of(
 
 /// Accepts a program with its maps, or says what its refusal rests on.
 pub fn outcome_of(alloc: Global, program: &[u8], shapes: &[MapShape]) -> Result<Outcome, AllocError>
-    requires { length shapes.now ≤ 4 }
+    requires { length shapes.now ≤ most_maps }
     ensures { IfOk result (IsOutcome program.now shapes.now) }
 {
     match decode(alloc, program) {

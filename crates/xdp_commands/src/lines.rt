@@ -1,6 +1,7 @@
 //! The lines that the program prints.
-ghost use Rattle.std.specs.Prelude.{◌≡◌, ◌<◌, IfOk, length, map, string_bytes, vec_len};
+ghost use Rattle.std.specs.Prelude.{◌≡◌, ◌≤◌, IfOk, length, map, string_bytes, vec_len};
 ghost use Rattle.bpf_maps.specs.Layout.{total};
+ghost use Rattle.bpf_note.specs.Shape.{most_maps};
 ghost use Rattle.xdp_commands.specs.Filtering.{filtered_text};
 ghost use Rattle.xdp_commands.specs.Lines.{checked_text, ended_text, executed_text, ran_text, refused_text, report_text, settings_text};
 
@@ -82,7 +83,7 @@ fn report_text(
     report: &Report,
 ) -> Result<String, AllocError>
     requires named { length names.now ≡ length shapes.now }
-    requires few { length shapes.now < 5 }
+    requires few { length shapes.now ≤ most_maps }
     requires shapes { report.now.totals.shapes ≡ shapes.now }
     ensures { IfOk result (λ s. string_bytes s ≡ report_text (map string_bytes names.now) report.now) }
 {
@@ -100,7 +101,7 @@ pub fn ran_text(
     ran: &Result<Report, Refusal>,
 ) -> Result<String, AllocError>
     requires named { length names.now ≡ length shapes.now }
-    requires few { length shapes.now < 5 }
+    requires few { length shapes.now ≤ most_maps }
     requires shapes { IfOk ran.now (λ r. r.totals.shapes ≡ shapes.now) }
     ensures { IfOk result (λ s. string_bytes s ≡ ran_text (map string_bytes names.now) ran.now) }
 {
@@ -118,7 +119,7 @@ pub fn filtered_text(
     filtered: Result<Filtered, Refusal>,
 ) -> Result<String, AllocError>
     requires named { length names.now ≡ length shapes.now }
-    requires few { length shapes.now < 5 }
+    requires few { length shapes.now ≤ most_maps }
     requires words { IfOk filtered (λ f. vec_len f.words ≡ total shapes.now) }
     ensures { IfOk result (λ s. string_bytes s ≡ filtered_text (map string_bytes names.now) shapes.now filtered) }
 {

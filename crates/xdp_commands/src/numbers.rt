@@ -43,21 +43,23 @@ impl<'a> Model for Words<'a> {
     ghost use Rattle.std.specs.Prelude.{◌≡◌, ◌≤◌, length};
     ghost use Rattle.bpf_maps.specs.Layout.{total};
     ghost use Rattle.bpf_maps.specs.Seats.{TotalsView};
+    ghost use Rattle.bpf_note.specs.Shape.{most_maps};
 
     ghost Value = { TotalsView };
 
     ghost view = { λ w. record { shapes = w.shapes.now; values = w.words.now } };
 
-    ghost invariant = { λ w. (length w.shapes.now ≤ 4) × (length w.words.now ≡ total w.shapes.now) };
+    ghost invariant = { λ w. (length w.shapes.now ≤ most_maps) × (length w.words.now ≡ total w.shapes.now) };
 }
 
 impl<'a> Words<'a> {
     ghost use Rattle.std.specs.Prelude.{◌≡◌, ◌≤◌, length};
     ghost use Rattle.bpf_maps.specs.Layout.{total};
+    ghost use Rattle.bpf_note.specs.Shape.{most_maps};
 
     /// The counters of these maps in these words.
     pub fn of(shapes: &'a [MapShape], words: &'a [u64]) -> Words<'a>
-        requires few { length shapes.now ≤ 4 }
+        requires few { length shapes.now ≤ most_maps }
         requires all { length words.now ≡ total shapes.now }
         ensures shapes { result.shapes ≡ shapes.now }
         ensures values { result.values ≡ words.now }

@@ -1,5 +1,6 @@
 //! The lines of queues that ran on threads.
-ghost use Rattle.std.specs.Prelude.{◌≡◌, ◌<◌, ◌++◌, IfOk, OnOk, length, map, string_bytes};
+ghost use Rattle.std.specs.Prelude.{◌≡◌, ◌≤◌, ◌++◌, IfOk, OnOk, length, map, string_bytes};
+ghost use Rattle.bpf_note.specs.Shape.{most_maps};
 ghost use Rattle.xdp_commands.specs.PairLines.{delivered_text, ends_text, halted_number, pair_text, paired_status, paired_text};
 ghost use Rattle.xdp_commands.specs.PairLines.{queue_text, row_text, rows_text};
 ghost use Rattle.xdp_commands.specs.Pairing.{HasCounters};
@@ -98,7 +99,7 @@ fn report_text(
     report: &PairReport,
 ) -> Result<String, AllocError>
     requires named { length names.now ≡ length shapes.now }
-    requires few { length shapes.now < 5 }
+    requires few { length shapes.now ≤ most_maps }
     requires shapes { report.now.totals.shapes ≡ shapes.now }
     ensures { IfOk result (λ s. string_bytes s ≡ pair_text host (map string_bytes names.now) report.now) }
 {
@@ -117,7 +118,7 @@ pub fn paired_text(
     paired: &Paired,
 ) -> Result<String, AllocError>
     requires named { length names.now ≡ length shapes.now }
-    requires few { length shapes.now < 5 }
+    requires few { length shapes.now ≤ most_maps }
     requires shapes { HasCounters shapes.now paired.now }
     ensures { IfOk result (λ s. string_bytes s ≡ paired_text host (map string_bytes names.now) paired.now) }
 {

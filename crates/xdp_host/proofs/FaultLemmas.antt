@@ -4,7 +4,7 @@ use Rattle.std.specs.Prelude.{IfOk, IfErr}
 use Rattle.std.proofs.lemmas.List.{get_or-map, length-map}
 use Rattle.bpf_insn.specs.declared.refusal.Cause.TheVariants.{Memory}
 use Rattle.bpf_insn.specs.declared.refusal.Refusal.{Refusal}
-use Rattle.bpf_note.specs.Shape.{IsNarrow}
+use Rattle.bpf_note.specs.Shape.{IsNarrow, most_maps}
 use Rattle.bpf_verify.specs.Consistent.{Accepted}
 use Rattle.xdp_program.specs.Settings.{IsProgramOf, IsSettingsOutOfMemory}
 use Rattle.xdp_program.specs.declared.fault.LoadFault.{LoadFault}
@@ -32,9 +32,9 @@ refusal_out_of_memory f g r a b h = subst (λ x. IsSettingsOutOfMemory (Program 
 pub out_of_memory_loaded : (bytes : List ℕ) (maps : List XdpMap) (p : Accepted) → IsLoaded bytes maps p → IsFault bytes maps out_of_memory
 out_of_memory_loaded bytes maps p l = (l.maps_within, out_of_memory_refused p.code bytes (shapes_of maps) l.spelled)
 
-pub out_of_memory_loaded_text : (bytes : List ℕ) (p : Accepted) → IsProgramOf bytes p → length p.shapes ≤ 4 → IsFaultOfText bytes out_of_memory
+pub out_of_memory_loaded_text : (bytes : List ℕ) (p : Accepted) → IsProgramOf bytes p → length p.shapes ≤ most_maps → IsFaultOfText bytes out_of_memory
 out_of_memory_loaded_text bytes p h few =
-    (h.0, h.1, subst (λ shapes. length shapes ≤ 4) h.3 few, out_of_memory_refused p.code h.0.program h.0.shapes h.2)
+    (h.0, h.1, subst (λ shapes. length shapes ≤ most_maps) h.3 few, out_of_memory_refused p.code h.0.setup.program h.0.setup.shapes h.2)
 
 -- what is known of a program is known of the one that was put into a box, and what is known of the fault of the other answer
 pub ok_with : {X E A : Type 0} (r : Result X E) (view : X → A) (P : A → Type 0) (p : A) → IfOk r (λ x. view x ≡ p) → P p → IfOk r (λ x. P (view x))

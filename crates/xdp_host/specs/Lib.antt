@@ -8,5 +8,8 @@ pub mod Ops
 pub mod Made
 pub mod Stepped
 pub mod Begins
+pub mod Relisted
 pub mod Maps
 pub mod Advice
+pub mod CountersHandle
+pub mod Shared

@@ -1,9 +1,9 @@
 -- Stated: claims rest on this file.
 -- Where a queue stands, in the numbers of include/laxonje.h.
 use Rattle.std.specs.Prelude.{Option, None, Some}
-use Rattle.xen_back.specs.Causes.{halt_number}
-use Rattle.xen_back.specs.declared.state.State.{State}
-use Rattle.xen_back.specs.declared.turn.Halt.{Halt}
+use Rattle.xen_turns.specs.Causes.{halt_number}
+use Rattle.xen_turns.specs.declared.state.State.{State}
+use Rattle.xen_turns.specs.declared.turn.Halt.{Halt}
 use Rattle.xdp_host.specs.declared.queue_abi.XdpQueueState.{XdpQueueState}
 
 -- no queue, or one inside a turn

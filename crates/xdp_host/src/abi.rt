@@ -1,11 +1,12 @@
 //! What crosses to C. `include/laxonje.h` has these structs in the same order.
 ghost use Rattle.std.specs.Prelude.{◌≡◌};
 ghost use Rattle.xdp_host.specs.Ran.{action_number, nothing, run_of};
+ghost use Rattle.xdp_host.specs.Relisted.{relist_verdict};
 ghost use Rattle.xdp_host.specs.Verdict.{accepting, verdict_of};
 
 use crate::fault::Fault;
 use bpf_vm::Action;
-use xdp_program::Run;
+use xdp_program::{RelistFault, Run};
 
 /// The size of a map.
 #[repr(C)]
@@ -15,8 +16,8 @@ pub struct XdpMap {
     pub counters: u32,
 }
 
-/// What became of a program: the header says what the numbers mean. None is made but of a fault, or of a program's number
-/// of instructions.
+/// What became of a program or of its lists: the header says what the numbers mean. None is made but of a fault, or of a program's
+/// number of instructions.
 #[repr(C)]
 #[derive(Clone, Copy, Debug, PartialEq, Eq, Drop)]
 pub struct XdpVerdict {
@@ -52,6 +53,21 @@ impl From<Fault> for XdpVerdict {
             kind,
             cause: u32::from(cause),
             at,
+        }
+    }
+}
+
+impl From<RelistFault> for XdpVerdict {
+    ghost from_gives = { λ fault v. v ≡ relist_verdict fault };
+
+    fn from(fault: RelistFault) -> XdpVerdict {
+        match fault {
+            RelistFault::Text(fault) => XdpVerdict::from(Fault::Text(fault)),
+            RelistFault::Other => XdpVerdict {
+                kind: 6,
+                cause: 0,
+                at: 0,
+            },
         }
     }
 }

@@ -23,7 +23,7 @@ fn run_one(
     queue: u32,
 ) -> XdpRun
     ensures kept { held.new ≡ held.old }
-    ensures ran { RunsOne held.old.program ifindex queue packet result
+    ensures ran { RunsOne held.old.program held.old.lists ifindex queue packet result
         (record { bytes = bytes.old; words = counters.old }) (record { bytes = bytes.new; words = counters.new }) }
 {
     let XdpPacket { start, length } = packet;
@@ -45,7 +45,7 @@ pub fn run_each(
     queue: u32,
 ) -> usize
     ensures kept { held.new ≡ held.old }
-    ensures ran { RanEach held.old.program ifindex queue (record { bytes = bytes.old; words = counters.old })
+    ensures ran { RanEach held.old.program held.old.lists ifindex queue (record { bytes = bytes.old; words = counters.old })
         (take result packets.now) (take result results.new) (record { bytes = bytes.new; words = counters.new }) }
     ensures count { result ≡ min (length packets.now) (length results.old) }
     ensures rest { drop result results.new ≡ drop result results.old }

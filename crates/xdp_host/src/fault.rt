@@ -10,7 +10,7 @@ pub enum Fault {
     Refused(Refusal),
     /// The first map that is out of its limits, or the fifth.
     Map(u32),
-    /// The settings text has a fault, L0 to L7.
+    /// The settings text has a fault, L0 to L8.
     Text(TextFault),
     /// There is no program to make another of.
     Empty,

@@ -1,14 +1,15 @@
 //! An accepted program, and what C gives in the words of the libraries.
-ghost use Rattle.std.specs.Prelude.{◌≡◌, ◌≤◌, ℕ, List, [], All, IfOk, IfErr, Ok, length, take};
+ghost use Rattle.std.specs.Prelude.{◌≡◌, ◌≤◌, ℕ, List, [], All, IfOk, IfErr, length, take};
 ghost use Rattle.bpf_insn.specs.Code.{Spells};
 ghost use Rattle.bpf_insn.specs.declared.insn.Insn.{Insn};
 ghost use Rattle.bpf_note.specs.Shape.{IsNarrow};
 ghost use Rattle.bpf_verify.specs.Consistent.{instructions};
 ghost use Rattle.bpf_verify.specs.FirstRefusal.{IsFaultless};
-ghost use Rattle.xdp_load.specs.Setup.{SetupView, setup_of};
+ghost use Rattle.bpf_note.specs.Shape.{most_maps};
+ghost use Rattle.xdp_load.specs.Listed.{ListedView};
 ghost use Rattle.xdp_program.specs.Ran.{Ran};
 ghost use Rattle.xdp_program.specs.Refused.{IsMade, IsUnmade};
-ghost use Rattle.xdp_program.specs.Settings.{AreNamesOf, IsProgramOf};
+ghost use Rattle.xdp_program.specs.Settings.{AreListsOf, AreNamesOf, IsProgramOf, IsSetupOf};
 ghost use Rattle.xdp_host.specs.Answers.{AreWithin, IsFault, IsFaultOfText, IsFirstOutside, IsLoaded, IsOutOfMemory, shape_of, shapes_of};
 ghost use Rattle.xdp_host.specs.Verdict.{accepting, out_of_memory};
 
@@ -17,7 +18,7 @@ use crate::fault::Fault;
 use std::alloc::Global;
 use std::marker::Model;
 use xdp_program::{
-    LoadFault, MapNames, MapShape, NamedProgram, Program, Run, STACK_SIZE, SettingsFault,
+    Lists, LoadFault, MapNames, MapShape, NamedProgram, Program, Run, STACK_SIZE, SettingsFault,
     load_settings,
 };
 
@@ -36,11 +37,12 @@ impl Model for Stack {
     ghost view = { λ _. tt };
 }
 
-/// An accepted program, the names of its maps, and its stack.
+/// An accepted program, the names and the lists of its maps, and its stack.
 #[derive(Drop)]
 pub struct LoadedProgram {
     pub program: Program,
     pub names: MapNames,
+    pub lists: Lists,
     stack: Stack,
 }
 
@@ -99,9 +101,11 @@ fn accept(alloc: Global, program: &[u8], maps: &[XdpMap]) -> Result<Program, Fau
 fn accept_text(alloc: Global, text: &[u8]) -> Result<NamedProgram, Fault>
     ensures loaded { IfOk result (λ n. IsProgramOf text.now n.program) }
     ensures names { IfOk result (λ n. AreNamesOf text.now n.names) }
-    ensures few { IfOk result (λ n. length n.program.shapes ≤ 4) }
+    ensures lists { IfOk result (λ n. AreListsOf text.now n.lists) }
+    ensures few { IfOk result (λ n. length n.program.shapes ≤ most_maps) }
     ensures fault { IfErr result (IsFaultOfText text.now) }
-    ensures accepted { (s : SetupView) (code : List Insn) → setup_of text.now ≡ Ok s → Spells code s.program → IsFaultless code s.shapes →
+    ensures accepted { (x : ListedView) (code : List Insn) → IsSetupOf text.now x → Spells code x.setup.program →
+        IsFaultless code x.setup.shapes →
         IfErr result IsOutOfMemory }
 {
     match load_settings(alloc, text) {
@@ -114,9 +118,15 @@ fn accept_text(alloc: Global, text: &[u8]) -> Result<NamedProgram, Fault>
 
 impl LoadedProgram {
     /// A box of a program.
-    fn boxed(alloc: Global, program: Program, names: MapNames) -> Result<Box<LoadedProgram>, Fault>
+    fn boxed(
+        alloc: Global,
+        program: Program,
+        names: MapNames,
+        lists: Lists,
+    ) -> Result<Box<LoadedProgram>, Fault>
         ensures program { IfOk result (λ b. b.value.program ≡ program) }
         ensures names { IfOk result (λ b. b.value.names ≡ names) }
+        ensures lists { IfOk result (λ b. b.value.lists ≡ lists) }
         ensures err { IfErr result (λ f. f ≡ out_of_memory) }
     {
         let stack = Stack {
@@ -127,20 +137,23 @@ impl LoadedProgram {
             LoadedProgram {
                 program,
                 names,
+                lists,
                 stack,
             },
         )?;
         Ok(held)
     }
 
-    /// A box of a program whose maps have no names.
+    /// A box of a program whose maps have no names and no lists.
     fn unnamed(alloc: Global, program: Program) -> Result<Box<LoadedProgram>, Fault>
         ensures program { IfOk result (λ b. b.value.program ≡ program) }
         ensures names { IfOk result (λ b. b.value.names ≡ []) }
+        ensures lists { IfOk result (λ b. b.value.lists ≡ []) }
         ensures err { IfErr result (λ f. f ≡ out_of_memory) }
     {
         let names = MapNames::none(alloc)?;
-        LoadedProgram::boxed(alloc, program, names)
+        let lists = Lists::none(alloc)?;
+        LoadedProgram::boxed(alloc, program, names, lists)
     }
 
     /// Accepts a program with its maps.
@@ -148,6 +161,7 @@ impl LoadedProgram {
     pub fn load(alloc: Global, program: &[u8], maps: &[XdpMap]) -> Result<Box<LoadedProgram>, Fault>
         ensures loaded { IfOk result (λ b. IsLoaded program.now maps.now b.value.program) }
         ensures unnamed { IfOk result (λ b. b.value.names ≡ []) }
+        ensures unlisted { IfOk result (λ b. b.value.lists ≡ []) }
         ensures fault { IfErr result (IsFault program.now maps.now) }
         ensures accepted { (code : List Insn) → Spells code program.now → IsFaultless code (shapes_of maps.now) → AreWithin maps.now →
             IfErr result IsOutOfMemory }
@@ -162,13 +176,14 @@ impl LoadedProgram {
     pub fn load_settings(alloc: Global, text: &[u8]) -> Result<Box<LoadedProgram>, Fault>
         ensures loaded { IfOk result (λ b. IsProgramOf text.now b.value.program) }
         ensures names { IfOk result (λ b. AreNamesOf text.now b.value.names) }
+        ensures lists { IfOk result (λ b. AreListsOf text.now b.value.lists) }
         ensures fault { IfErr result (IsFaultOfText text.now) }
-        ensures accepted { (s : SetupView) (code : List Insn) → setup_of text.now ≡ Ok s → Spells code s.program →
-            IsFaultless code s.shapes →
+        ensures accepted { (x : ListedView) (code : List Insn) → IsSetupOf text.now x → Spells code x.setup.program →
+            IsFaultless code x.setup.shapes →
             IfErr result IsOutOfMemory }
     {
         match accept_text(alloc, text) {
-            Ok(named) => LoadedProgram::boxed(alloc, named.program, named.names),
+            Ok(named) => LoadedProgram::boxed(alloc, named.program, named.names, named.lists),
             Err(fault) => Err(fault),
         }
     }
@@ -180,14 +195,15 @@ impl LoadedProgram {
     {
         let program = self.program.again()?;
         let names = self.names.again()?;
-        LoadedProgram::boxed(alloc, program, names)
+        let lists = self.lists.again()?;
+        LoadedProgram::boxed(alloc, program, names, lists)
     }
 
     /// Runs the program on a packet where it lies, as [`Program::run`] does.
     pub fn run(&mut self, counters: &mut [u64], packet: &mut [u8], ifindex: u32, queue: u32) -> Run
         ensures kept { self.new ≡ self.old }
         ensures made { IsMade self.old.program.shapes counters.old packet.old →
-            Ran self.old.program [] packet.old ifindex queue counters.old result.number packet.new counters.new result.instructions }
+            Ran self.old.program self.old.lists packet.old ifindex queue counters.old result.number packet.new counters.new result.instructions }
         ensures unmade { IsUnmade self.old.program.shapes counters.old packet.old →
             (result.number ≡ 0) × (result.instructions ≡ 0) × (packet.new ≡ packet.old) × (counters.new ≡ counters.old) }
         ensures words { length counters.new ≡ length counters.old }
@@ -195,9 +211,17 @@ impl LoadedProgram {
         let LoadedProgram {
             program,
             names: _,
+            lists,
             stack,
         } = self;
-        program.run(&mut stack.bytes, counters, packet, ifindex, queue)
+        program.run(
+            lists.as_slice(),
+            &mut stack.bytes,
+            counters,
+            packet,
+            ifindex,
+            queue,
+        )
     }
 
     /// The verdict that it is accepted.

@@ -11,7 +11,7 @@ use crate::queue_calls::boxed;
 use crate::queue_fault::QueueFault;
 use crate::queue_handle::XdpQueue;
 use std::alloc::{AllocError, Global};
-use xen_host::{Extent, FrameOwners, MakeFault, Program, Queue};
+use xen_host::{Extent, FrameOwners, Lists, MakeFault, Program, Queue};
 
 /// `frames` frames, one after another, which one domain owns. `include/laxonje.h` has this struct in the same order.
 #[repr(C)]
@@ -42,16 +42,24 @@ fn extents_of(alloc: Global, given: &[XdpExtent]) -> Result<Vec<Extent>, AllocEr
 fn boxed_of_extents(
     alloc: Global,
     program: &Program,
+    lists: &Lists,
     extents: &[XdpExtent],
     table: &[u32],
     desc: &XdpQueueDesc,
 ) -> Result<Box<Queue>, MakeFault>
     ensures made { IfOk result (λ b.
-        IsMadeOf program.now (given (domains_of (extents_of extents.now)) extent_limits table.now desc.now) b.value) }
+        IsMadeOf program.now lists.now (given (domains_of (extents_of extents.now)) extent_limits table.now desc.now) b.value) }
     ensures fault { IfErr result (IsFaultOf (given (domains_of (extents_of extents.now)) extent_limits table.now desc.now)) }
 {
     let extents = extents_of(alloc, extents)?;
-    boxed(alloc, program, FrameOwners::Extents(&extents), table, desc)
+    boxed(
+        alloc,
+        program,
+        lists,
+        FrameOwners::Extents(&extents),
+        table,
+        desc,
+    )
 }
 
 /// Makes a queue as `laxonje_queue_make` does, of a guest whose frames are given in extents.
@@ -66,13 +74,13 @@ pub extern "C" fn laxonje_queue_make_extents(
 ) -> u32
     ensures kept { program.new.slot.held ≡ program.old.slot.held }
     ensures made { IfSome program.old.slot.held (λ h.
-        MakesOr h.program (given (domains_of (extents_of extents.now)) extent_limits table.now desc.now)
+        MakesOr h.program h.lists (given (domains_of (extents_of extents.now)) extent_limits table.now desc.now)
         out.old.slot.held out.new.slot.held result) }
     ensures none { IfNone program.old.slot.held ((result ≡ fault_number QueueFault.Empty) × (out.new.slot.held ≡ out.old.slot.held)) }
 {
     match program.take(alloc) {
         Some(held) => {
-            let made = boxed_of_extents(alloc, &held.program, extents, table, desc);
+            let made = boxed_of_extents(alloc, &held.program, &held.lists, extents, table, desc);
             program.put(held);
             out.set(made)
         }

@@ -1,5 +1,5 @@
 //! Runs of a program, and the words of its counters.
-ghost use Rattle.std.specs.Prelude.{◌≡◌, IfNone, IfSome, MatchOption, [], drop, length, min, take};
+ghost use Rattle.std.specs.Prelude.{◌≡◌, IfNone, IfSome, MatchOption, drop, length, min, take};
 ghost use Rattle.bpf_maps.specs.Layout.{place_of, total};
 ghost use Rattle.bpf_note.specs.Shape.{IsCounter};
 ghost use Rattle.bpf_vm.specs.Actions.{action_of};
@@ -26,7 +26,7 @@ pub extern "C" fn laxonje_run(
 ) -> XdpRun
     ensures kept { program.new.slot.held ≡ program.old.slot.held }
     ensures made { IfSome program.old.slot.held (λ h. IsMade h.program.shapes counters.old packet.old →
-        Ran h.program [] packet.old ifindex queue counters.old result.number packet.new counters.new result.instructions) }
+        Ran h.program h.lists packet.old ifindex queue counters.old result.number packet.new counters.new result.instructions) }
     ensures action { result.action ≡ action_number (action_of result.number) }
     ensures unmade { IfSome program.old.slot.held (λ h. IsUnmade h.program.shapes counters.old packet.old →
         IsNotRun result packet.old packet.new counters.old counters.new) }
@@ -58,7 +58,7 @@ pub extern "C" fn laxonje_run_batch(
     queue: u32,
 ) -> usize
     ensures kept { program.new.slot.held ≡ program.old.slot.held }
-    ensures ran { IfSome program.old.slot.held (λ h. RanEach h.program ifindex queue (record { bytes = bytes.old; words = counters.old })
+    ensures ran { IfSome program.old.slot.held (λ h. RanEach h.program h.lists ifindex queue (record { bytes = bytes.old; words = counters.old })
         (take result packets.now) (take result results.new) (record { bytes = bytes.new; words = counters.new })) }
     ensures count { IfSome program.old.slot.held (λ _. result ≡ min (length packets.now) (length results.old)) }
     ensures rest { drop result results.new ≡ drop result results.old }

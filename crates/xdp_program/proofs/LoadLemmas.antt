@@ -8,7 +8,7 @@ use Rattle.bpf_insn.specs.declared.refusal.Cause.{Cause}
 use Rattle.bpf_insn.specs.declared.refusal.Cause.TheVariants as cause
 use Rattle.bpf_insn.specs.declared.refusal.Refusal.{Refusal}
 use Rattle.bpf_insn.proofs.UniqueLemmas.{one_code, code_or_none}
-use Rattle.bpf_note.specs.Shape.{Shape}
+use Rattle.bpf_note.specs.Shape.{Shape, most_maps}
 use Rattle.bpf_verify.specs.Consistent.{Accepted}
 use Rattle.bpf_verify.specs.FirstRefusal.{IsFaultless, IsRefusal, at_start}
 use Rattle.xdp_program.specs.Refused.{IsRefused, out_of_memory}
@@ -33,12 +33,12 @@ pub either_out_of_memory : AloneMemory → (bytes : List ℕ) (shapes : List Sha
 either_out_of_memory law bytes shapes code r (inl said) s fine = no_code_out_of_memory bytes code r s said
 either_out_of_memory law bytes shapes code r (inr o) s fine = law code shapes r.cause r.pc s.laid_out fine (subst (λ (is : List Insn). IsRefusal is shapes r.cause r.pc) (one_code o.0 code bytes o.1 s) o.2)
 
-pub refused_out_of_memory : AloneMemory → (bytes : List ℕ) (shapes : List Shape) (code : List Insn) (f : LoadFault) → IsRefused bytes shapes f → Spells code bytes → IsFaultless code shapes → length shapes ≤ 4 → IsMemoryFault f
+pub refused_out_of_memory : AloneMemory → (bytes : List ℕ) (shapes : List Shape) (code : List Insn) (f : LoadFault) → IsRefused bytes shapes f → Spells code bytes → IsFaultless code shapes → length shapes ≤ most_maps → IsMemoryFault f
 refused_out_of_memory law bytes shapes code Maps many s fine few = absurd (omega (arith, many, few))
 refused_out_of_memory law bytes shapes code (Refused r) h s fine few = either_out_of_memory law bytes shapes code r h s fine
 
 -- so what is answered for a faultless program is that program, or that memory ran out
 pub load_accepted : AloneMemory → (r : Result Accepted LoadFault) (bytes : List ℕ) (shapes : List Shape) → IfOk r (λ p. Spells p.code bytes) → IfErr r (IsRefused bytes shapes) →
-    (code : List Insn) → Spells code bytes → IsFaultless code shapes → length shapes ≤ 4 → MatchResult r (λ p. p.code ≡ code) IsMemoryFault
+    (code : List Insn) → Spells code bytes → IsFaultless code shapes → length shapes ≤ most_maps → MatchResult r (λ p. p.code ≡ code) IsMemoryFault
 load_accepted law (Ok p) bytes shapes spelled refused code s fine few = one_code p.code code bytes spelled s
 load_accepted law (Err f) bytes shapes spelled refused code s fine few = refused_out_of_memory law bytes shapes code f refused s fine few

@@ -6,14 +6,14 @@ use Rattle.bpf_insn.specs.Refusal.{IsNoCode}
 use Rattle.bpf_insn.specs.declared.insn.Insn.{Insn}
 use Rattle.bpf_insn.specs.declared.refusal.Cause.TheVariants.{Memory}
 use Rattle.bpf_maps.specs.Layout.{total}
-use Rattle.bpf_note.specs.Shape.{Shape}
+use Rattle.bpf_note.specs.Shape.{Shape, most_maps}
 use Rattle.bpf_verify.specs.FirstRefusal.{IsRefusal}
 use Rattle.xdp_program.specs.declared.fault.LoadFault.{LoadFault}
 use Rattle.xdp_program.specs.declared.fault.LoadFault.TheVariants.{Maps, Refused}
 
--- more than four maps; or the decoder's refusal; or the bytes spell a code, and the verifier's refusal of it
+-- more than 16 maps; or the decoder's refusal; or the bytes spell a code, and the verifier's refusal of it
 abbrev pub IsRefused : List ℕ → List Shape → LoadFault → Type 0
-IsRefused bytes shapes Maps = 4 < length shapes
+IsRefused bytes shapes Maps = most_maps < length shapes
 IsRefused bytes shapes (Refused r) = IsNoCode bytes r ⊎ ((code : List Insn) × Spells code bytes × IsRefusal code shapes r.cause r.pc)
 
 -- out of memory before the first slot is checked

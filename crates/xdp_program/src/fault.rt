@@ -5,7 +5,7 @@ use std::alloc::{AllocError, AllocFailed};
 /// Why a program isn't accepted.
 #[derive(Clone, Copy, Debug, PartialEq, Eq, Drop)]
 pub enum LoadFault {
-    /// There are more than four maps.
+    /// There are more than 16 maps.
     Maps,
     /// The decoder or the verifier refuses it. Out of memory is V0.
     Refused(Refusal),
@@ -42,8 +42,39 @@ impl<T: Drop> From<AllocFailed<T>> for LoadFault {
 /// Why there is no program of a settings text.
 #[derive(Clone, Copy, Debug, PartialEq, Eq, Drop)]
 pub enum SettingsFault {
-    /// The text has a fault, L0 to L7.
+    /// The text has a fault, L0 to L8.
     Text(xdp_load::LoadFault),
     /// Its program isn't accepted with its maps.
     Program(LoadFault),
+}
+
+/// Why a settings text has no lists for a program.
+#[derive(Clone, Copy, Debug, PartialEq, Eq, Drop)]
+pub enum RelistFault {
+    /// The text has a fault, L0 to L8.
+    Text(xdp_load::LoadFault),
+    /// Its program is another one, or has other maps.
+    Other,
+}
+
+impl From<AllocError> for RelistFault {
+    ghost use Rattle.std.specs.Prelude.{◌≡◌};
+    ghost use Rattle.xdp_program.specs.Settings.{relist_out_of_memory};
+
+    ghost from_gives = { λ _ e. e ≡ relist_out_of_memory };
+
+    fn from(_error: AllocError) -> RelistFault {
+        RelistFault::Text(xdp_load::LoadFault::Memory)
+    }
+}
+
+impl<T: Drop> From<AllocFailed<T>> for RelistFault {
+    ghost use Rattle.std.specs.Prelude.{◌≡◌};
+    ghost use Rattle.xdp_program.specs.Settings.{relist_out_of_memory};
+
+    ghost from_gives = { λ _ e. e ≡ relist_out_of_memory };
+
+    fn from(_error: AllocFailed<T>) -> RelistFault {
+        RelistFault::Text(xdp_load::LoadFault::Memory)
+    }
 }

@@ -2,6 +2,7 @@
 use crate::fault::LoadFault;
 use crate::run::run_on;
 use bpf_insn::decode;
+use bpf_lists::MapList;
 use bpf_maps::{place, total};
 use bpf_verify::{MapShape, Verified, faultless_programs_are_accepted, verify};
 use bpf_vm::{Ended, PacketBuf, STACK_SIZE};
@@ -11,6 +12,9 @@ use std::sync::Arc;
 
 /// The most bytes that a packet has.
 const LONGEST: usize = 65_535;
+
+/// The most maps that a program has.
+const MOST_MAPS: usize = 16;
 
 /// How a run ended: the action's number, and how many instructions were done. One that was made has done at least one.
 #[derive(Clone, Copy, Debug, PartialEq, Eq, Drop)]
@@ -50,11 +54,11 @@ impl Model for Program {
 }
 
 impl Program {
-    ghost use Rattle.std.specs.Prelude.{◌≡◌, ◌≤◌, ◌<◌, List, [], length, IfOk, IfErr, IfSome, IfNone, MatchResult};
+    ghost use Rattle.std.specs.Prelude.{◌≡◌, ◌≤◌, ◌<◌, List, length, IfOk, IfErr, IfSome, IfNone, MatchResult};
     ghost use Rattle.bpf_insn.specs.Code.{Spells};
     ghost use Rattle.bpf_insn.specs.declared.insn.Insn.{Insn};
     ghost use Rattle.bpf_maps.specs.Layout.{total, place_of};
-    ghost use Rattle.bpf_note.specs.Shape.{IsCounter};
+    ghost use Rattle.bpf_note.specs.Shape.{IsCounter, most_maps};
     ghost use Rattle.bpf_verify.specs.Consistent.{instructions};
     ghost use Rattle.bpf_verify.specs.FirstRefusal.{IsFaultless};
     ghost use Rattle.xdp_program.specs.Ran.{Ran};
@@ -66,10 +70,10 @@ impl Program {
         ensures spelled { IfOk result (λ p. Spells p.code bytes.now) }
         ensures shapes { IfOk result (λ p. p.shapes ≡ shapes.now) }
         ensures faultless { IfOk result (λ p. IsFaultless p.code shapes.now) }
-        ensures few { IfOk result (λ _. length shapes.now ≤ 4) }
+        ensures few { IfOk result (λ _. length shapes.now ≤ most_maps) }
         ensures refused { IfErr result (IsRefused bytes.now shapes.now) }
     {
-        if shapes.len() > 4 {
+        if shapes.len() > MOST_MAPS {
             return Err(LoadFault::Maps);
         }
         let code = match decode(alloc, bytes) {
@@ -89,11 +93,11 @@ impl Program {
         ensures spelled { IfOk result (λ p. Spells p.code bytes.now) }
         ensures shapes { IfOk result (λ p. p.shapes ≡ shapes.now) }
         ensures faultless { IfOk result (λ p. IsFaultless p.code shapes.now) }
-        ensures few { IfOk result (λ _. length shapes.now ≤ 4) }
+        ensures few { IfOk result (λ _. length shapes.now ≤ most_maps) }
         ensures refused { IfErr result (IsRefused bytes.now shapes.now) }
 
         // Nothing more is refused.
-        ensures accepted { (code : List Insn) → Spells code bytes.now → IsFaultless code shapes.now → length shapes.now ≤ 4 →
+        ensures accepted { (code : List Insn) → Spells code bytes.now → IsFaultless code shapes.now → length shapes.now ≤ most_maps →
             MatchResult result (λ p. p.code ≡ code) IsOutOfMemory }
     {
         faultless_programs_are_accepted();
@@ -150,6 +154,7 @@ impl Program {
     #[inline(always)]
     fn run_lent<'b>(
         &self,
+        lists: &[Option<MapList>],
         stack: &'b mut [u8; STACK_SIZE],
         counters: &mut [u64],
         packet: &'b mut [u8],
@@ -158,7 +163,7 @@ impl Program {
     ) -> Lent<'b>
         requires short { length packet.old ≤ 65535 }
         requires enough { total self.now.shapes ≤ length counters.old }
-        ensures ran { Ran self.now [] packet.old ifindex queue counters.old result.number result.packet.now counters.new result.instructions }
+        ensures ran { Ran self.now lists.now packet.old ifindex queue counters.old result.number result.packet.now counters.new result.instructions }
         ensures lent { result.packet.ghost_name ≡ packet.entry.ghost_name }
         ensures bound { result.instructions ≤ instructions self.now.code }
         ensures words { length counters.new ≡ length counters.old }
@@ -174,7 +179,7 @@ impl Program {
                     number,
                     packet,
                     instructions,
-                } = run_on(program, &[], counters, lent, ifindex, queue);
+                } = run_on(program, lists, counters, lent, ifindex, queue);
                 Lent {
                     number,
                     instructions,
@@ -189,6 +194,7 @@ impl Program {
     #[inline(always)]
     fn run_in_place(
         &self,
+        lists: &[Option<MapList>],
         stack: &mut [u8; STACK_SIZE],
         counters: &mut [u64],
         packet: &mut [u8],
@@ -197,7 +203,7 @@ impl Program {
     ) -> Run
         requires short { length packet.old ≤ 65535 }
         requires enough { total self.now.shapes ≤ length counters.old }
-        ensures ran { Ran self.now [] packet.old ifindex queue counters.old result.number packet.new counters.new result.instructions }
+        ensures ran { Ran self.now lists.now packet.old ifindex queue counters.old result.number packet.new counters.new result.instructions }
         ensures bound { result.instructions ≤ instructions self.now.code }
         ensures words { length counters.new ≡ length counters.old }
     {
@@ -205,7 +211,7 @@ impl Program {
             number,
             instructions,
             packet: _,
-        } = self.run_lent(stack, counters, packet, ifindex, queue);
+        } = self.run_lent(lists, stack, counters, packet, ifindex, queue);
         Run {
             number,
             instructions,
@@ -217,6 +223,7 @@ impl Program {
     #[inline(never)]
     fn run_with_maps(
         &self,
+        lists: &[Option<MapList>],
         stack: &mut [u8; STACK_SIZE],
         counters: &mut [u64],
         packet: &mut [u8],
@@ -225,7 +232,7 @@ impl Program {
     ) -> Run
         requires short { length packet.old ≤ 65535 }
         ensures made { total self.now.shapes ≤ length counters.old →
-            Ran self.now [] packet.old ifindex queue counters.old result.number packet.new counters.new result.instructions }
+            Ran self.now lists.now packet.old ifindex queue counters.old result.number packet.new counters.new result.instructions }
         ensures unmade { length counters.old < total self.now.shapes →
             (result.number ≡ 0) × (result.instructions ≡ 0) × (packet.new ≡ packet.old) × (counters.new ≡ counters.old) }
         ensures bound { result.instructions ≤ instructions self.now.code }
@@ -234,14 +241,15 @@ impl Program {
         if counters.len() < self.counters() {
             return NOTHING;
         }
-        self.run_in_place(stack, counters, packet, ifindex, queue)
+        self.run_in_place(lists, stack, counters, packet, ifindex, queue)
     }
 
-    /// Runs the program on a packet where it lies. The counters of its maps are the first words of `counters`. With too
-    /// few words, or a packet of more than 65,535 bytes, nothing is run: number 0 after no instruction. What the stack holds
-    /// before doesn't matter, so one serves for each packet in turn.
+    /// Runs the program on a packet where it lies. The lists of its maps stand by the maps' numbers. The counters are the first
+    /// words of `counters`. With too few words, or a packet of more than 65,535 bytes, nothing is run: number 0 after no
+    /// instruction. What the stack holds before doesn't matter, so one serves for each packet in turn.
     pub fn run(
         &self,
+        lists: &[Option<MapList>],
         stack: &mut [u8; STACK_SIZE],
         counters: &mut [u64],
         packet: &mut [u8],
@@ -249,7 +257,7 @@ impl Program {
         queue: u32,
     ) -> Run
         ensures made { IsMade self.now.shapes counters.old packet.old →
-            Ran self.now [] packet.old ifindex queue counters.old result.number packet.new counters.new result.instructions }
+            Ran self.now lists.now packet.old ifindex queue counters.old result.number packet.new counters.new result.instructions }
         ensures unmade { IsUnmade self.now.shapes counters.old packet.old →
             (result.number ≡ 0) × (result.instructions ≡ 0) × (packet.new ≡ packet.old) × (counters.new ≡ counters.old) }
         ensures bound { result.instructions ≤ instructions self.now.code }
@@ -258,9 +266,9 @@ impl Program {
         if packet.len() > LONGEST {
             NOTHING
         } else if self.verified.shapes().is_empty() {
-            self.run_in_place(stack, counters, packet, ifindex, queue)
+            self.run_in_place(lists, stack, counters, packet, ifindex, queue)
         } else {
-            self.run_with_maps(stack, counters, packet, ifindex, queue)
+            self.run_with_maps(lists, stack, counters, packet, ifindex, queue)
         }
     }
 }

@@ -1,8 +1,10 @@
 //! What loads and runs give, as plain values.
+use bpf_lists::MapList;
 use bpf_vm::STACK_SIZE;
 use std::alloc::{AllocError, Global};
 use xdp_program::{
-    LoadFault, MapShape, Program, Refusal, Run, SettingsFault, TextFault, load_settings,
+    LoadFault, MapShape, Program, Refusal, RelistFault, Run, SettingsFault, TextFault,
+    load_settings,
 };
 
 /// A program as hex digits with its maps, each as its number of values and of counters a value.
@@ -64,14 +66,25 @@ pub fn is_for_memory(fault: SettingsFault) -> bool {
     }
 }
 
-/// A run over a stack of its own.
-pub fn run(program: &Program, counters: &mut [u64], packet: &mut [u8], at: (u32, u32)) -> End {
+/// A run with these lists over a stack of its own.
+fn run_with(
+    program: &Program,
+    lists: &[Option<MapList>],
+    counters: &mut [u64],
+    packet: &mut [u8],
+    at: (u32, u32),
+) -> End {
     let mut stack = [0xa5; STACK_SIZE];
     let Run {
         number,
         instructions,
-    } = program.run(&mut stack, counters, packet, at.0, at.1);
+    } = program.run(lists, &mut stack, counters, packet, at.0, at.1);
     (number, instructions)
+}
+
+/// A run without lists.
+pub fn run(program: &Program, counters: &mut [u64], packet: &mut [u8], at: (u32, u32)) -> End {
+    run_with(program, &[], counters, packet, at)
 }
 
 /// A run of a program on a packet, from an interface and a queue; none if it isn't accepted.
@@ -109,7 +122,25 @@ pub fn ended_again(alloc: Global, source: Source, counters: &mut [u64]) -> Optio
 /// A run of the program of settings.
 pub fn settings_ended(alloc: Global, text: &str, counters: &mut [u64]) -> Option<End> {
     let named = load_settings(alloc, text.as_bytes()).ok()?;
-    Some(run(&named.program, counters, &mut [0], (0, 0)))
+    let lists = named.lists.as_slice();
+    Some(run_with(&named.program, lists, counters, &mut [0], (0, 0)))
+}
+
+/// A run of the program of settings with the lists of other settings, or why these have none for it; none if there is no program.
+pub fn relisted_ended(
+    alloc: Global,
+    text: &str,
+    other: &str,
+    counters: &mut [u64],
+) -> Option<Result<End, RelistFault>> {
+    let named = load_settings(alloc, text.as_bytes()).ok()?;
+    match named.program.relisted(alloc, other.as_bytes()) {
+        Ok(lists) => {
+            let lists = lists.as_slice();
+            Some(Ok(run_with(&named.program, lists, counters, &mut [0], (0, 0))))
+        }
+        Err(fault) => Some(Err(fault)),
+    }
 }
 
 /// The number of the map with a name of settings.

@@ -1,4 +1,5 @@
 mod growth;
+mod lists;
 mod loads;
 mod runs;
 

@@ -2,14 +2,14 @@
 use Rattle.std.proofs.Common.{◌≡◌, ℕ, suc, ◌+◌, List, [], ◌∷◌, ◌++◌, Some, None, length, refl, sym, ◌∙◌, ap, subst, arith, append_assoc}
 use Rattle.std.proofs.lemmas.List.{append-nil}
 use Rattle.xen_steps.specs.Event.{Event}
-use Rattle.xen_back.specs.Awaited.{IsAwaiting}
-use Rattle.xen_back.specs.Delivered.{IsDelivery}
-use Rattle.xen_back.specs.Turned.{Turned}
-use Rattle.xen_back.specs.Turns.{IsTurn}
-use Rattle.xen_back.specs.declared.delivery.wait.Awaited.{Awaited}
-use Rattle.xen_back.specs.declared.delivery.delivering.Delivery.{Delivery}
-use Rattle.xen_back.specs.declared.state.State.{State}
-use Rattle.xen_back.specs.declared.wiring.Wiring.{Wiring}
+use Rattle.xen_turns.specs.Awaited.{IsAwaiting}
+use Rattle.xen_turns.specs.Delivered.{IsDelivery}
+use Rattle.xen_turns.specs.Turned.{Turned}
+use Rattle.xen_turns.specs.Turns.{IsTurn}
+use Rattle.xen_turns.specs.declared.delivery.wait.Awaited.{Awaited}
+use Rattle.xen_turns.specs.declared.delivery.delivering.Delivery.{Delivery}
+use Rattle.xen_turns.specs.declared.state.State.{State}
+use Rattle.xen_turns.specs.declared.wiring.Wiring.{Wiring}
 use Rattle.xdp_world.specs.Activities.{Activities, Came, Deed, DeliveryOf, Given, Item, SlotsAwaited, TurnOf, WaitOf, all_came, deliveries_in, delivery_over, none_over, turn_over, turns_in, wait_over, waits_in}
 use Rattle.xdp_world.specs.Carries.{delivered_list, waited_list}
 use Rattle.xdp_world.specs.Core.{Turns, begun, turned}

@@ -1,11 +1,13 @@
 -- A world that begins.
 use Rattle.std.proofs.Common.{◌≡◌, ℕ, zero, suc, ◌+◌, ◌<◌, false, List, [], ◌∷◌, ◌++◌, Some, length, get_or, slice_get, refl, sym, ap, subst, arith}
 use Rattle.std.specs.Global.{Vec}
+use Rattle.std.specs.Prelude.{Option}
+use Rattle.bpf_lists.specs.declared.list.MapList.{MapList}
 use Rattle.bpf_maps.specs.Seats.{total_at}
 use Rattle.bpf_verify.specs.Consistent.{Accepted}
 use Rattle.xen_back.specs.Queues.{wiring_of}
 use Rattle.xen_back.specs.declared.queue.Queue.{Queue}
-use Rattle.xen_back.specs.declared.wiring.Wiring.{Wiring}
+use Rattle.xen_turns.specs.declared.wiring.Wiring.{Wiring}
 use Rattle.xdp_world.specs.Begin.{Begins, IsFresh}
 use Rattle.xdp_world.specs.Activities.{none_over}
 use Rattle.xdp_world.specs.Core.{started_at}
@@ -36,9 +38,9 @@ none_kept [] v e h (suc i) = refl
 none_kept (t ∷ ts) v e h zero = h 0
 none_kept (t ∷ ts) v e h (suc i) = none_kept ts v e (λ j. h (suc j)) i
 
-fresh_come : (accepted : Accepted) (queues index start i : ℕ) (w : Wiring) (q : Queue) (at : Doing) (kept : List Kept) (dl : List Delivered) (wl : List Waited) → IsFresh accepted queues index start i q → wiring_of q ≡ w →
+fresh_come : (accepted : Accepted) (lists : List (Option MapList)) (queues index start i : ℕ) (w : Wiring) (q : Queue) (at : Doing) (kept : List Kept) (dl : List Delivered) (wl : List Waited) → IsFresh accepted lists queues index start i q → wiring_of q ≡ w →
     at ≡ doing.Between → kept ≡ [] → dl ≡ [] → wl ≡ [] → HasCome w start [] kept dl wl q at
-fresh_come accepted queues index start i w q at kept dl wl f wired is none nothing unwaited =
+fresh_come accepted lists queues index start i w q at kept dl wl f wired is none nothing unwaited =
     subst (λ (x : Doing). HasCome w start [] kept dl wl q x) (sym is) (record {
       wired = wired;
       deeds = [];
@@ -50,11 +52,11 @@ fresh_come accepted queues index start i w q at kept dl wl f wired is none nothi
       stands_at = (refl, fresh_turn w q wired f.ready);
     })
 
-pub begins : (accepted : Accepted) (queues index start : ℕ) (w : World) → 0 < length w.queues.items → length w.queues.items ≡ queues →
-    ((i : ℕ) (d : Queue) → i < queues → IsFresh accepted queues index start i (get_or w.queues.items i d)) → ((i : ℕ) → kept_in w.turns.items i ≡ []) → ((i : ℕ) → delivered_in w.deliveries.items i ≡ []) →
+pub begins : (accepted : Accepted) (lists : List (Option MapList)) (queues index start : ℕ) (w : World) → 0 < length w.queues.items → length w.queues.items ≡ queues →
+    ((i : ℕ) (d : Queue) → i < queues → IsFresh accepted lists queues index start i (get_or w.queues.items i d)) → ((i : ℕ) → kept_in w.turns.items i ≡ []) → ((i : ℕ) → delivered_in w.deliveries.items i ≡ []) →
     ((i : ℕ) → waited_in w.waits.items i ≡ []) → ((i : ℕ) (e : Doing) → i < queues → get_or w.doing.items i e ≡ doing.Between) → w.history.items ≡ [] →
-    ((m k j : ℕ) → total_at w.counters m k j ≡ 0) → Begins accepted queues index start w
-begins accepted queues index start w some count fresh none nothing unwaited between past zeros =
+    ((m k j : ℕ) → total_at w.counters m k j ≡ 0) → Begins accepted lists queues index start w
+begins accepted lists queues index start w some count fresh none nothing unwaited between past zeros =
     let qs = w.queues.items in
     let q0 : Queue = queue_at qs 0 some in
     record {
@@ -62,7 +64,7 @@ begins accepted queues index start w some count fresh none nothing unwaited betw
       wired = λ i l. (fresh i q0 l).wired;
       stands = record {
         each = λ i d e l. let m : i < queues = omega (arith, l, count) in
-            fresh_come accepted queues index start i (wiring_of (get_or qs i q0)) (get_or qs i d) (get_or w.doing.items i e) (kept_in w.turns.items i) (delivered_in w.deliveries.items i) (waited_in w.waits.items i) (fresh i d m)
+            fresh_come accepted lists queues index start i (wiring_of (get_or qs i q0)) (get_or qs i d) (get_or w.doing.items i e) (kept_in w.turns.items i) (delivered_in w.deliveries.items i) (waited_in w.waits.items i) (fresh i d m)
             (ap (λ (q : Queue). wiring_of q) (any_or qs i d q0 l)) (between i e m) (none i) (nothing i) (unwaited i);
         come = λ i e at n. absurd (cc);
         serve = tt;

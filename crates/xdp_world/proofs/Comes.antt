@@ -9,27 +9,28 @@ use Rattle.xen_steps.specs.declared.want.Want.TheVariants as want
 use Rattle.xen_steps.proofs.DriveLemmas.{gone_more, runs_of_gone}
 use Rattle.xen_steps.proofs.FinishLemmas.{some_run}
 use Rattle.xen_back.specs.ByEvent.{frames_of, left_of}
-use Rattle.xen_back.specs.Deliveries.{Arrival, whole_delivery}
+use Rattle.xen_turns.specs.Deliveries.{Arrival, whole_delivery}
 use Rattle.xen_back.specs.Queues.{HasRest, IsReady, rest, state_of, wiring_of}
-use Rattle.xen_back.specs.Tree.{unless_halted, whole_turn}
-use Rattle.xen_back.specs.Turned.{Ending, Turned}
-use Rattle.xen_back.specs.Waits.{Wait, rest_looking, wait_end, whole_wait}
+use Rattle.xen_turns.specs.Tree.{unless_halted, whole_turn}
+use Rattle.xen_turns.specs.Turned.{Ending, Turned}
+use Rattle.xen_turns.specs.Waits.{Wait, wait_end, whole_wait}
+use Rattle.xen_back.specs.Waits.{rest_looking}
 use Rattle.xen_back.specs.WaitsByEvent.{left_of_wait}
-use Rattle.xen_back.specs.Within.{may_want}
-use Rattle.xen_back.specs.declared.delivery.wait.Awaited.{Awaited}
-use Rattle.xen_back.specs.declared.delivery.delivering.Delivery.{Delivery}
+use Rattle.xen_turns.specs.Within.{may_want}
+use Rattle.xen_turns.specs.declared.delivery.wait.Awaited.{Awaited}
+use Rattle.xen_turns.specs.declared.delivery.delivering.Delivery.{Delivery}
 use Rattle.xen_back.specs.declared.delivery.wait_stage.Awaiting.{Awaiting}
 use Rattle.xen_back.specs.declared.delivery.wait_stage.Looking.{Looking}
 use Rattle.xen_back.specs.declared.delivery.wait_stage.Looking.TheVariants as looking
 use Rattle.xen_back.specs.declared.delivery.underway.Delivering.{Delivering}
 use Rattle.xen_back.specs.declared.queue.Queue.{Queue}
-use Rattle.xen_back.specs.declared.state.State.{State}
-use Rattle.xen_back.specs.declared.turn.Halt.{Halt}
-use Rattle.xen_back.specs.declared.wiring.Wiring.{Wiring}
-use Rattle.xen_back.proofs.ArriveLemmas.{delivery_rows}
+use Rattle.xen_turns.specs.declared.state.State.{State}
+use Rattle.xen_turns.specs.declared.turn.Halt.{Halt}
+use Rattle.xen_turns.specs.declared.wiring.Wiring.{Wiring}
+use Rattle.xen_turns.proofs.ArriveLemmas.{delivery_rows}
 use Rattle.xen_back.proofs.RestLemmas.{ready_rest}
-use Rattle.xen_back.proofs.TurnParts.{turn_parts}
-use Rattle.xen_back.proofs.WaitLemmas.{wait_rows}
+use Rattle.xen_turns.proofs.TurnParts.{turn_parts}
+use Rattle.xen_turns.proofs.WaitLemmas.{wait_rows}
 use Rattle.xdp_world.specs.Activities.{Activities, Came, Deed, DeliveryOf, Given, HasHalted, Item, IsLeft, IsPart, IsUndelivered, IsUnwaited, SlotsAwaited, TurnOf, WaitOf, of_delivery, of_turn, of_wait, all_came, deliveries_in, turns_in, waits_in}
 use Rattle.xdp_world.specs.Carries.{Carries, Lands, Looks, Resumes, after_turn, delivered_list, waited_list}
 use Rattle.xdp_world.specs.Core.{IsUnfinished, started_at}

@@ -1,7 +1,7 @@
 -- What a host is told of a delivery or a wait that it had begun.
 use Rattle.std.proofs.Common.{◌≡◌, ℕ, List, Option, Some, None, refl, sym, subst}
-use Rattle.xen_back.specs.declared.delivery.wait.Awaited.{Awaited}
-use Rattle.xen_back.specs.declared.delivery.delivering.Delivery.{Delivery}
+use Rattle.xen_turns.specs.declared.delivery.wait.Awaited.{Awaited}
+use Rattle.xen_turns.specs.declared.delivery.delivering.Delivery.{Delivery}
 use Rattle.xdp_world.specs.Stands.{HasBegun, HasBegunWait, IsAwait, IsDeliver}
 use Rattle.xdp_world.specs.declared.awaiting.WaitBegun.{WaitBegun}
 use Rattle.xdp_world.specs.declared.awaiting.WaitBegun.TheVariants as wait_begun

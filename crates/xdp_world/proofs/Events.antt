@@ -5,7 +5,7 @@ use Rattle.std.specs.Global.{Vec}
 use Rattle.xen_steps.specs.Event.{Event}
 use Rattle.xen_back.specs.Queues.{state_of}
 use Rattle.xen_back.specs.declared.queue.Queue.{Queue}
-use Rattle.xen_back.specs.declared.wiring.Wiring.{Wiring}
+use Rattle.xen_turns.specs.declared.wiring.Wiring.{Wiring}
 use Rattle.xdp_world.specs.Activities.{Given, Item, SlotsAwaited, all_came}
 use Rattle.xdp_world.specs.Asked.{GoesBy, IsInside, Makes, await, await_busy, busy, deliver, none, step}
 use Rattle.xdp_world.specs.Calls.{Awaits, Call, Delivers, Stepped, items_of}

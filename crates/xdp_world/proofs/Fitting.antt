@@ -8,7 +8,7 @@ use Rattle.xen_steps.specs.Steps.{want_of}
 use Rattle.xen_steps.specs.declared.want.Want.{Want}
 use Rattle.xen_steps.specs.declared.want.Want.TheVariants as want
 use Rattle.xen_back.specs.Queues.{IsReady, rest, wiring_of}
-use Rattle.xen_back.specs.Within.{IsWithin}
+use Rattle.xen_turns.specs.Within.{IsWithin}
 use Rattle.xen_back.specs.declared.by_event.phase.Phase.TheVariants as phase
 use Rattle.xen_back.specs.declared.by_event.stage.Stage.{Stage}
 use Rattle.xen_back.specs.declared.by_event.stage.Stage.TheVariants as stage

@@ -3,7 +3,7 @@ use Rattle.std.proofs.Common.{◌≡◌, ℕ, zero, suc, ◌<◌, true, false, B
 use Rattle.xen_steps.specs.Event.{Event}
 use Rattle.xen_back.specs.Queues.{state_of}
 use Rattle.xen_back.specs.declared.queue.Queue.{Queue}
-use Rattle.xen_back.specs.declared.wiring.Wiring.{Wiring}
+use Rattle.xen_turns.specs.declared.wiring.Wiring.{Wiring}
 use Rattle.xdp_world.specs.Activities.{HasHalted, Item, all_came, deliveries_in, turns_in, waits_in}
 use Rattle.xdp_world.specs.Calls.{Call, HaveCome, Stepped, all_stepped, entries_of, items_of}
 use Rattle.xdp_world.specs.Core.{HaveEvents, IsHalted, Turns, started_at}

@@ -10,15 +10,15 @@ use Rattle.xen_steps.specs.declared.want.Want.{Want}
 use Rattle.xen_steps.specs.declared.want.Want.TheVariants as want
 use Rattle.xen_steps.proofs.DriveLemmas.{bounded_done, bounded_gone, bounded_le, bounded_next, bounded_wider}
 use Rattle.xen_back.specs.Queues.{rest, state_of, wiring_of}
-use Rattle.xen_back.specs.Tree.{unless_halted, whole_turn}
-use Rattle.xen_back.specs.Turned.{Ending}
-use Rattle.xen_back.specs.Within.{IsWithin}
+use Rattle.xen_turns.specs.Tree.{unless_halted, whole_turn}
+use Rattle.xen_turns.specs.Turned.{Ending}
+use Rattle.xen_turns.specs.Within.{IsWithin}
 use Rattle.xen_back.specs.declared.queue.Queue.{Queue}
-use Rattle.xen_back.specs.declared.state.State.{State}
-use Rattle.xen_back.specs.declared.turn.Halt.{Halt}
-use Rattle.xen_back.specs.declared.wiring.Wiring.{Wiring}
+use Rattle.xen_turns.specs.declared.state.State.{State}
+use Rattle.xen_turns.specs.declared.turn.Halt.{Halt}
+use Rattle.xen_turns.specs.declared.wiring.Wiring.{Wiring}
 use Rattle.xen_back.proofs.RestLemmas.{ready_rest}
-use Rattle.xen_back.proofs.Bounds.{bounded_turn}
+use Rattle.xen_turns.proofs.Bounds.{bounded_turn}
 use Rattle.xdp_world.specs.Core.{IsHalted, IsUnfinished, Turns, started_at}
 use Rattle.xdp_world.specs.Entries.{Entry, Serves}
 use Rattle.xdp_world.specs.Happens.{Comes, Moved}

@@ -5,7 +5,7 @@ use Rattle.std.proofs.lemmas.List.{append-nil, map-append}
 use Rattle.std.proofs.lemmas.List.Elements.{filter-append}
 use Rattle.bpf_note.specs.History.{share}
 use Rattle.bpf_note.specs.declared.op.Op.{Op}
-use Rattle.xen_back.specs.Drive.{label_of, labels}
+use Rattle.xen_turns.specs.Drive.{label_of, labels}
 use Rattle.xen_steps.specs.Event.{Event}
 use Rattle.xdp_world.specs.Entries.{Entry, events_of, history, listed, ops_of, tagged}
 use Rattle.xdp_world.proofs.Worlds.{eqb_same, eqb_other}

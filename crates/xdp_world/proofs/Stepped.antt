@@ -7,8 +7,8 @@ use Rattle.xen_steps.specs.Event.{Event}
 use Rattle.xen_back.specs.ByEvent.{left_of}
 use Rattle.xen_back.specs.Queues.{wiring_of}
 use Rattle.xen_back.specs.WaitsByEvent.{left_of_wait}
-use Rattle.xen_back.specs.declared.delivery.wait.Awaited.{Awaited}
-use Rattle.xen_back.specs.declared.delivery.delivering.Delivery.{Delivery}
+use Rattle.xen_turns.specs.declared.delivery.wait.Awaited.{Awaited}
+use Rattle.xen_turns.specs.declared.delivery.delivering.Delivery.{Delivery}
 use Rattle.xen_back.specs.declared.delivery.wait_stage.Awaiting.{Awaiting}
 use Rattle.xen_back.specs.declared.delivery.underway.Delivering.{Delivering}
 use Rattle.xen_back.specs.declared.queue.Queue.{Queue}

@@ -12,15 +12,15 @@ use Rattle.bpf_note.specs.declared.op.Op.TheVariants as op
 use Rattle.xen_steps.specs.Event.{Event}
 use Rattle.xen_steps.specs.Steps.{want_of}
 use Rattle.xen_steps.specs.declared.want.Want.TheVariants as want
-use Rattle.xen_back.specs.Deliveries.{whole_delivery}
+use Rattle.xen_turns.specs.Deliveries.{whole_delivery}
 use Rattle.xen_back.specs.Queues.{rest, state_of, wiring_of}
-use Rattle.xen_back.specs.Waits.{whole_wait}
-use Rattle.xen_back.specs.declared.delivery.wait.Awaited.{Awaited}
-use Rattle.xen_back.specs.declared.delivery.delivering.Delivery.{Delivery}
+use Rattle.xen_turns.specs.Waits.{whole_wait}
+use Rattle.xen_turns.specs.declared.delivery.wait.Awaited.{Awaited}
+use Rattle.xen_turns.specs.declared.delivery.delivering.Delivery.{Delivery}
 use Rattle.xen_back.specs.declared.delivery.wait_stage.Awaiting.{Awaiting}
 use Rattle.xen_back.specs.declared.delivery.underway.Delivering.{Delivering}
 use Rattle.xen_back.specs.declared.queue.Queue.{Queue}
-use Rattle.xen_back.specs.declared.wiring.Wiring.{Wiring}
+use Rattle.xen_turns.specs.declared.wiring.Wiring.{Wiring}
 use Rattle.xdp_world.specs.Activities.{Came, Given, HasHalted, Item, SlotsAwaited, all_came}
 use Rattle.xdp_world.specs.Calls.{Awaits, Call, Delivers, HaveCome, Stepped, entries_of, items_of}
 use Rattle.xdp_world.specs.Carries.{Carries, Lands, Looks, Moves, Resumes, after_turn, carries, delivered_list, looks, rests, turns, waited_list}

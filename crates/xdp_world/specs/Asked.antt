@@ -4,8 +4,8 @@ use Rattle.std.specs.Prelude.{ℕ, ◌≡◌, ◌≢◌, ◌<◌, List, [], ◌�
 use Rattle.std.specs.Global.{Vec}
 use Rattle.bpf_verify.specs.Consistent.{Accepted}
 use Rattle.xen_steps.specs.Event.{Event}
-use Rattle.xen_back.specs.declared.state.State.{State}
-use Rattle.xen_back.specs.declared.wiring.Wiring.{Wiring}
+use Rattle.xen_turns.specs.declared.state.State.{State}
+use Rattle.xen_turns.specs.declared.wiring.Wiring.{Wiring}
 use Rattle.xdp_world.specs.Activities.{Activities, Deed, IsLeft, Item}
 use Rattle.xdp_world.specs.Begin.{IsFor}
 use Rattle.xdp_world.specs.Calls.{Awaits, Call, Delivers, Stepped, items_of}
@@ -59,7 +59,7 @@ GoesBy old new es = (wirings : ℕ → Wiring) (start : ℕ) (cs : List Call) �
 -- The report of a run of a program's queues through these events.
 pub record IsWorldRun (program : Accepted) (queues ifindex start : ℕ) (es : List WorldEvent) (r : Report) : Type 0 where
   pub wirings : ℕ → Wiring
-  pub wired : (i : ℕ) → i < queues → IsFor program queues ifindex i (wirings i)
+  pub wired : (i : ℕ) → i < queues → IsFor program [] queues ifindex i (wirings i)
   pub calls : List Call
   pub made : Makes wirings start [] es calls
   pub count : length r.turns.items ≡ queues

@@ -1,7 +1,7 @@
 -- Stated: claims rest on this file.
 -- The list of the calls that did something to a world, and what each queue has of it.
 use Rattle.std.specs.Prelude.{ℕ, ◌≡◌, List, [], ◌∷◌, ◌++◌, Some, None, if◌then◌else◌, ◌==◌, slice_get, take}
-use Rattle.xen_back.specs.declared.wiring.Wiring.{Wiring}
+use Rattle.xen_turns.specs.declared.wiring.Wiring.{Wiring}
 use Rattle.xdp_world.specs.Activities.{Given, HasHalted, Item, SlotsAwaited, all_came}
 use Rattle.xdp_world.specs.Entries.{Entry, listed}
 

@@ -8,13 +8,13 @@ use Rattle.xen_steps.specs.Event.{Event}
 use Rattle.xen_steps.specs.Steps.{Steps, done, want_of}
 use Rattle.xen_steps.specs.declared.want.Want.TheVariants as want
 use Rattle.xen_back.specs.ByEvent.{left_of}
-use Rattle.xen_back.specs.Deliveries.{Arrival}
-use Rattle.xen_back.specs.Drive.{label_of}
+use Rattle.xen_turns.specs.Deliveries.{Arrival}
+use Rattle.xen_turns.specs.Drive.{label_of}
 use Rattle.xen_back.specs.Queues.{IsReady, rest, state_of}
-use Rattle.xen_back.specs.Waits.{Wait}
+use Rattle.xen_turns.specs.Waits.{Wait}
 use Rattle.xen_back.specs.WaitsByEvent.{left_of_wait}
-use Rattle.xen_back.specs.declared.delivery.wait.Awaited.{Awaited}
-use Rattle.xen_back.specs.declared.delivery.delivering.Delivery.{Delivery}
+use Rattle.xen_turns.specs.declared.delivery.wait.Awaited.{Awaited}
+use Rattle.xen_turns.specs.declared.delivery.delivering.Delivery.{Delivery}
 use Rattle.xen_back.specs.declared.delivery.wait_stage.Awaiting.{Awaiting}
 use Rattle.xen_back.specs.declared.delivery.underway.Delivering.{Delivering}
 use Rattle.xen_back.specs.declared.queue.Queue.{Queue}

@@ -4,13 +4,13 @@ use Rattle.std.specs.Prelude.{ℕ, ◌≡◌, ◌≢◌, List, [], ◌∷◌, �
 use Rattle.xen_steps.specs.Drive.{LedBy}
 use Rattle.xen_steps.specs.Event.{Event}
 use Rattle.xen_steps.specs.Steps.{Runs, Steps, want_of}
-use Rattle.xen_back.specs.Tree.{whole_turn}
-use Rattle.xen_back.specs.Turned.{Ending, Turned}
-use Rattle.xen_back.specs.Turns.{IsTurn}
-use Rattle.xen_back.specs.declared.state.State.{State}
-use Rattle.xen_back.specs.declared.turn.Halt.{Halt}
+use Rattle.xen_turns.specs.Tree.{whole_turn}
+use Rattle.xen_turns.specs.Turned.{Ending, Turned}
+use Rattle.xen_turns.specs.Turns.{IsTurn}
+use Rattle.xen_turns.specs.declared.state.State.{State}
+use Rattle.xen_turns.specs.declared.turn.Halt.{Halt}
 use Rattle.xen_steps.specs.declared.want.Want.TheVariants as want
-use Rattle.xen_back.specs.declared.wiring.Wiring.{Wiring}
+use Rattle.xen_turns.specs.declared.wiring.Wiring.{Wiring}
 use Rattle.xdp_world.specs.Entries.{Entry, events_of}
 use Rattle.xdp_world.specs.Keeping.{Keeps}
 use Rattle.xdp_world.specs.declared.kept.Kept.{Kept}

@@ -14,7 +14,7 @@ use Rattle.xen_back.specs.declared.by_event.phase.Phase.TheVariants as phase
 use Rattle.xen_back.specs.declared.by_event.stage.Stage.{Stage}
 use Rattle.xen_back.specs.declared.by_event.stage.Stage.TheVariants as stage
 use Rattle.xen_back.specs.declared.queue.Queue.{Queue}
-use Rattle.xen_back.specs.declared.wiring.Wiring.{Wiring}
+use Rattle.xen_turns.specs.declared.wiring.Wiring.{Wiring}
 use Rattle.xdp_world.specs.Activities.{Given, Item, IsUndelivered, IsUnwaited, SlotsAwaited, all_came}
 use Rattle.xdp_world.specs.Core.{IsUnfinished}
 use Rattle.xdp_world.specs.declared.doing.Doing.{Doing}

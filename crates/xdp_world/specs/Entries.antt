@@ -2,7 +2,7 @@
 -- The list of entries, one a step, and what each queue has of it.
 use Rattle.std.specs.Prelude.{ℕ, ◌≡◌, List, [], ◌∷◌, ◌++◌, Option, Some, None, if◌then◌else◌, ◌==◌}
 use Rattle.bpf_note.specs.declared.op.Op.{Op}
-use Rattle.xen_back.specs.Drive.{label_of}
+use Rattle.xen_turns.specs.Drive.{label_of}
 use Rattle.xen_steps.specs.Event.{Event, Read, Write, Instr, Load, Add, Notify}
 
 -- a step: which queue, what a read would be answered, and the event, if the queue hadn't halted

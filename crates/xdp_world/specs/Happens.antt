@@ -6,11 +6,11 @@ use Rattle.bpf_note.specs.Shape.{IsCounter}
 use Rattle.bpf_note.specs.declared.op.Op.{Op}
 use Rattle.bpf_note.specs.declared.op.Op.TheVariants as op
 use Rattle.xen_steps.specs.Drive.{Goes}
-use Rattle.xen_back.specs.Drive.{label_of}
+use Rattle.xen_turns.specs.Drive.{label_of}
 use Rattle.xen_steps.specs.Event.{Event}
 use Rattle.xen_back.specs.Queues.{rest, state_of, wiring_of, IsReady}
 use Rattle.xen_steps.specs.Steps.{Steps, done, want_of}
-use Rattle.xen_back.specs.Turned.{Ending, Turned}
+use Rattle.xen_turns.specs.Turned.{Ending, Turned}
 use Rattle.xen_back.specs.declared.queue.Queue.{Queue}
 use Rattle.xen_steps.specs.declared.want.Want.TheVariants as want
 use Rattle.xdp_world.specs.Entries.{Serves}

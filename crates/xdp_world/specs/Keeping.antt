@@ -2,7 +2,7 @@
 -- A turn that is kept.
 use Rattle.std.specs.Prelude.{◌≡◌}
 use Rattle.bpf_vm.specs.Actions.{action_of}
-use Rattle.xen_back.specs.Turned.{Turned, Idle, Ran, Refused, Halted}
+use Rattle.xen_turns.specs.Turned.{Turned, Idle, Ran, Refused, Halted}
 use Rattle.xdp_world.specs.declared.kept.Kept.{Kept}
 use Rattle.xdp_world.specs.declared.kept.Kept.TheVariants as kept
 

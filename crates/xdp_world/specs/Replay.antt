@@ -2,7 +2,7 @@
 -- A replay: one queue's reads are answered from a list.
 use Rattle.std.specs.Prelude.{ℕ, ◌≡◌, List, [], ◌∷◌, ◌++◌, Option, Some, None}
 use Rattle.bpf_verify.specs.Consistent.{Accepted}
-use Rattle.xen_back.specs.declared.wiring.Wiring.{Wiring}
+use Rattle.xen_turns.specs.declared.wiring.Wiring.{Wiring}
 use Rattle.xen_page.specs.declared.place.Place.{Place}
 use Rattle.xen_steps.specs.Event.{Event, Read}
 use Rattle.xen_steps.specs.Steps.{want_of}
@@ -43,7 +43,7 @@ pub data Stops (w : Wiring) (start : ℕ) (events : List Event) (kept : List Kep
 -- The report is of a run through steps of this queue, whose reads took the answers in order, as far as it came.
 pub record IsReplay (program : Accepted) (queues ifindex start queue : ℕ) (answers : List ℕ) (r : Report) : Type 0 where
   pub steps : List (ℕ × ℕ)
-  pub run : IsCoreRun program queues ifindex start steps r
+  pub run : IsCoreRun program [] queues ifindex start steps r
   pub own : AreOf queue run.entries
   pub left : List ℕ
   pub answered : answers ≡ read_answers run.entries ++ left

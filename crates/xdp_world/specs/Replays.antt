@@ -2,10 +2,10 @@
 -- A world in which one queue is stepped.
 use Rattle.std.specs.Prelude.{ℕ, ◌≡◌, ◌⊎◌, List, [], ◌++◌, slice_index_or}
 use Rattle.xen_back.specs.Queues.{rest, wiring_of}
-use Rattle.xen_back.specs.Tree.{whole_turn}
+use Rattle.xen_turns.specs.Tree.{whole_turn}
 use Rattle.xen_back.specs.declared.queue.Queue.{Queue}
-use Rattle.xen_back.specs.declared.state.State.{State}
-use Rattle.xen_back.specs.declared.wiring.Wiring.{Wiring}
+use Rattle.xen_turns.specs.declared.state.State.{State}
+use Rattle.xen_turns.specs.declared.wiring.Wiring.{Wiring}
 use Rattle.xen_steps.specs.Drive.{Any, Bounded}
 use Rattle.xen_steps.specs.Steps.{want_of}
 use Rattle.xen_steps.specs.declared.want.Want.{Want}

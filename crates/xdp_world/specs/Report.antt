@@ -1,16 +1,17 @@
 -- Stated: claims rest on this file.
 -- What a run reports.
-use Rattle.std.specs.Prelude.{ℕ, ◌≡◌, ◌<◌, List, [], length}
+use Rattle.std.specs.Prelude.{ℕ, ◌≡◌, ◌<◌, List, [], Option, length}
+use Rattle.bpf_lists.specs.declared.list.MapList.{MapList}
 use Rattle.bpf_maps.specs.Seats.{total_at}
 use Rattle.bpf_note.specs.History.{IsLegal, left_in, share}
 use Rattle.bpf_note.specs.Shape.{IsCounter}
 use Rattle.bpf_verify.specs.Consistent.{Accepted}
-use Rattle.xen_back.specs.Drive.{labels}
+use Rattle.xen_turns.specs.Drive.{labels}
 use Rattle.xen_steps.specs.Event.{Event}
 use Rattle.xen_steps.specs.Steps.{Steps}
-use Rattle.xen_back.specs.Turned.{Ending}
-use Rattle.xen_back.specs.declared.state.State.{State}
-use Rattle.xen_back.specs.declared.wiring.Wiring.{Wiring}
+use Rattle.xen_turns.specs.Turned.{Ending}
+use Rattle.xen_turns.specs.declared.state.State.{State}
+use Rattle.xen_turns.specs.declared.wiring.Wiring.{Wiring}
 use Rattle.xdp_world.specs.Begin.{IsFor}
 use Rattle.xdp_world.specs.Core.{HaveEvents, IsUnfinished, Turns, started_at}
 use Rattle.xdp_world.specs.Entries.{AllServe, Entry, events_of, history, steps_of}
@@ -51,10 +52,10 @@ pub record Reports (wirings : ℕ → Wiring) (start : ℕ) (es : List Entry) (r
   pub legal : IsLegal (history es)
   pub leaves : (m k j : ℕ) → IsCounter r.totals.shapes m k j → total_at r.totals m k j ≡ left_in m k j (history es)
 
--- The report of a run of a program's queues through these steps: there is a list of entries as asked.
-pub record IsCoreRun (program : Accepted) (queues ifindex start : ℕ) (steps : List (ℕ × ℕ)) (r : Report) : Type 0 where
+-- The report of a run of a program's queues through these steps, with these lists of its maps: there is a list of entries as asked.
+pub record IsCoreRun (program : Accepted) (lists : List (Option MapList)) (queues ifindex start : ℕ) (steps : List (ℕ × ℕ)) (r : Report) : Type 0 where
   pub wirings : ℕ → Wiring
-  pub wired : (i : ℕ) → i < queues → IsFor program queues ifindex i (wirings i)
+  pub wired : (i : ℕ) → i < queues → IsFor program lists queues ifindex i (wirings i)
   pub entries : List Entry
   pub steps_are : steps_of entries ≡ steps
   pub count : length r.turns.items ≡ queues

@@ -7,15 +7,15 @@ use Rattle.bpf_maps.specs.Seats.{total_at}
 use Rattle.bpf_note.specs.History.{IsLegal, left_in}
 use Rattle.bpf_note.specs.Shape.{IsCounter}
 use Rattle.xen_steps.specs.Event.{Event}
-use Rattle.xen_back.specs.Deliveries.{whole_delivery}
+use Rattle.xen_turns.specs.Deliveries.{whole_delivery}
 use Rattle.xen_back.specs.Queues.{rest, state_of, wiring_of}
-use Rattle.xen_back.specs.Waits.{whole_wait}
-use Rattle.xen_back.specs.declared.delivery.wait.Awaited.{Awaited}
-use Rattle.xen_back.specs.declared.delivery.delivering.Delivery.{Delivery}
+use Rattle.xen_turns.specs.Waits.{whole_wait}
+use Rattle.xen_turns.specs.declared.delivery.wait.Awaited.{Awaited}
+use Rattle.xen_turns.specs.declared.delivery.delivering.Delivery.{Delivery}
 use Rattle.xen_back.specs.declared.delivery.wait_stage.Awaiting.{Awaiting}
 use Rattle.xen_back.specs.declared.delivery.underway.Delivering.{Delivering}
 use Rattle.xen_back.specs.declared.queue.Queue.{Queue}
-use Rattle.xen_back.specs.declared.wiring.Wiring.{Wiring}
+use Rattle.xen_turns.specs.declared.wiring.Wiring.{Wiring}
 use Rattle.xdp_world.specs.Activities.{Activities, Deed, Item, deliveries_in, turns_in, waits_in}
 use Rattle.xdp_world.specs.Calls.{Awaits, Call, Delivers, HaveCome, Stepped, all_stepped, entries_of, items_of}
 use Rattle.xdp_world.specs.Carries.{Carries, Lands, Looks, Resumes, delivered_list, doing_after, waited_list}

@@ -1,7 +1,7 @@
 //! One event of a queue, served from an answer and the counters.
 ghost use Rattle.std.specs.Prelude.{◌≡◌, ◌≢◌};
 ghost use Rattle.xen_steps.specs.Drive.{Goes};
-ghost use Rattle.xen_back.specs.Drive.{label_of};
+ghost use Rattle.xen_turns.specs.Drive.{label_of};
 ghost use Rattle.xen_steps.specs.Event.{Event};
 ghost use Rattle.xen_back.specs.Queues.{rest, state_of, wiring_of};
 ghost use Rattle.xen_steps.specs.Steps.{want_of};

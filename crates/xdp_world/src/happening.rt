@@ -78,6 +78,7 @@ impl World<'_, '_> {
             alloc,
             &layout,
             program,
+            &[],
             buffers.as_mut_slice(),
             queues,
             ifindex,

@@ -1,6 +1,6 @@
 //! A turn that is kept.
 ghost use Rattle.std.specs.Prelude.{◌≡◌, ◌≤◌, length, vec_len, vec_capacity};
-ghost use Rattle.xen_back.specs.Turned.{IsShort, Shows, Turned};
+ghost use Rattle.xen_turns.specs.Turned.{IsShort, Shows, Turned};
 ghost use Rattle.xdp_world.specs.Keeping.{Keeps};
 
 use std::mem;

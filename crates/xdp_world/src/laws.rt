@@ -2,10 +2,10 @@
 ghost use Rattle.std.specs.Prelude.{◌≡◌, ◌++◌, List, None};
 ghost use Rattle.xen_steps.specs.Event.{Event};
 ghost use Rattle.xen_steps.specs.Steps.{Steps, Runs};
-ghost use Rattle.xen_back.specs.Turned.{Ending, Turned};
-ghost use Rattle.xen_back.specs.Turns.{IsTurn};
-ghost use Rattle.xen_back.specs.declared.state.State.{State};
-ghost use Rattle.xen_back.specs.declared.wiring.Wiring.{Wiring};
+ghost use Rattle.xen_turns.specs.Turned.{Ending, Turned};
+ghost use Rattle.xen_turns.specs.Turns.{IsTurn};
+ghost use Rattle.xen_turns.specs.declared.state.State.{State};
+ghost use Rattle.xen_turns.specs.declared.wiring.Wiring.{Wiring};
 ghost use Rattle.xdp_world.specs.Core.{IsUnfinished};
 
 /// An unfinished turn is the beginning of a turn, and no turn by itself. What a queue has left completes it, by each of its

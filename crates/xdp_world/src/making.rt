@@ -1,6 +1,6 @@
 //! Making a world, and running it.
 ghost use Rattle.std.specs.Prelude.{◌≡◌, ◌<◌, ◌≤◌, ℕ, List, [], All, IfOk, length, slice_index_or, vec_len};
-ghost use Rattle.xen_back.specs.declared.wiring.Wiring.{Wiring};
+ghost use Rattle.xen_turns.specs.declared.wiring.Wiring.{Wiring};
 ghost use Rattle.xdp_world.specs.Begin.{Begins, IsFresh};
 ghost use Rattle.xdp_world.specs.Entries.{Entry};
 ghost use Rattle.xdp_world.specs.Calls.{Call};
@@ -14,6 +14,7 @@ use crate::layout::{BACK, FRONT, Layout};
 use crate::report::{Delivered, Report, Waited};
 use crate::ring::ring;
 use crate::world::World;
+use bpf_lists::MapList;
 use bpf_maps::Totals;
 use bpf_verify::Verified;
 use bpf_vm::Buffer;
@@ -25,13 +26,14 @@ pub(crate) fn queue<'p, 'b>(
     alloc: Global,
     layout: &'p Layout,
     program: &'p Verified,
+    lists: &'p [Option<MapList>],
     buffer: &'b mut Buffer,
     number: usize,
     ifindex: u32,
     start: u32,
 ) -> Result<Queue<'p, 'b>, AllocError>
     requires { number < layout.now.queues }
-    ensures { IfOk result (λ q. IsFresh program.now layout.now.queues ifindex start number q) }
+    ensures { IfOk result (λ q. IsFresh program.now lists.now layout.now.queues ifindex start number q) }
 {
     let tx = ring(alloc, layout, Layout::tx_ring(number))?;
     let rx = ring(alloc, layout, Layout::rx_ring(number))?;
@@ -47,7 +49,7 @@ pub(crate) fn queue<'p, 'b>(
         port: Layout::back_port(number),
         start,
     };
-    Ok(Queue::make(program, &[], desc, buffer))
+    Ok(Queue::make(program, lists, desc, buffer))
 }
 
 /// A buffer for each queue.
@@ -98,11 +100,13 @@ fn none_waited(alloc: Global, queues: usize) -> Result<Vec<Vec<Waited>>, AllocEr
 }
 
 impl<'p, 'b> World<'p, 'b> {
-    /// `queues` queues of a program, before their first turns, with all counters 0. Their packets lie in the buffers.
+    /// `queues` queues of a program with lists of its maps, before their first turns, with all counters 0. Their packets lie in
+    /// the buffers.
     pub fn make(
         alloc: Global,
         layout: &'p Layout,
         program: &'p Verified,
+        lists: &'p [Option<MapList>],
         buffers: &'b mut [Buffer],
         queues: usize,
         ifindex: u32,
@@ -114,7 +118,7 @@ impl<'p, 'b> World<'p, 'b> {
         ensures size { IfOk result (λ w. vec_len w.queues ≡ queues) }
         ensures shapes { IfOk result (λ w. w.counters.shapes ≡ program.now.shapes) }
         ensures free { IfOk result (λ w. (i : ℕ) → IsFree w i) }
-        ensures begins { IfOk result (Begins program.now queues ifindex start) }
+        ensures begins { IfOk result (Begins program.now lists.now queues ifindex start) }
     {
         let counters = Totals::make(alloc, program.shapes())?;
         let mut all = Vec::with_capacity(alloc, queues)?;
@@ -125,7 +129,16 @@ impl<'p, 'b> World<'p, 'b> {
         let mut rest = buffers;
         for number in 0..queues {
             let (head, tail) = rest.split_at_mut(1);
-            let made = queue(alloc, layout, program, &mut head[0], number, ifindex, start)?;
+            let made = queue(
+                alloc,
+                layout,
+                program,
+                lists,
+                &mut head[0],
+                number,
+                ifindex,
+                start,
+            )?;
             all.push_reserved(made);
             turns.push_reserved(Vec::new(alloc));
             rest = tail;
@@ -181,6 +194,7 @@ impl World<'_, '_> {
     pub fn run(
         alloc: Global,
         program: &Verified,
+        lists: &[Option<MapList>],
         queues: usize,
         ifindex: u32,
         start: u32,
@@ -188,7 +202,7 @@ impl World<'_, '_> {
     ) -> Result<Report, AllocError>
         requires queues { (1 ≤ queues) × (queues ≤ 8) }
         requires steps { All (λ s. s.0 < queues) steps.now }
-        ensures { IfOk result (IsCoreRun program.now queues ifindex start steps.now) }
+        ensures { IfOk result (IsCoreRun program.now lists.now queues ifindex start steps.now) }
     {
         let layout = Layout::make(alloc, queues)?;
         let mut buffers = buffers(alloc, queues)?;
@@ -196,6 +210,7 @@ impl World<'_, '_> {
             alloc,
             &layout,
             program,
+            lists,
             buffers.as_mut_slice(),
             queues,
             ifindex,

@@ -101,6 +101,7 @@ pub fn replay(
         alloc,
         &layout,
         program,
+        &[],
         buffers.as_mut_slice(),
         queues,
         ifindex,

@@ -1,7 +1,7 @@
 //! What a world's queues want, and what they did.
 ghost use Rattle.std.specs.Prelude.{◌≡◌, ◌≢◌, ◌<◌, vec_len, slice_index_or};
 ghost use Rattle.xen_back.specs.Queues.{state_of, wiring_of};
-ghost use Rattle.xen_back.specs.Within.{may_want};
+ghost use Rattle.xen_turns.specs.Within.{may_want};
 ghost use Rattle.xen_back.specs.declared.queue.Queue.{Queue};
 ghost use Rattle.xdp_world.specs.Doings.{want_at};
 ghost use Rattle.xdp_world.specs.Stands.{delivered_in, doing_in, kept_in, waited_in};

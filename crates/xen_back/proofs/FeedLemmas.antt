@@ -1,35 +1,21 @@
 -- Taking an answer, and coming to the end of a turn.
-use Rattle.std.proofs.Common.{◌≡◌, ℕ, List, [], ◌∷◌, length, drop, refl, subst}
-use Rattle.bpf_vm.specs.Course.{Course, Begins}
-use Rattle.bpf_vm.specs.declared.want.VmWant.{VmWant}
-use Rattle.bpf_vm.specs.declared.want.VmWant.TheVariants as vm_want
+use Rattle.std.proofs.Common.{◌≡◌, ℕ, List, length, drop, refl}
 use Rattle.xen_back.specs.Rest.{rest_at, rest_in}
 use Rattle.xen_steps.proofs.BindLemmas.{asks_on}
-use Rattle.xen_steps.specs.Steps.{Steps, bind, want_of}
+use Rattle.xen_steps.specs.Steps.{want_of}
 use Rattle.xen_rx_fill.proofs.SendLemmas.{going_asks}
 use Rattle.xen_rx_fill.specs.Rest.{rest_of}
-use Rattle.xen_back.specs.Tree.{Left, after_transmit, answer, program}
-use Rattle.xen_back.specs.Turned.{Ending}
+use Rattle.xen_turns.specs.Tree.{after_transmit}
 use Rattle.xen_back.specs.declared.by_event.phase.Phase.{Phase}
 use Rattle.xen_back.specs.declared.by_event.phase.Phase.TheVariants as phase
 use Rattle.xen_back.specs.declared.by_event.stage.Executing.{Executing}
 use Rattle.xen_back.specs.declared.by_event.stage.Stage.{Stage}
 use Rattle.xen_back.specs.declared.by_event.stage.Stage.TheVariants as stage
-use Rattle.xen_back.specs.declared.state.State.{State}
-use Rattle.xen_back.specs.declared.turn.Kind.{Kind}
+use Rattle.xen_turns.specs.declared.state.State.{State}
+use Rattle.xen_turns.specs.declared.turn.Kind.{Kind}
 use Rattle.xen_steps.specs.declared.want.Want.TheVariants as want
-use Rattle.xen_back.specs.declared.wiring.Wiring.{Wiring}
-
--- a program that begins wants something
-pub program_asks : (v : VmWant) (c : Course) (ops : ℕ) (f : Left → Steps Ending) → Begins v c → want_of (bind (program c ops) f) ≡ want.Done → ⊥
-program_asks vm_want.Step c ops f b e = let g = subst (λ c. want_of (bind (program c ops) f) ≡ want.Done) b.1 e in cc
-program_asks (vm_want.Load m k j) c ops f b e = let g = subst (λ c. want_of (bind (program c ops) f) ≡ want.Done) b.1 e in cc
-program_asks (vm_want.Add m k j d) c ops f b e = let g = subst (λ c. want_of (bind (program c ops) f) ≡ want.Done) b.1 e in cc
-program_asks (vm_want.Exit r0) c ops f b e = let g = subst (λ c. want_of (bind (program c ops) f) ≡ want.Done) b.1 e in cc
-
-answer_asks : (w : Wiring) (t n i : ℕ) (rs : List ℕ) (e : Ending) → want_of (answer w t n i rs e) ≡ want.Done → ⊥
-answer_asks w t n i [] e h = cc
-answer_asks w t n i (r ∷ rs) e h = cc
+use Rattle.xen_turns.specs.declared.wiring.Wiring.{Wiring}
+use Rattle.xen_turns.proofs.FeedLemmas.{answer_asks}
 
 -- a phase that wants nothing is between turns, or at the end of one
 pub asks_nothing : (w : Wiring) (s : State) (packet : List ℕ) (p : Phase) → (p ≡ phase.Ready → ⊥) → ((after : State) (kind : Kind) → p ≡ phase.Ended after kind → ⊥) → want_of (rest_at w s packet p) ≡ want.Done → ⊥

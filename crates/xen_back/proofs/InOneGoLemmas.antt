@@ -29,21 +29,21 @@ use Rattle.xen_rx_fill.specs.Wired.{IsWired}
 use Rattle.xen_rx_fill.specs.declared.by_event.phase.Outcome.{Outcome}
 use Rattle.xen_rx_fill.proofs.Bounds.{bounded_transmit}
 use Rattle.xen_rx_fill.proofs.StraightLemmas.{driven_bind}
-use Rattle.xen_back.specs.Drive.{Driven, label_of, labels}
-use Rattle.xen_back.specs.Program.{plain_instructions}
-use Rattle.xen_back.specs.Ran.{HasRunTo}
+use Rattle.xen_turns.specs.Drive.{Driven, label_of, labels}
+use Rattle.xen_turns.specs.Program.{plain_instructions}
+use Rattle.xen_turns.specs.Ran.{HasRunTo}
 use Rattle.xen_back.specs.Rest.{at_phase, packet_at}
 use Rattle.xen_back.specs.declared.by_event.phase.Phase.{Phase}
 use Rattle.xen_back.specs.declared.by_event.stage.Stage.{Stage}
 use Rattle.xen_back.specs.declared.by_event.stage.Stage.TheVariants as stages
-use Rattle.xen_back.specs.Tree.{Left, after_scan, judged, read_slots, after_chain, after_look, after_run, after_transmit, announce, look, notice, program, respond, seen, send, status_of}
-use Rattle.xen_back.specs.Turned.{Ending, Ran}
-use Rattle.xen_back.specs.declared.state.State.{State}
-use Rattle.xen_back.specs.declared.wiring.Wiring.{Wiring}
-use Rattle.xen_back.proofs.BulkLemmas.{IsSlotRead, slot_on}
+use Rattle.xen_turns.specs.Tree.{Left, after_scan, judged, read_slots, after_chain, after_look, after_run, after_transmit, announce, look, notice, program, respond, seen, send, status_of}
+use Rattle.xen_turns.specs.Turned.{Ending, Ran}
+use Rattle.xen_turns.specs.declared.state.State.{State}
+use Rattle.xen_turns.specs.declared.wiring.Wiring.{Wiring}
+use Rattle.xen_turns.proofs.BulkLemmas.{IsSlotRead, slot_on}
 use Rattle.xen_back.specs.InOneGo.{after_slot}
-use Rattle.xen_back.proofs.DriveLemmas.{plain_accesses, plain_labels, driven_none, gone_plain, labels-append}
-use Rattle.xen_back.proofs.TurnRuns.{is_three, not_three}
+use Rattle.xen_turns.proofs.DriveLemmas.{plain_accesses, plain_labels, driven_none, gone_plain, labels-append}
+use Rattle.xen_turns.proofs.TurnRuns.{is_three, not_three}
 
 -- a run goes on by instructions that read no counter
 pub run_plain : (start : Steps Left) (x y : Course) (ops n : ℕ) (a b : List Op) → HasRunTo start (program x ops) a b → x ≡ after_steps n y → HasRunTo start (program y ops) a b

@@ -7,10 +7,11 @@ use Rattle.xen_steps.specs.Steps.{Steps, done, next, want_of}
 use Rattle.xen_steps.specs.declared.want.Answer.{Answer}
 use Rattle.xen_steps.specs.declared.want.Want.{Want}
 use Rattle.xen_steps.specs.declared.want.Want.TheVariants as wants
-use Rattle.xen_back.specs.Deliveries.{Arrival, rest_moving, whole_delivery}
+use Rattle.xen_turns.specs.Deliveries.{Arrival, whole_delivery}
+use Rattle.xen_back.specs.Deliveries.{rest_moving}
 use Rattle.xen_back.specs.Queues.{IsReady, IsSameWiring, state_of, wiring_of}
 use Rattle.xen_back.specs.declared.delivery.underway.Delivering.{Delivering}
-use Rattle.xen_back.specs.declared.delivery.delivering.Delivery.{Delivery}
+use Rattle.xen_turns.specs.declared.delivery.delivering.Delivery.{Delivery}
 use Rattle.xen_back.specs.declared.queue.Queue.{Queue}
 
 -- What is left of a delivery.

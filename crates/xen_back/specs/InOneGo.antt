@@ -10,16 +10,16 @@ use Rattle.xen_page.specs.declared.access.Access.{Access}
 use Rattle.xen_steps.specs.Event.{Event}
 use Rattle.xen_steps.specs.Steps.{Steps, bind, done}
 use Rattle.xen_rx_fill.specs.Wired.{IsWired}
-use Rattle.xen_back.specs.Drive.{Driven}
+use Rattle.xen_turns.specs.Drive.{Driven}
 use Rattle.xen_back.specs.Queues.{state_of}
 use Rattle.xen_back.specs.Rest.{packet_of_stage}
-use Rattle.xen_back.specs.Tree.{after_look, after_scan, copy, judged, read_slots}
-use Rattle.xen_back.specs.Turned.{Ending, turned}
+use Rattle.xen_turns.specs.Tree.{after_look, after_scan, copy, judged, read_slots}
+use Rattle.xen_turns.specs.Turned.{Ending, turned}
 use Rattle.xen_back.specs.declared.in_one_go.service.Service.{Service}
 use Rattle.xen_back.specs.declared.queue.Queue.{Queue}
-use Rattle.xen_back.specs.declared.state.State.{State}
-use Rattle.xen_back.specs.declared.turn.Kind.{Kind}
-use Rattle.xen_back.specs.declared.wiring.Wiring.{Wiring}
+use Rattle.xen_turns.specs.declared.state.State.{State}
+use Rattle.xen_turns.specs.declared.turn.Kind.{Kind}
+use Rattle.xen_turns.specs.declared.wiring.Wiring.{Wiring}
 
 -- The bus reaches as many frames as have owners in the wiring, and counters and seat are the program's.
 pub record Serve {B : Type 0} (frames : B → ℕ) (s : Service B) : Type 0 where

@@ -9,14 +9,14 @@ use Rattle.xen_steps.specs.declared.want.Want.{Want}
 use Rattle.xen_steps.specs.declared.want.Want.TheVariants as wants
 use Rattle.xen_back.specs.Rest.{rest_of_stage}
 use Rattle.xen_steps.specs.Steps.{Runs, Steps, done, next, want_of}
-use Rattle.xen_back.specs.Within.{may_want}
-use Rattle.xen_back.specs.Turned.{Ending, IsShort, Turned, Shows}
+use Rattle.xen_turns.specs.Within.{may_want}
+use Rattle.xen_turns.specs.Turned.{Ending, IsShort, Turned, Shows}
 use Rattle.xen_back.specs.declared.by_event.phase.Phase.TheVariants as phase
 use Rattle.xen_back.specs.declared.queue.Queue.{Queue}
 use Rattle.xen_back.specs.declared.by_event.stage.Stage.TheVariants as stage
-use Rattle.xen_back.specs.declared.state.State.{State}
-use Rattle.xen_back.specs.declared.turn.Turn.{Turn}
-use Rattle.xen_back.specs.declared.wiring.Wiring.{Wiring}
+use Rattle.xen_turns.specs.declared.state.State.{State}
+use Rattle.xen_turns.specs.declared.turn.Turn.{Turn}
+use Rattle.xen_turns.specs.declared.wiring.Wiring.{Wiring}
 
 abbrev pub state_of : Queue → State
 state_of q = q.state

@@ -1,35 +1,25 @@
 -- Stated: claims rest on this file.
 -- What a queue has left of its turn (its continuation).
-use Rattle.std.specs.Prelude.{ℕ, suc, ◌+◌, true, List, [], ◌∷◌, ◌++◌, length, drop}
-use Rattle.std.specs.Prelude.{slice_index_or, Option, Some, None, Result, Ok, Err}
-use Rattle.xen_netif.specs.Chain.{Slot}
-use Rattle.xen_netif.specs.Standing.{standing}
-use Rattle.xen_netif.specs.declared.fragment.Fragment.{Fragment}
+use Rattle.std.specs.Prelude.{ℕ, suc, ◌+◌, true, List, [], length, drop}
+use Rattle.std.specs.Prelude.{Option, Some, None}
 use Rattle.bpf_vm.specs.Course.{left}
 use Rattle.xen_steps.specs.Places.{add32}
 use Rattle.xen_rx_fill.specs.Rest.{rest_of}
 use Rattle.xen_steps.specs.Steps.{Steps, done, never, bind}
-use Rattle.xen_back.specs.Turned.{Ending, turned}
+use Rattle.xen_turns.specs.Turned.{Ending, turned}
 use Rattle.xen_rx_fill.specs.Entries.{entry_at, entry_checked}
-use Rattle.xen_back.specs.Tree.{whole_turn, announce, check_again, after_look, after_scan, after_copy, after_run, after_transmit}
-use Rattle.xen_back.specs.Tree.{read_slot, second, third, judged, read_slots, answer, answered, halted, respond, read_event, notice}
-use Rattle.xen_back.specs.Tree.{entered, copy, program}
+use Rattle.xen_turns.specs.Tree.{whole_turn, announce, check_again, after_look, after_copy, after_run, after_transmit}
+use Rattle.xen_turns.specs.Tree.{read_slot, second, third, answer, answered, read_event, notice}
+use Rattle.xen_turns.specs.Tree.{entered, copy, program}
 use Rattle.xen_steps.specs.Pages.{copy_words}
 use Rattle.xen_back.specs.declared.by_event.phase.Phase.{Phase}
 use Rattle.xen_back.specs.declared.by_event.phase.Phase.TheVariants as phase
-use Rattle.xen_back.specs.declared.decisions.Reply.{Reply}
 use Rattle.xen_back.specs.declared.by_event.stage.Stage.{Stage}
 use Rattle.xen_back.specs.declared.by_event.stage.Stage.TheVariants as stage
-use Rattle.xen_back.specs.declared.state.State.{State}
-use Rattle.xen_back.specs.declared.turn.Halt.{Halt}
-use Rattle.xen_back.specs.declared.wiring.Wiring.{Wiring}
+use Rattle.xen_turns.specs.declared.state.State.{State}
+use Rattle.xen_turns.specs.declared.wiring.Wiring.{Wiring}
 use Rattle.xen_page.specs.declared.entry.Rights.TheVariants.{ReadOnly}
-
--- `left` slots are left after the one that is being read
-abbrev pub rest_of_slot : Wiring → State → ℕ → List Slot → Steps Slot → Steps Ending
-rest_of_slot w s left slots reading =
-    bind (bind reading (λ slot. judged (slots ++ slot ∷ []) (standing (slots ++ slot ∷ []))
-    (read_slots w s.tx_index left (slots ++ slot ∷ [])))) (after_scan w s)
+use Rattle.xen_turns.specs.Rest.{fragment_at, rest_of_slot}
 
 abbrev pub rest_at : Wiring → State → List ℕ → Phase → Steps Ending
 rest_at w s packet phase.Ready = whole_turn w s
@@ -43,10 +33,6 @@ rest_at w s packet (phase.Answering at words i kind) =
 rest_at w s packet (phase.ReadEvent at n kind) = read_event w at.tx_index (add32 at.tx_index n) (answered at n, turned kind packet)
 rest_at w s packet (phase.Notice after kind) = notice w true (after, turned kind packet)
 rest_at w s packet (phase.Ended after kind) = done (after, turned kind packet)
-
--- the i-th fragment, which is there
-abbrev pub fragment_at : List Fragment → ℕ → Fragment
-fragment_at fragments i = slice_index_or fragments i (record { gref = 0; offset = 0; size = 0 })
 
 abbrev pub rest_in : Wiring → State → Stage → Steps Ending
 rest_in w s (stage.At packet phase) = rest_at w s packet phase
@@ -65,11 +51,6 @@ rest_in w s (stage.Send packet t) = bind (rest_of w.vif s.rx_index packet t.tran
 abbrev pub rest_of_stage : Wiring → State → Option Stage → Steps Ending
 rest_of_stage w s (Some g) = rest_in w s g
 rest_of_stage w s None = never
-
--- a chain's reply, or the halt that it ends in
-abbrev pub after_reply : Wiring → State → List Slot → List ℕ → Result Reply Halt → Steps Ending
-after_reply w s chain packet (Ok r) = respond w r.at chain r.status (turned r.kind packet)
-after_reply w s chain packet (Err cause) = halted s cause
 
 -- the bytes of a stage's packet
 abbrev pub packet_at : Stage → List ℕ

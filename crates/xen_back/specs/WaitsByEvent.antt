@@ -5,10 +5,11 @@ use Rattle.xen_steps.specs.Answers.{number}
 use Rattle.xen_steps.specs.Steps.{Steps, done, next}
 use Rattle.xen_steps.specs.declared.want.Answer.{Answer}
 use Rattle.xen_back.specs.Queues.{IsReady, IsSameWiring, state_of, wiring_of}
-use Rattle.xen_back.specs.declared.delivery.wait.Awaited.{Awaited}
+use Rattle.xen_turns.specs.declared.delivery.wait.Awaited.{Awaited}
 use Rattle.xen_back.specs.declared.delivery.wait_stage.Awaiting.{Awaiting}
 use Rattle.xen_back.specs.declared.queue.Queue.{Queue}
-use Rattle.xen_back.specs.Waits.{Wait, rest_looking, whole_wait}
+use Rattle.xen_turns.specs.Waits.{Wait, whole_wait}
+use Rattle.xen_back.specs.Waits.{rest_looking}
 
 -- What is left of a wait.
 abbrev pub left_of_wait : Awaiting → Steps Wait

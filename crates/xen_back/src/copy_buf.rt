@@ -4,14 +4,14 @@ ghost use Rattle.std.specs.Prelude.{◌≡◌, ◌≤◌, ◌<◌, ◌+◌, ◌-
 ghost use Rattle.bpf_maps.specs.Seats.{IsSeatOf};
 ghost use Rattle.xen_netif.specs.Copy.{bytes_of};
 ghost use Rattle.xen_page.specs.Run.{ReadsRun};
-ghost use Rattle.xen_back.specs.Ran.{HasRunOn};
-ghost use Rattle.xen_back.specs.Reads.{AreReadFrom};
+ghost use Rattle.xen_turns.specs.Ran.{HasRunOn};
+ghost use Rattle.xen_turns.specs.Reads.{AreReadFrom};
 
-use crate::wiring::Wiring;
 use bpf_maps::{CounterSeat, Counters};
 use bpf_vm::{Buffer, Fill, PacketBuf, Vm, VmWant};
 use std::marker::Model;
 use xen_page::{Bus, Place};
+use xen_turns::Wiring;
 
 /// What a run left beside the packet.
 #[derive(Clone, Copy)]
@@ -28,7 +28,7 @@ pub struct CopyBuf<'b> {
 
 impl<'b> Model for CopyBuf<'b> {
     ghost use Rattle.std.specs.Prelude.{◌≡◌, List, ℕ};
-    ghost use Rattle.xen_back.specs.Held.{bytes_held, IsHeld};
+    ghost use Rattle.xen_turns.specs.Held.{bytes_held, IsHeld};
 
     ghost Value = { List ℕ };
 

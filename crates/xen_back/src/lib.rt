@@ -6,35 +6,25 @@
 //!   file for each part of a turn: `looking`, `copying`, `executing`, `sent`, `answering`, `ending`
 //! - `in_one_go`: a whole turn over a bus (`turning`), for a chain of any length, in the order of its parts: `looking`, `copying`, `running`,
 //!   `answering`; and what it is served by (`service`)
-//! - `decisions`: what a turn, a delivery and a wait decide, whichever way they go
 //! - `delivery`: a packet of the host's own, in one go and by event, and waiting for slots
-//! - `wiring`, `desc`, `state`, `turn`, `copy_buf`: what these work on; `laws`: what holds of every turn
+//! - `desc`, `copy_buf`: what these work on; `shown`: the turn that a host is shown
 //!
-//! Among the definitions, `Turns` is the authority, the table of turns; `Tree` is the computation that makes them, and
-//! `Rest` what is left of it at a stage. Both ways are proved of the same computation.
+//! What a turn is stands in `xen_turns`; both ways are proved of the computation there. `Rest` is what is left of it at a stage.
 #![tactic(auto)]
 
 mod by_event;
 mod copy_buf;
-pub mod decisions;
 mod delivery;
 mod desc;
 mod in_one_go;
-pub mod laws;
 mod queue;
-mod state;
-mod turn;
-mod wiring;
+mod shown;
 
 pub use bpf_vm::Action;
-pub use delivery::delivering::Delivery;
 pub use delivery::underway::Delivering;
-pub use delivery::wait::Awaited;
 pub use delivery::wait_stage::Awaiting;
 pub use desc::QueueDesc;
 pub use queue::Queue;
-pub use state::State;
-pub use turn::{Halt, Kind, Refusal, Turn};
-pub use wiring::Wiring;
 pub use xen_rx_fill::Vif;
 pub use xen_steps::{Answer, Want};
+pub use xen_turns::{Awaited, Delivery, Halt, Kind, Refusal, State, Turn, Wiring};

@@ -7,13 +7,12 @@ mod waits;
 
 ghost use Rattle.std.specs.Prelude.{IsTrue, is_some};
 ghost use Rattle.xen_back.specs.Rest.{rest_of_stage};
-ghost use Rattle.xen_back.specs.Within.{Completes, Completes-prop, TurnsComplete, TurnsComplete-prop};
+ghost use Rattle.xen_turns.specs.Within.{Completes, Completes-prop, TurnsComplete, TurnsComplete-prop};
 ghost use Rattle.xen_rx_fill.specs.Wired.{IsWired};
 
 use crate::by_event::stage::Stage;
-use crate::state::State;
-use crate::wiring::Wiring;
 use xen_page::Mapped;
+use xen_turns::{State, Wiring};
 
 /// Netback's queue. It takes a turn one event at a time, or in one go over a bus.
 #[derive(Drop)]

@@ -11,24 +11,25 @@ use Rattle.xen_steps.specs.Steps.{Runs}
 use Rattle.xen_steps.proofs.DriveLemmas.{accesses-append}
 use Rattle.xen_steps.proofs.FinishLemmas.{runs_gone, some_run}
 use Rattle.xen_rx_fill.specs.Places.{rx_word, tx_word}
-use Rattle.xen_back.specs.Awaited.{IsAwaiting, overflown, posted, still_halted, waiting}
-use Rattle.xen_back.specs.Delivered.{IsDelivery}
-use Rattle.xen_back.specs.Deliveries.{Arrival, whole_delivery}
-use Rattle.xen_back.specs.Drive.{labels}
-use Rattle.xen_back.specs.Tree.{whole_turn}
-use Rattle.xen_back.specs.Turned.{Ending, Turned, turned}
-use Rattle.xen_back.specs.Turns.{IsTurn}
-use Rattle.xen_back.specs.Waits.{Wait, whole_wait}
-use Rattle.xen_back.specs.Within.{Completes, may_want}
-use Rattle.xen_back.specs.declared.delivery.delivering.Delivery.{Delivery}
-use Rattle.xen_back.specs.declared.delivery.wait.Awaited.{Awaited}
-use Rattle.xen_back.specs.declared.state.State.{State}
-use Rattle.xen_back.specs.declared.turn.Halt.{Halt}
-use Rattle.xen_back.specs.declared.turn.Kind.{Kind}
-use Rattle.xen_back.specs.declared.wiring.Wiring.{Wiring}
+use Rattle.xen_turns.specs.Awaited.{IsAwaiting, overflown, posted, still_halted, waiting}
+use Rattle.xen_turns.specs.Delivered.{IsDelivery}
+use Rattle.xen_turns.specs.Deliveries.{Arrival, whole_delivery}
+use Rattle.xen_turns.specs.Drive.{labels}
+use Rattle.xen_turns.specs.Tree.{whole_turn}
+use Rattle.xen_turns.specs.Turned.{Ending, Turned, turned}
+use Rattle.xen_turns.specs.Turns.{IsTurn}
+use Rattle.xen_turns.specs.Waits.{Wait, whole_wait}
+use Rattle.xen_turns.specs.Within.{Completes, may_want}
+use Rattle.xen_turns.specs.declared.delivery.delivering.Delivery.{Delivery}
+use Rattle.xen_turns.specs.declared.delivery.wait.Awaited.{Awaited}
+use Rattle.xen_turns.specs.declared.state.State.{State}
+use Rattle.xen_turns.specs.declared.turn.Halt.{Halt}
+use Rattle.xen_turns.specs.declared.turn.Kind.{Kind}
+use Rattle.xen_turns.specs.declared.wiring.Wiring.{Wiring}
 use Rattle.xen_host.specs.Asks.{Ask, IsSized, Read, Entry, Write, Store, StoreTwo, Push, Notify, TurnOver, DeliveryOver, WaitOver, did_all, did_by}
 use Rattle.xen_host.specs.Completing.{Arriving, TaskCompletes, Waiting}
-use Rattle.xen_host.specs.Queues.{DeliveryGoesOn, IsDelivering, IsTurning, IsWaiting, TurnGoesOn, WaitGoesOn, first_read, packet_of, wiring}
+use Rattle.xen_host.specs.EngineAt.{WorkAt}
+use Rattle.xen_host.specs.Queues.{DeliveryGoesOn, IsDelivering, IsTurning, IsWaiting, TurnGoesOn, WaitGoesOn, first_read, packet_of, seen, wired_to, wiring}
 use Rattle.xen_host.specs.Rest.{is_delivering, is_turning, is_waiting, rest_in, rest_of_delivery, rest_of_wait}
 use Rattle.xen_host.specs.Wired.{wiring_of}
 use Rattle.xen_host.specs.declared.queue.Queue.{Queue}
@@ -36,7 +37,6 @@ use Rattle.xen_host.specs.declared.stage.Purpose.TheVariants as purpose
 use Rattle.xen_host.specs.declared.stage.Stage.{Stage}
 use Rattle.xen_host.specs.declared.stage.Stage.TheVariants as stage
 use Rattle.xen_host.specs.declared.wires.OwnedWiring.{OwnedWiring}
-use Rattle.xen_host.specs.declared.work.Work.{Work}
 use Rattle.xen_drive.specs.Driven.{BeginsDelivery, BeginsTurn, BeginsWait, HasAwaited, HasDelivered, HasTurned}
 use Rattle.xen_drive.specs.Driving.{delivery, turn, wait}
 use Rattle.xen_drive.specs.Hosts.{Held, is_over}
@@ -45,7 +45,7 @@ use Rattle.xen_drive.proofs.TraceLemmas.{all_none, effects, effects_append, hist
 
 -- ---- what is under way has a way to its end
 
-turning_left : (w : OwnedWiring) (s : State) (g : Stage) (b : Work) → is_turning g ≡ true → TaskCompletes w s g b → Completes (wiring_of w) (rest_in (wiring_of w) s g b)
+turning_left : (w : Wiring) (s : State) (g : Stage) (b : WorkAt) → is_turning g ≡ true → TaskCompletes w s g b → Completes w (rest_in w s g b)
 turning_left w s stage.Ready b t c = absurd (cc t)
 turning_left w s stage.Announce b t c = c
 turning_left w s (stage.Slot left) b t c = c
@@ -60,7 +60,7 @@ turning_left w s (stage.Deliver producer) b t c = absurd (cc t)
 turning_left w s (stage.Wait pages) b t c = absurd (cc t)
 turning_left w s (stage.WaitLook pages) b t c = absurd (cc t)
 
-delivering_left : (w : OwnedWiring) (s : State) (g : Stage) (b : Work) → is_delivering g ≡ true → TaskCompletes w s g b → Arriving w s g b
+delivering_left : (w : Wiring) (s : State) (g : Stage) (b : WorkAt) → is_delivering g ≡ true → TaskCompletes w s g b → Arriving w s g b
 delivering_left w s stage.Ready b t c = absurd (cc t)
 delivering_left w s stage.Announce b t c = absurd (cc t)
 delivering_left w s (stage.Slot left) b t c = absurd (cc t)
@@ -75,7 +75,7 @@ delivering_left w s (stage.Deliver producer) b t c = c
 delivering_left w s (stage.Wait pages) b t c = absurd (cc t)
 delivering_left w s (stage.WaitLook pages) b t c = absurd (cc t)
 
-waiting_left : (w : OwnedWiring) (s : State) (g : Stage) (b : Work) → is_waiting g ≡ true → TaskCompletes w s g b → Waiting w s g
+waiting_left : (w : Wiring) (s : State) (g : Stage) (b : WorkAt) → is_waiting g ≡ true → TaskCompletes w s g b → Waiting w s g
 waiting_left w s stage.Ready b t c = absurd (cc t)
 waiting_left w s stage.Announce b t c = absurd (cc t)
 waiting_left w s (stage.Slot left) b t c = absurd (cc t)
@@ -91,24 +91,24 @@ waiting_left w s (stage.WaitLook pages) b t c = c
 
 some_turn : (q : Queue) (s : State) (t : List Event) (a : Ask) → IsTurning q s t a → (p : List Event) × (e : Ending) × Runs (whole_turn (wiring q) s) (t ++ p) e
 some_turn q s t a h =
-    let e = q.engine in
+    let e = seen q in
     let rest = rest_in (wiring q) e.state e.stage e.work in
     let r = some_run (may_want (wiring q)) rest (turning_left e.wires e.state e.stage e.work h.is_here q.left) in
     (r.0, r.1, runs_gone (whole_turn (wiring q) s) rest t r.0 r.1 h.gone r.2)
 
 some_delivery : (q : Queue) (s : State) (packet : List ℕ) (t : List Event) (a : Option Ask) → IsDelivering q s packet t a → (p : List Event) × (e : Arrival) × Runs (whole_delivery (wiring q).vif s packet) (t ++ p) e
 some_delivery q s packet t a h =
-    let e = q.engine in
+    let e = seen q in
     let rest = rest_of_delivery (wiring q).vif e.state e.stage e.work in
-    let r = some_run (IsPageWant (length e.wires.owners)) rest (delivering_left e.wires e.state e.stage e.work h.0.is_here q.left) in
+    let r = some_run (IsPageWant (length e.wires.vif.owners.now)) rest (delivering_left e.wires e.state e.stage e.work h.0.is_here q.left) in
     (r.0, r.1, runs_gone (whole_delivery (wiring q).vif s packet) rest t r.0 r.1 h.0.gone r.2)
 
-some_wait : (q : Queue) (s : State) (pages : ℕ) (packet : List ℕ) (t : List Event) (a : Option Ask) → IsWaiting q s pages packet t a → (p : List Event) × (e : Wait) × Runs (whole_wait q.engine.wires.rx s pages) (t ++ p) e
+some_wait : (q : Queue) (s : State) (pages : ℕ) (packet : List ℕ) (t : List Event) (a : Option Ask) → IsWaiting q s pages packet t a → (p : List Event) × (e : Wait) × Runs (whole_wait (wired_to q).rx s pages) (t ++ p) e
 some_wait q s pages packet t a h =
-    let e = q.engine in
-    let rest = rest_of_wait e.wires.rx e.state e.stage in
-    let r = some_run (IsPageWant (length e.wires.owners)) rest (waiting_left e.wires e.state e.stage e.work h.0.is_here q.left) in
-    (r.0, r.1, runs_gone (whole_wait e.wires.rx s pages) rest t r.0 r.1 h.0.gone r.2)
+    let e = seen q in
+    let rest = rest_of_wait e.wires.vif.rx e.state e.stage in
+    let r = some_run (IsPageWant (length e.wires.vif.owners.now)) rest (waiting_left e.wires e.state e.stage e.work h.0.is_here q.left) in
+    (r.0, r.1, runs_gone (whole_wait e.wires.vif.rx s pages) rest t r.0 r.1 h.0.gone r.2)
 
 -- ---- so it has few accesses and notices
 
@@ -195,11 +195,11 @@ first_none (Some cause) at h = refl
 module _ {S : Type 0} (log : S → Option (List Access)) (gives : S → Access → S → Type 0) where
   -- ---- what begins
 
-  pub turn_begins : (old : Queue) (bus : S) (before : List ℕ) (h : Held S) → BeginsTurn log gives old bus before h → Carried log gives turn old.engine.state old.engine.wires bus before 0 h
+  pub turn_begins : (old : Queue) (bus : S) (before : List ℕ) (h : Held S) → BeginsTurn log gives old bus before h → Carried log gives turn old.engine.state (wired_to old) bus before 0 h
   turn_begins old bus before h b =
       let s = old.engine.state in
       let look = first_read s.halt (event.Read (tx_word (wiring old).vif 0) b.producer) in
-      let shapes = old.engine.wires.program.shapes in
+      let shapes = (wired_to old).program.shapes in
       record {
         trace = look;
         performed = b.performed;
@@ -214,11 +214,11 @@ module _ {S : Type 0} (log : S → Option (List Access)) (gives : S → Access �
       }
 
   pub delivery_begins : (old : Queue) (packet : List ℕ) (bus : S) (before : List ℕ) (h : Held S) → BeginsDelivery log gives old packet bus before h →
-      Carried log gives (delivery packet) old.engine.state old.engine.wires bus before 0 h
+      Carried log gives (delivery packet) old.engine.state (wired_to old) bus before 0 h
   delivery_begins old packet bus before h b =
       let s = old.engine.state in
       let look = first_read s.halt (event.Read (rx_word (wiring old).vif 0) b.producer) in
-      let shapes = old.engine.wires.program.shapes in
+      let shapes = (wired_to old).program.shapes in
       let c = b.stepped in
       let d = c.stepped.delivery s packet look None b.begun.delivering in
       record {
@@ -235,7 +235,7 @@ module _ {S : Type 0} (log : S → Option (List Access)) (gives : S → Access �
       }
 
   pub wait_begins : (old : Queue) (pages : ℕ) (bus : S) (before : List ℕ) (h : Held S) → BeginsWait old pages bus before h →
-      Carried log gives (wait pages (packet_of old)) old.engine.state old.engine.wires bus before 0 h
+      Carried log gives (wait pages (packet_of old)) old.engine.state (wired_to old) bus before 0 h
   wait_begins old pages bus before h b =
       let s = old.engine.state in
       let packet = packet_of old in
@@ -259,7 +259,7 @@ module _ {S : Type 0} (log : S → Option (List Access)) (gives : S → Access �
   more_performed : (bus mid bus' : S) (t u : List Event) → Performs log gives bus (accesses t) mid → Performs log gives mid (accesses u) bus' → Performs log gives bus (accesses (t ++ u)) bus'
   more_performed bus mid bus' t u p q = subst (λ l. Performs log gives bus l bus') (sym (accesses-append t u)) (performs_then log gives bus mid bus' (accesses t) (accesses u) p q)
 
-  pub turn_ends : (old : Queue) (bus bus' : S) (before : List ℕ) (n : ℕ) (h : Held S) → Carried log gives turn old.engine.state old.engine.wires bus before n h → is_over h.last ≡ true →
+  pub turn_ends : (old : Queue) (bus bus' : S) (before : List ℕ) (n : ℕ) (h : Held S) → Carried log gives turn old.engine.state (wired_to old) bus before n h → is_over h.last ≡ true →
       Performs log gives h.bus (accesses (did_all h.first h.lent)) bus' → (kind : Kind) × (h.last ≡ TurnOver kind) × HasTurned log gives old h.queue kind bus bus' before h.counters
   turn_ends old bus bus' before n h c over p = by h.last refl over c.goes
     where
@@ -267,7 +267,7 @@ module _ {S : Type 0} (log : S → Option (List Access)) (gives : S → Access �
           (kind : Kind) × (h.last ≡ TurnOver kind) × HasTurned log gives old h.queue kind bus bus' before h.counters
       by (TurnOver k) e o g =
           let d = did_all h.first h.lent in
-          let shapes = old.engine.wires.program.shapes in
+          let shapes = (wired_to old).program.shapes in
           let end = turned k (packet_of h.queue) in
           let is : IsTurn (wiring h.queue) old.engine.state (c.trace ++ d) h.queue.engine.state end =
           subst (λ (l : List Event). IsTurn (wiring h.queue) old.engine.state (c.trace ++ l) h.queue.engine.state end) (append-nil d) g.0 in (
@@ -293,7 +293,7 @@ module _ {S : Type 0} (log : S → Option (List Access)) (gives : S → Access �
       by (Push at word read) e o g = absurd (cc o)
       by (Notify port) e o g = absurd (cc o)
 
-  pub delivery_ends : (old : Queue) (packet : List ℕ) (bus bus' : S) (before : List ℕ) (n : ℕ) (h : Held S) → Carried log gives (delivery packet) old.engine.state old.engine.wires bus before n h → is_over h.last ≡ true →
+  pub delivery_ends : (old : Queue) (packet : List ℕ) (bus bus' : S) (before : List ℕ) (n : ℕ) (h : Held S) → Carried log gives (delivery packet) old.engine.state (wired_to old) bus before n h → is_over h.last ≡ true →
       Performs log gives h.bus (accesses (did_all h.first h.lent)) bus' → (what : Delivery) × (h.last ≡ DeliveryOver what) × HasDelivered log gives old h.queue packet what bus bus' before h.counters
   delivery_ends old packet bus bus' before n h c over p = by h.last refl over c.goes
     where
@@ -325,7 +325,7 @@ module _ {S : Type 0} (log : S → Option (List Access)) (gives : S → Access �
       by (Push at word read) e o g = absurd (cc o)
       by (Notify port) e o g = absurd (cc o)
 
-  pub wait_ends : (old : Queue) (pages : ℕ) (bus bus' : S) (before : List ℕ) (n : ℕ) (h : Held S) → Carried log gives (wait pages (packet_of old)) old.engine.state old.engine.wires bus before n h → is_over h.last ≡ true →
+  pub wait_ends : (old : Queue) (pages : ℕ) (bus bus' : S) (before : List ℕ) (n : ℕ) (h : Held S) → Carried log gives (wait pages (packet_of old)) old.engine.state (wired_to old) bus before n h → is_over h.last ≡ true →
       Performs log gives h.bus (accesses (did_all h.first h.lent)) bus' → (what : Awaited) × (h.last ≡ WaitOver what) × HasAwaited log gives old h.queue pages what bus bus' before h.counters
   wait_ends old pages bus bus' before n h c over p = by h.last refl over c.goes
     where

@@ -1,4 +1,5 @@
 -- A step over a bus: what was due is read, what is asked is made, and the task goes on.
+use Rattle.xen_host.specs.Queues.{wired_to}
 use Rattle.std.proofs.Common.{◌≡◌, ℕ, zero, suc, ◌≤◌, true, false, List, [], ◌∷◌, ◌++◌, Option, None, Some, refl, sym, ap, ◌∙◌, subst, length, map, take, arith, append-nil, append_assoc}
 use Rattle.xdp_program.specs.Ran.{IsHistory}
 use Rattle.xen_page.specs.Access.{Performs}
@@ -10,9 +11,9 @@ use Rattle.xen_steps.specs.Event.{Event}
 use Rattle.xen_steps.specs.Places.{page_word}
 use Rattle.xen_steps.specs.Steps.{Steps}
 use Rattle.xen_steps.proofs.DriveLemmas.{accesses-append}
-use Rattle.xen_back.specs.Drive.{labels}
-use Rattle.xen_back.specs.Program.{event_of}
-use Rattle.xen_back.specs.declared.state.State.{State}
+use Rattle.xen_turns.specs.Drive.{labels}
+use Rattle.xen_turns.specs.Program.{event_of}
+use Rattle.xen_turns.specs.declared.state.State.{State}
 use Rattle.xen_host.specs.Asks.{AllInPages, AllSized, Ask, IsInPages, IsSized, Read, Entry, Write, Store, StoreTwo, Push, Notify, TurnOver, DeliveryOver, WaitOver, TakeNone, did_by, read_by, reads_at, takes_none, writes_at}
 use Rattle.xen_host.specs.Buses.{HasRead, IsDueAt, IsHeld, IsInBus, IsMade, over_after}
 use Rattle.xen_host.specs.Fed.{WaitsFor}
@@ -255,12 +256,12 @@ module _ {B : Type 0} (log : B → Option (List Access)) (gives : B → Access �
       asked_loan log gives size (h.first ++ h.last ∷ []) h.mid host_after h.asked ∙ given_loan log gives size (reads_in old.engine.stage) h.words host h.mid h.given
 
   moved : (k : Task) (s : State) (old new : Queue) (before after : List ℕ) (host host_after : OverBus B) (h : StepsOnBus log gives size old new before after host host_after) (t : List Event) (a : Ask) → is_over a ≡ false → GoesOn k old a s t →
-      Moved k s old.engine.wires.program.shapes new h.last.ask t (read_by a h.words) (events_of (h.first ++ h.last ∷ [])) before after
+      Moved k s (wired_to old).program.shapes new h.last.ask t (read_by a h.words) (events_of (h.first ++ h.last ∷ [])) before after
   moved turn s old new before after host host_after h t a o g =
       record {
         ran = map event_of h.labels;
         silent = program_none h.labels;
-        history = history_of old.engine.wires.program.shapes h.labels before after h.history;
+        history = history_of (wired_to old).program.shapes h.labels before after h.history;
         keeps = tt;
         goes = h.turn s t a (turns_on old a s t o g);
       }

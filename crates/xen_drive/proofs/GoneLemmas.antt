@@ -10,21 +10,21 @@ use Rattle.xen_steps.specs.Event.{Event}
 use Rattle.xen_steps.specs.Event as event
 use Rattle.xen_steps.proofs.DriveLemmas.{accesses-append}
 use Rattle.xen_rx_fill.specs.Places.{rx_word, tx_word}
-use Rattle.xen_back.specs.Awaited.{IsAwaiting}
-use Rattle.xen_back.specs.Delivered.{IsDelivery, is_frame}
-use Rattle.xen_back.specs.Drive.{labels}
-use Rattle.xen_back.specs.Turned.{turned}
-use Rattle.xen_back.specs.Turns.{IsTurn}
-use Rattle.xen_back.specs.declared.delivery.delivering.Delivery.{Delivery}
-use Rattle.xen_back.specs.declared.delivery.wait.Awaited.{Awaited}
-use Rattle.xen_back.specs.declared.state.State.{State}
-use Rattle.xen_back.specs.declared.turn.Kind.{Kind}
+use Rattle.xen_turns.specs.Awaited.{IsAwaiting}
+use Rattle.xen_turns.specs.Delivered.{IsDelivery, is_frame}
+use Rattle.xen_turns.specs.Drive.{labels}
+use Rattle.xen_turns.specs.Turned.{turned}
+use Rattle.xen_turns.specs.Turns.{IsTurn}
+use Rattle.xen_turns.specs.declared.delivery.delivering.Delivery.{Delivery}
+use Rattle.xen_turns.specs.declared.delivery.wait.Awaited.{Awaited}
+use Rattle.xen_turns.specs.declared.state.State.{State}
+use Rattle.xen_turns.specs.declared.turn.Kind.{Kind}
 use Rattle.xen_host.specs.Asks.{AllInPages, AllSized, Ask, TakeNone, Read, Entry, Write, Store, StoreTwo, Push, Notify, TurnOver, DeliveryOver, WaitOver, did_by}
 use Rattle.xen_host.specs.Buses.{HasRead, IsMade, ask_of, over_after}
 use Rattle.xen_host.specs.Hosts.{WasGiven}
 use Rattle.xen_host.specs.Hosts.{Asked, WasAskedAll, asks_of, events_of}
 use Rattle.xen_host.specs.Over.{AllHeld}
-use Rattle.xen_host.specs.Queues.{DeliveryGoesOn, IsBegin, IsBegun, IsWaitBegin, IsWaitBegun, TurnGoesOn, WaitGoesOn, first_read, packet_of, resting, wiring}
+use Rattle.xen_host.specs.Queues.{DeliveryGoesOn, IsBegin, IsBegun, IsWaitBegin, IsWaitBegun, TurnGoesOn, WaitGoesOn, first_read, packet_of, resting, wiring, wired_to}
 use Rattle.xen_host.specs.Rest.{reads_in}
 use Rattle.xen_host.specs.Wired.{wiring_of}
 use Rattle.xen_host.specs.declared.over_bus.Over.{Over}
@@ -85,7 +85,7 @@ module _ {B : Type 0} (log : B → Option (List Access)) (gives : B → Access �
   -- What was read before anything was asked, and what was asked first.
   begins : (k : Task) (s : State) (w : OwnedWiring) (bus : B) (before after : List ℕ) (q : Queue) (look : List Event) (first : List Asked) (last : Asked) (host host_after : OverBus B) →
       Performs log gives bus (accesses look) host.bus.now → labels look ≡ [] → size host.bus.now ≡ length w.owners → host.over ≡ None → WasAskedAll (IsMade log gives size) host (first ++ last ∷ []) host_after →
-      TakeNone (asks_of first) → AllSized (asks_of (first ++ last ∷ [])) → (AllHeld (first ++ last ∷ []) → AllInPages (length w.owners) (asks_of (first ++ last ∷ []))) → q.engine.wires ≡ w →
+      TakeNone (asks_of first) → AllSized (asks_of (first ++ last ∷ [])) → (AllHeld (first ++ last ∷ []) → AllInPages (length w.owners) (asks_of (first ++ last ∷ []))) → (wired_to q) ≡ w →
       after ≡ before → KeepsAll k before after → GoesOn k q last.ask s (look ++ events_of (first ++ last ∷ [])) → IsGone log gives size k s w bus before 0 q after host_after
   begins k s w bus before after q look first last host host_after performed silent sized free asked none sizes within wires same keeps goes =
       let all = first ++ last ∷ [] in
@@ -118,22 +118,22 @@ module _ {B : Type 0} (log : B → Option (List Access)) (gives : B → Access �
         some = omega arith;
       }
 
-  pub turn_begun : (old q : Queue) (bus : B) (before : List ℕ) (producer : ℕ) (host host_after : OverBus B) → size host.bus.now ≡ length old.engine.wires.owners → host.over ≡ None →
+  pub turn_begun : (old q : Queue) (bus : B) (before : List ℕ) (producer : ℕ) (host host_after : OverBus B) → size host.bus.now ≡ length (wired_to old).owners → host.over ≡ None →
       Performs log gives bus (accesses (first_read old.engine.state.halt (event.Read (tx_word (wiring old).vif 0) producer))) host.bus.now →
-      BeginsOnBus log gives size old q producer host host_after → IsGone log gives size turn old.engine.state old.engine.wires bus before 0 q before host_after
+      BeginsOnBus log gives size old q producer host host_after → IsGone log gives size turn old.engine.state (wired_to old) bus before 0 q before host_after
   turn_begun old q bus before producer host host_after sized free performed b =
       let s = old.engine.state in
       let at = event.Read (tx_word (wiring old).vif 0) producer in
-      begins turn s old.engine.wires bus before before q (first_read s.halt at) b.first b.last host host_after performed (first_none s.halt at refl) sized free b.asked b.take_none b.sized b.within b.wires refl tt b.turn
+      begins turn s (wired_to old) bus before before q (first_read s.halt at) b.first b.last host host_after performed (first_none s.halt at refl) sized free b.asked b.take_none b.sized b.within b.wires refl tt b.turn
 
   -- A step that takes no answer begins with what is asked.
   unanswered : (n : ℕ) (words : List ℕ) (host mid : OverBus B) → n ≡ 0 → WasGiven (HasRead log gives size) n host words mid → mid ≡ host
   unanswered n words host mid e g = (subst (λ m. WasGiven (HasRead log gives size) m host words mid) e g).1
 
-  pub delivery_begun : (old mid q : Queue) (packet : List ℕ) (bus : B) (before after : List ℕ) (producer : ℕ) (host host_after : OverBus B) → size host.bus.now ≡ length old.engine.wires.owners → host.over ≡ None →
+  pub delivery_begun : (old mid q : Queue) (packet : List ℕ) (bus : B) (before after : List ℕ) (producer : ℕ) (host host_after : OverBus B) → size host.bus.now ≡ length (wired_to old).owners → host.over ≡ None →
       Performs log gives bus (accesses (first_read old.engine.state.halt (event.Read (rx_word (wiring old).vif 0) producer))) host.bus.now → IsBegun old mid producer packet →
       StepsOnBus log gives size mid q before after host host_after →
-      IsGone log gives size (delivery packet) old.engine.state old.engine.wires bus before 0 q after host_after
+      IsGone log gives size (delivery packet) old.engine.state (wired_to old) bus before 0 q after host_after
   delivery_begun old mid q packet bus before after producer host host_after sized free performed b h =
       let s = old.engine.state in
       let at = event.Read (rx_word (wiring old).vif 0) producer in
@@ -141,12 +141,12 @@ module _ {B : Type 0} (log : B → Option (List Access)) (gives : B → Access �
       let same = unanswered (reads_in mid.engine.stage) h.words host h.mid b.delivering.0.waits h.given in
       let asked = subst (λ (x : OverBus B). WasAskedAll (IsMade log gives size) x (h.first ++ h.last ∷ []) host_after) same h.asked in
       let within = subst (λ (v : OwnedWiring). AllHeld (h.first ++ h.last ∷ []) → AllInPages (length v.owners) (asks_of (h.first ++ h.last ∷ []))) b.wires h.within in
-      begins (delivery packet) s old.engine.wires bus before after q (first_read s.halt at) h.first h.last host host_after performed (first_none s.halt at refl) sized free asked h.take_none h.sized within (h.wires ∙ b.wires) d.1 d.1 d.0
+      begins (delivery packet) s (wired_to old) bus before after q (first_read s.halt at) h.first h.last host host_after performed (first_none s.halt at refl) sized free asked h.take_none h.sized within (h.wires ∙ b.wires) d.1 d.1 d.0
 
-  pub wait_begun : (old mid q : Queue) (pages : ℕ) (bus : B) (before after : List ℕ) (host host_after : OverBus B) → size host.bus.now ≡ length old.engine.wires.owners → host.over ≡ None →
+  pub wait_begun : (old mid q : Queue) (pages : ℕ) (bus : B) (before after : List ℕ) (host host_after : OverBus B) → size host.bus.now ≡ length (wired_to old).owners → host.over ≡ None →
       host.bus.now ≡ bus → IsWaitBegun old mid pages →
       StepsOnBus log gives size mid q before after host host_after →
-      IsGone log gives size (wait pages (packet_of old)) old.engine.state old.engine.wires bus before 0 q after host_after
+      IsGone log gives size (wait pages (packet_of old)) old.engine.state (wired_to old) bus before 0 q after host_after
   wait_begun old mid q pages bus before after host host_after sized free untouched b h =
       let s = old.engine.state in
       let d = h.wait s pages (packet_of old) [] None b.waiting in
@@ -154,7 +154,7 @@ module _ {B : Type 0} (log : B → Option (List Access)) (gives : B → Access �
       let asked = subst (λ (x : OverBus B). WasAskedAll (IsMade log gives size) x (h.first ++ h.last ∷ []) host_after) same h.asked in
       let within = subst (λ (v : OwnedWiring). AllHeld (h.first ++ h.last ∷ []) → AllInPages (length v.owners) (asks_of (h.first ++ h.last ∷ []))) b.wires h.within in
       let performed = subst (λ (x : B). Performs log gives bus [] x) (sym untouched) (performs_none log gives bus) in
-      begins (wait pages (packet_of old)) s old.engine.wires bus before after q [] h.first h.last host host_after performed refl sized free asked h.take_none h.sized within (h.wires ∙ b.wires) d.1 d.1 d.0
+      begins (wait pages (packet_of old)) s (wired_to old) bus before after q [] h.first h.last host host_after performed refl sized free asked h.take_none h.sized within (h.wires ∙ b.wires) d.1 d.1 d.0
 
   -- ---- what is under way
 
@@ -179,11 +179,11 @@ module _ {B : Type 0} (log : B → Option (List Access)) (gives : B → Access �
   -- ---- what is over
 
   pub turn_over : (old : Queue) (bus : B) (before : List ℕ) (n : ℕ) (q : Queue) (after : List ℕ) (host : OverBus B) (what : Over) →
-      IsGone log gives size turn old.engine.state old.engine.wires bus before n q after host → host.over ≡ Some what → (kind : Kind) × (ask_of what ≡ TurnOver kind) × HasTurned log gives old q kind bus host.bus.now before after
+      IsGone log gives size turn old.engine.state (wired_to old) bus before n q after host → host.over ≡ Some what → (kind : Kind) × (ask_of what ≡ TurnOver kind) × HasTurned log gives old q kind bus host.bus.now before after
   turn_over old bus before n q after host what c e = by c.last.ask (sym c.over ∙ e) c.performed c.counted c.goes
     where
       by : (a : Ask) → over_after a None ≡ Some what → Performs log gives bus (accesses (c.earlier ++ did_by a c.last.words)) host.bus.now →
-          IsHistory old.engine.wires.program.shapes (map Some (labels (c.earlier ++ did_by a c.last.words))) before after → TurnGoesOn q a old.engine.state (c.earlier ++ did_by a c.last.words) →
+          IsHistory (wired_to old).program.shapes (map Some (labels (c.earlier ++ did_by a c.last.words))) before after → TurnGoesOn q a old.engine.state (c.earlier ++ did_by a c.last.words) →
           (kind : Kind) × (ask_of what ≡ TurnOver kind) × HasTurned log gives old q kind bus host.bus.now before after
       by (TurnOver k) o p h g =
           let same : over.Turn k ≡ what = cc o in (
@@ -210,7 +210,7 @@ module _ {B : Type 0} (log : B → Option (List Access)) (gives : B → Access �
       by (Notify port) o p h g = absurd (cc o)
 
   pub delivery_over : (old : Queue) (packet : List ℕ) (bus : B) (before : List ℕ) (n : ℕ) (q : Queue) (after : List ℕ) (host : OverBus B) (what : Over) →
-      IsGone log gives size (delivery packet) old.engine.state old.engine.wires bus before n q after host → host.over ≡ Some what →
+      IsGone log gives size (delivery packet) old.engine.state (wired_to old) bus before n q after host → host.over ≡ Some what →
       (outcome : Delivery) × (ask_of what ≡ DeliveryOver outcome) × HasDelivered log gives old q packet outcome bus host.bus.now before after
   delivery_over old packet bus before n q after host what c e = by c.last.ask (sym c.over ∙ e) c.performed c.goes
     where
@@ -241,7 +241,7 @@ module _ {B : Type 0} (log : B → Option (List Access)) (gives : B → Access �
       by (Notify port) o p g = absurd (cc o)
 
   pub wait_over : (old : Queue) (pages : ℕ) (bus : B) (before : List ℕ) (n : ℕ) (q : Queue) (after : List ℕ) (host : OverBus B) (what : Over) →
-      IsGone log gives size (wait pages (packet_of old)) old.engine.state old.engine.wires bus before n q after host → host.over ≡ Some what →
+      IsGone log gives size (wait pages (packet_of old)) old.engine.state (wired_to old) bus before n q after host → host.over ≡ Some what →
       (outcome : Awaited) × (ask_of what ≡ WaitOver outcome) × HasAwaited log gives old q pages outcome bus host.bus.now before after
   wait_over old pages bus before n q after host what c e = by c.last.ask (sym c.over ∙ e) c.performed c.goes
     where

@@ -1,4 +1,5 @@
 -- A host that makes the accesses of each op goes on.
+use Rattle.xen_host.specs.Queues.{wired_to}
 use Rattle.std.proofs.Common.{◌≡◌, ℕ, zero, suc, ◌≤◌, List, [], ◌∷◌, ◌++◌, Option, Some, sym, ap, ◌∙◌, subst, length, map, arith, append-nil, append_assoc}
 use Rattle.xdp_program.specs.Ran.{IsHistory}
 use Rattle.xen_page.specs.Access.{Performs}
@@ -7,8 +8,8 @@ use Rattle.xen_page.proofs.AccessLemmas.{performs_then}
 use Rattle.xen_steps.specs.Drive.{accesses}
 use Rattle.xen_steps.specs.Event.{Event}
 use Rattle.xen_steps.proofs.DriveLemmas.{accesses-append}
-use Rattle.xen_back.specs.Drive.{labels}
-use Rattle.xen_back.specs.declared.state.State.{State}
+use Rattle.xen_turns.specs.Drive.{labels}
+use Rattle.xen_turns.specs.declared.state.State.{State}
 use Rattle.xen_host.specs.Asks.{AllSized, Ask, IsSized, did_all, did_by, read_by}
 use Rattle.xen_host.specs.declared.wires.OwnedWiring.{OwnedWiring}
 use Rattle.xen_drive.specs.Driving.{GoesOn, Task}
@@ -26,7 +27,7 @@ pub record Carried {S : Type 0} (log : S → Option (List Access)) (gives : S �
   pub goes : GoesOn k h.queue h.last s (trace ++ (did_all h.first h.lent ++ did_by h.last h.lent))
   pub sized : IsSized h.last
   pub page : 1024 ≤ length h.lent
-  pub wires : h.queue.engine.wires ≡ w
+  pub wires : wired_to h.queue ≡ w
   pub some : n ≤ effects trace
 
 pub last_sized : (first : List Ask) (last : Ask) → AllSized (first ++ last ∷ []) → IsSized last

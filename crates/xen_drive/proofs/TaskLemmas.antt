@@ -5,11 +5,11 @@ use Rattle.bpf_note.specs.Shape.{Shape}
 use Rattle.xdp_program.specs.Ran.{IsHistory}
 use Rattle.xen_steps.specs.Drive.{accesses}
 use Rattle.xen_steps.specs.Event.{Event}
-use Rattle.xen_back.specs.Drive.{labels}
-use Rattle.xen_back.specs.Program.{event_of}
-use Rattle.xen_back.specs.declared.state.State.{State}
+use Rattle.xen_turns.specs.Drive.{labels}
+use Rattle.xen_turns.specs.Program.{event_of}
+use Rattle.xen_turns.specs.declared.state.State.{State}
 use Rattle.xen_host.specs.Asks.{Ask, Read, Entry, Write, Store, StoreTwo, Push, Notify, TurnOver, DeliveryOver, WaitOver, did_all, did_by, read_by}
-use Rattle.xen_host.specs.Queues.{DeliveryGoesOn, HasStepped, IsDelivering, IsTurning, IsWaiting, TurnGoesOn, WaitGoesOn, between, resting}
+use Rattle.xen_host.specs.Queues.{DeliveryGoesOn, HasStepped, IsDelivering, IsTurning, IsWaiting, TurnGoesOn, WaitGoesOn, between, resting, wired_to}
 use Rattle.xen_host.specs.Rest.{is_delivering, is_turning, is_waiting}
 use Rattle.xen_host.specs.declared.op.Op.{Op}
 use Rattle.xen_host.specs.declared.queue.Queue.{Queue}
@@ -147,12 +147,12 @@ pub record Moved (k : Task) (s : State) (shapes : List Shape) (new : Queue) (las
 
 pub moved : (k : Task) (s : State) (old new : Queue) (lent lent_after before after : List ℕ) (ops ops_after : List Op) (count : ℕ) (h : HasStepped old new lent lent_after before after ops ops_after count)
     (t : List Event) (a : Ask) → is_over a ≡ false → GoesOn k old a s t →
-    Moved k s old.engine.wires.program.shapes new h.last t (read_by a lent) (did_all h.first lent_after ++ did_by h.last lent_after) before after
+    Moved k s (wired_to old).program.shapes new h.last t (read_by a lent) (did_all h.first lent_after ++ did_by h.last lent_after) before after
 moved turn s old new lent lent_after before after ops ops_after count h t a n g =
     record {
       ran = map event_of h.labels;
       silent = program_none h.labels;
-      history = history_of old.engine.wires.program.shapes h.labels before after h.history;
+      history = history_of (wired_to old).program.shapes h.labels before after h.history;
       keeps = tt;
       goes = h.turn s t a (turns_on old a s t n g);
     }

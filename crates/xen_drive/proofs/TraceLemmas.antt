@@ -11,8 +11,8 @@ use Rattle.xen_steps.specs.Event.{Event}
 use Rattle.xen_steps.specs.Event as event
 use Rattle.xen_steps.specs.Places.{page_word}
 use Rattle.xen_steps.proofs.DriveLemmas.{accesses-append}
-use Rattle.xen_back.specs.Drive.{label_of, labels}
-use Rattle.xen_back.specs.Program.{event_of}
+use Rattle.xen_turns.specs.Drive.{label_of, labels}
+use Rattle.xen_turns.specs.Program.{event_of}
 use Rattle.xen_host.specs.Asks.{Ask, IsSized, Read, Entry, Write, Store, StoreTwo, Push, Notify, TurnOver, DeliveryOver, WaitOver, did_all, did_by, read_by, reads_at, writes_at}
 use Rattle.xen_drive.specs.Hosts.{is_over}
 

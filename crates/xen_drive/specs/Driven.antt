@@ -7,15 +7,15 @@ use Rattle.xen_page.specs.declared.access.Access.{Access}
 use Rattle.xen_steps.specs.Drive.{accesses}
 use Rattle.xen_steps.specs.Event.{Event, Read}
 use Rattle.xen_rx_fill.specs.Places.{rx_word, tx_word}
-use Rattle.xen_back.specs.Awaited.{IsAwaiting}
-use Rattle.xen_back.specs.Delivered.{IsDelivery, is_frame}
-use Rattle.xen_back.specs.Drive.{labels}
-use Rattle.xen_back.specs.Turned.{turned}
-use Rattle.xen_back.specs.Turns.{IsTurn}
-use Rattle.xen_back.specs.declared.delivery.delivering.Delivery.{Delivery}
-use Rattle.xen_back.specs.declared.delivery.wait.Awaited.{Awaited}
-use Rattle.xen_back.specs.declared.turn.Kind.{Kind}
-use Rattle.xen_host.specs.Queues.{BegunBy, HasStepped, IsBegun, IsWaitBegun, first_read, packet_of, resting, wiring}
+use Rattle.xen_turns.specs.Awaited.{IsAwaiting}
+use Rattle.xen_turns.specs.Delivered.{IsDelivery, is_frame}
+use Rattle.xen_turns.specs.Drive.{labels}
+use Rattle.xen_turns.specs.Turned.{turned}
+use Rattle.xen_turns.specs.Turns.{IsTurn}
+use Rattle.xen_turns.specs.declared.delivery.delivering.Delivery.{Delivery}
+use Rattle.xen_turns.specs.declared.delivery.wait.Awaited.{Awaited}
+use Rattle.xen_turns.specs.declared.turn.Kind.{Kind}
+use Rattle.xen_host.specs.Queues.{BegunBy, HasStepped, IsBegun, IsWaitBegun, first_read, packet_of, resting, wiring, wired_to}
 use Rattle.xen_host.specs.Said.{has_run}
 use Rattle.xen_host.specs.declared.op.Op.{Op}
 use Rattle.xen_host.specs.declared.queue.Queue.{Queue}
@@ -73,10 +73,10 @@ pub record HasTurned {S : Type 0} (log : S → Option (List Access)) (gives : S 
   pub trace : List Event
   pub is_turn : IsTurn (wiring old) old.engine.state trace new.engine.state (turned kind (packet_of new))
   pub performed : Performs log gives bus (accesses trace) bus'
-  pub counted : IsHistory old.engine.wires.program.shapes (map Some (labels trace)) before after
+  pub counted : IsHistory (wired_to old).program.shapes (map Some (labels trace)) before after
   pub packet : has_run kind ≡ false → packet_of new ≡ []
   pub rests : resting new ≡ Some new.engine.state
-  pub wires : new.engine.wires ≡ old.engine.wires
+  pub wires : wired_to new ≡ wired_to old
 
 -- A delivery is over. Its events are a row of the table of deliveries; the bus went through their accesses and no others, and no counter
 -- changed.
@@ -88,7 +88,7 @@ pub record HasDelivered {S : Type 0} (log : S → Option (List Access)) (gives :
   pub counters : after ≡ before
   pub copied : is_frame packet ≡ true → packet_of new ≡ packet
   pub rests : resting new ≡ Some new.engine.state
-  pub wires : new.engine.wires ≡ old.engine.wires
+  pub wires : wired_to new ≡ wired_to old
 
 -- A wait is over. Its events are a row of the table of waits; the bus went through their accesses and no others, and no counter changed.
 pub record HasAwaited {S : Type 0} (log : S → Option (List Access)) (gives : S → Access → S → Type 0) (old new : Queue) (pages : ℕ)
@@ -99,4 +99,4 @@ pub record HasAwaited {S : Type 0} (log : S → Option (List Access)) (gives : S
   pub counters : after ≡ before
   pub packet : packet_of new ≡ packet_of old
   pub rests : resting new ≡ Some new.engine.state
-  pub wires : new.engine.wires ≡ old.engine.wires
+  pub wires : wired_to new ≡ wired_to old

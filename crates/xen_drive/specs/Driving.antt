@@ -2,7 +2,7 @@
 -- What a host has its queue do.
 use Rattle.std.specs.Prelude.{ℕ, List}
 use Rattle.xen_steps.specs.Event.{Event}
-use Rattle.xen_back.specs.declared.state.State.{State}
+use Rattle.xen_turns.specs.declared.state.State.{State}
 use Rattle.xen_host.specs.Asks.{Ask}
 use Rattle.xen_host.specs.Queues.{DeliveryGoesOn, TurnGoesOn, WaitGoesOn}
 use Rattle.xen_host.specs.declared.queue.Queue.{Queue}

@@ -1,13 +1,14 @@
 -- For proofs: no claim rests on this file.
 -- The loop of a host over a bus.
+use Rattle.xen_host.specs.Queues.{wired_to}
 use Rattle.std.specs.Prelude.{ℕ, ◌≡◌, ◌<◌, ◌≤◌, ◌+◌, ◌++◌, List, Option, None, Some, length, map}
 use Rattle.xdp_program.specs.Ran.{IsHistory}
 use Rattle.xen_page.specs.Access.{Performs}
 use Rattle.xen_page.specs.declared.access.Access.{Access}
 use Rattle.xen_steps.specs.Drive.{accesses, notices_in}
 use Rattle.xen_steps.specs.Event.{Event}
-use Rattle.xen_back.specs.Drive.{labels}
-use Rattle.xen_back.specs.declared.state.State.{State}
+use Rattle.xen_turns.specs.Drive.{labels}
+use Rattle.xen_turns.specs.declared.state.State.{State}
 use Rattle.xen_host.specs.Asks.{IsInPages, IsSized, did_by}
 use Rattle.xen_host.specs.Buses.{HasRead, IsDueAt, IsHeld, IsMade, IsNever, over_after}
 use Rattle.xen_host.specs.Hosts.{Asked}
@@ -44,7 +45,7 @@ pub record IsGone {B : Type 0} (log : B → Option (List Access)) (gives : B →
   pub due : IsDueAt last.ask host.at
   pub over : host.over ≡ over_after last.ask None
   pub sized : size host.bus.now ≡ length w.owners
-  pub wires : q.engine.wires ≡ w
+  pub wires : wired_to q ≡ w
   pub some : n ≤ effects_of earlier
 
 -- A task is under way, of which fewer than `most` steps are left.
@@ -54,9 +55,9 @@ pub record IsGoing {B : Type 0} (log : B → Option (List Access)) (gives : B �
   pub state : State
   pub bus : B
   pub before : List ℕ
-  pub gone : IsGone log gives size task state q.engine.wires bus before 0 q counters host
+  pub gone : IsGone log gives size task state (wired_to q) bus before 0 q counters host
   pub few : (n : ℕ) (new : Queue) (after : List ℕ) (host_after : OverBus B) →
-      IsGone log gives size task state q.engine.wires bus before n new after host_after → n < most
+      IsGone log gives size task state (wired_to q) bus before n new after host_after → n < most
 
 -- A turn begins over a bus.
 abbrev pub BeginsOnBus : {B : Type 0} → (B → Option (List Access)) → (B → Access → B → Type 0) → (B → ℕ) → (old new : Queue) → (producer : ℕ) →
@@ -74,8 +75,8 @@ StepsOnBus {B} log gives size old new before after host host_after =
 abbrev pub HasGoneBy : {B : Type 0} → (B → Option (List Access)) → (B → Access → B → Type 0) → (B → ℕ) → ℕ → (old new : Queue) →
     (before after : List ℕ) → (host host_after : OverBus B) → Type 0
 HasGoneBy {B} log gives size n old new before after host host_after =
-    (k : Task) (s : State) (bus : B) (from : List ℕ) → IsGone log gives size k s old.engine.wires bus from 0 old before host →
-    IsGone log gives size k s old.engine.wires bus from n new after host_after
+    (k : Task) (s : State) (bus : B) (from : List ℕ) → IsGone log gives size k s (wired_to old) bus from 0 old before host →
+    IsGone log gives size k s (wired_to old) bus from n new after host_after
 
 -- And it is over.
 abbrev pub HasGoneOn : {B : Type 0} → (B → Option (List Access)) → (B → Access → B → Type 0) → (B → ℕ) → (old new : Queue) →

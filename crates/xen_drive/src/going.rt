@@ -2,7 +2,7 @@
 
 ghost use Rattle.std.specs.Prelude.{◌≡◌, ◌≤◌, IsSome, None, length};
 ghost use Rattle.bpf_maps.specs.Layout.{total};
-ghost use Rattle.xen_host.specs.Queues.{resting};
+ghost use Rattle.xen_host.specs.Queues.{resting, wired_to};
 ghost use Rattle.xen_drive.specs.Going.{BeginsOnBus, HasGoneOn, IsGoing, StepsOnBus};
 
 use xen_host::{Over, OverBus, Queue};
@@ -22,7 +22,7 @@ pub(crate) fn begin<B: Bus>(queue: &mut Queue, producer: u32, host: &mut OverBus
 #[inline(always)]
 pub(crate) fn step<B: Bus>(queue: &mut Queue, counters: &mut [u64], host: &mut OverBus<'_, '_, B>)
     requires busy { resting queue.old ≡ None }
-    requires counts { total queue.old.engine.wires.program.shapes ≤ length counters.old }
+    requires counts { total (wired_to queue.old).program.shapes ≤ length counters.old }
     ensures counters { length counters.new ≡ length counters.old }
     ensures stepped { StepsOnBus B.log B.access_gives B.size queue.old queue.new counters.old counters.new host.old host.new }
     ensures loan { host.new.bus.ghost_name ≡ host.old.bus.ghost_name }
@@ -38,7 +38,7 @@ pub(crate) fn go_on<B: Bus>(
     counters: &mut [u64],
     host: &mut OverBus<'_, '_, B>,
 ) -> Over
-    requires counts { total queue.old.engine.wires.program.shapes ≤ length counters.old }
+    requires counts { total (wired_to queue.old).program.shapes ≤ length counters.old }
     requires goes { IsGoing B.log B.access_gives B.size most queue.old counters.old host.old }
     ensures counters { length counters.new ≡ length counters.old }
     ensures gone { HasGoneOn B.log B.access_gives B.size queue.old queue.new counters.old counters.new host.old host.new result }

@@ -3,10 +3,10 @@
 ghost use Rattle.std.specs.Prelude.{ℕ, ◌≡◌, ◌≤◌, List, true};
 ghost use Rattle.xen_page.specs.Access.{Performs};
 ghost use Rattle.xen_steps.specs.Drive.{accesses};
-ghost use Rattle.xen_back.specs.declared.delivery.delivering.Delivery.{Delivery};
-ghost use Rattle.xen_back.specs.declared.delivery.wait.Awaited.{Awaited};
-ghost use Rattle.xen_back.specs.declared.state.State.{State};
-ghost use Rattle.xen_back.specs.declared.turn.Kind.{Kind};
+ghost use Rattle.xen_turns.specs.declared.delivery.delivering.Delivery.{Delivery};
+ghost use Rattle.xen_turns.specs.declared.delivery.wait.Awaited.{Awaited};
+ghost use Rattle.xen_turns.specs.declared.state.State.{State};
+ghost use Rattle.xen_turns.specs.declared.turn.Kind.{Kind};
 ghost use Rattle.xen_host.specs.Asks.{DeliveryOver, TurnOver, WaitOver, did_all};
 ghost use Rattle.xen_host.specs.declared.over_bus.OverBus.{OverBus};
 ghost use Rattle.xen_host.specs.declared.queue.Queue.{Queue};
@@ -16,7 +16,7 @@ ghost use Rattle.xen_drive.specs.Driving.{delivery, turn, wait};
 ghost use Rattle.xen_drive.specs.Going.{IsGone};
 ghost use Rattle.xen_drive.specs.Hosts.{Held, StepsBy, is_over};
 
-use xen_back::laws::{
+use xen_turns::laws::{
     deliveries_are_bounded, deliveries_are_rests, turns_are_bounded, turns_are_rests,
     waits_are_rests,
 };

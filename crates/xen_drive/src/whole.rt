@@ -6,17 +6,17 @@ ghost use Rattle.xen_page.specs.Access.{Performs};
 ghost use Rattle.xen_steps.specs.Drive.{accesses};
 ghost use Rattle.xen_steps.specs.Event as event;
 ghost use Rattle.xen_steps.specs.Places.{page_word};
-ghost use Rattle.xen_back.specs.declared.delivery.delivering.Delivery.{Delivery};
-ghost use Rattle.xen_back.specs.declared.delivery.wait.Awaited.{Awaited};
-ghost use Rattle.xen_back.specs.declared.turn.Kind.{Kind};
+ghost use Rattle.xen_turns.specs.declared.delivery.delivering.Delivery.{Delivery};
+ghost use Rattle.xen_turns.specs.declared.delivery.wait.Awaited.{Awaited};
+ghost use Rattle.xen_turns.specs.declared.turn.Kind.{Kind};
 ghost use Rattle.xen_host.specs.Asks.{DeliveryOver, TurnOver, WaitOver, op_of};
-ghost use Rattle.xen_host.specs.Queues.{first_read, resting};
+ghost use Rattle.xen_host.specs.Queues.{first_read, resting, wired_to};
 ghost use Rattle.xen_drive.specs.Driven.{HasAwaited, HasDelivered, HasTurned};
 
 use crate::going::{begin, go_on, step};
 use crate::laws::{deliveries_end, turns_end, waits_end};
-use xen_back::State;
-use xen_back::decisions::can_be_delivered;
+use xen_turns::State;
+use xen_turns::decisions::can_be_delivered;
 use xen_host::{Delivery, Op, Over, OverBus, Queue};
 use xen_page::{Bus, Place};
 use xen_ring::Ports;
@@ -56,10 +56,10 @@ pub fn drive<B: Bus>(
     ports: &Ports,
 ) -> Op
     requires rests { IsSome (resting queue.old) }
-    requires tx { tx ≡ queue.old.engine.wires.tx }
-    requires size { B.size bus.old ≡ length queue.old.engine.wires.owners }
+    requires tx { tx ≡ (wired_to queue.old).tx }
+    requires size { B.size bus.old ≡ length (wired_to queue.old).owners }
     requires page { 1024 ≤ length words.old }
-    requires counts { total queue.old.engine.wires.program.shapes ≤ length counters.old }
+    requires counts { total (wired_to queue.old).program.shapes ≤ length counters.old }
     ensures size { B.size bus.new ≡ B.size bus.old }
     ensures words { length words.new ≡ length words.old }
     ensures counters { length counters.new ≡ length counters.old }
@@ -86,10 +86,10 @@ pub fn deliver<B: Bus>(
     ports: &Ports,
 ) -> Op
     requires rests { IsSome (resting queue.old) }
-    requires rx { rx ≡ queue.old.engine.wires.rx }
-    requires size { B.size bus.old ≡ length queue.old.engine.wires.owners }
+    requires rx { rx ≡ (wired_to queue.old).rx }
+    requires size { B.size bus.old ≡ length (wired_to queue.old).owners }
     requires page { 1024 ≤ length words.old }
-    requires counts { total queue.old.engine.wires.program.shapes ≤ length counters.old }
+    requires counts { total (wired_to queue.old).program.shapes ≤ length counters.old }
     ensures size { B.size bus.new ≡ B.size bus.old }
     ensures words { length words.new ≡ length words.old }
     ensures counters { length counters.new ≡ length counters.old }
@@ -119,9 +119,9 @@ pub fn await_slots<B: Bus>(
     ports: &Ports,
 ) -> Op
     requires rests { IsSome (resting queue.old) }
-    requires size { B.size bus.old ≡ length queue.old.engine.wires.owners }
+    requires size { B.size bus.old ≡ length (wired_to queue.old).owners }
     requires page { 1024 ≤ length words.old }
-    requires counts { total queue.old.engine.wires.program.shapes ≤ length counters.old }
+    requires counts { total (wired_to queue.old).program.shapes ≤ length counters.old }
     ensures size { B.size bus.new ≡ B.size bus.old }
     ensures words { length words.new ≡ length words.old }
     ensures counters { length counters.new ≡ length counters.old }

@@ -2,6 +2,7 @@
 
 mod deliveries;
 mod fixtures;
+mod lists;
 mod pages;
 mod seats;
 mod turns;

@@ -19,9 +19,9 @@ use Rattle.xen_rx_fill.specs.declared.target.Grants.TheVariants.{Passed}
 use Rattle.xen_rx_fill.specs.declared.target.Target.{Target}
 use Rattle.xen_rx_fill.specs.declared.vif.Vif.{Vif}
 use Rattle.xen_rx_fill.proofs.SendLemmas.{rx_answer_at}
-use Rattle.xen_back.specs.Tree.{answer}
-use Rattle.xen_back.specs.Turned.{Ending}
-use Rattle.xen_back.specs.declared.wiring.Wiring.{Wiring}
+use Rattle.xen_turns.specs.Tree.{answer}
+use Rattle.xen_turns.specs.Turned.{Ending}
+use Rattle.xen_turns.specs.declared.wiring.Wiring.{Wiring}
 use Rattle.xen_host.specs.Asks.{Ask, did_all, writes_at}
 use Rattle.xen_host.specs.Asks as ask
 use Rattle.xen_host.specs.Chained.{replies, reply, stores}

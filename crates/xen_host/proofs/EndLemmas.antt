@@ -13,18 +13,18 @@ use Rattle.xen_steps.proofs.FinishLemmas.{finishes_gone}
 use Rattle.xen_rx_fill.specs.Places.{rx_slot, rx_word, tx_slot, tx_word}
 use Rattle.xen_rx_fill.specs.Transmit.{after_targets, read_targets, targeted}
 use Rattle.xen_rx_fill.specs.declared.vif.Vif.{Vif}
-use Rattle.xen_back.specs.Deliveries.{Arrival, arrived}
+use Rattle.xen_turns.specs.Deliveries.{Arrival, arrived}
 use Rattle.xen_netif.specs.Chain.{Slot}
 use Rattle.xen_netif.specs.Standing.{standing}
-use Rattle.xen_back.specs.Tree.{after_copy, after_scan, after_transmit, copy, judged, read_slots}
-use Rattle.xen_back.specs.Turned.{Ending}
-use Rattle.xen_back.specs.Waits.{Wait}
-use Rattle.xen_back.specs.Within.{Completes, may_want}
-use Rattle.xen_back.specs.declared.state.State.{State}
-use Rattle.xen_back.specs.declared.wiring.Wiring.{Wiring}
-use Rattle.xen_back.specs.declared.delivery.wait.Awaited.{Awaited}
-use Rattle.xen_back.specs.declared.delivery.delivering.Delivery.{Delivery}
-use Rattle.xen_back.specs.declared.turn.Kind.{Kind}
+use Rattle.xen_turns.specs.Tree.{after_copy, after_scan, after_transmit, copy, judged, read_slots}
+use Rattle.xen_turns.specs.Turned.{Ending}
+use Rattle.xen_turns.specs.Waits.{Wait}
+use Rattle.xen_turns.specs.Within.{Completes, may_want}
+use Rattle.xen_turns.specs.declared.state.State.{State}
+use Rattle.xen_turns.specs.declared.wiring.Wiring.{Wiring}
+use Rattle.xen_turns.specs.declared.delivery.wait.Awaited.{Awaited}
+use Rattle.xen_turns.specs.declared.delivery.delivering.Delivery.{Delivery}
+use Rattle.xen_turns.specs.declared.turn.Kind.{Kind}
 use Rattle.xen_host.specs.Asks.{AllInPages, AllSized, Ask, IsInPages, IsSized, did_by, reads_at}
 use Rattle.xen_host.specs.Asks as ask
 use Rattle.xen_host.specs.Buses.{IsHeld}
@@ -36,15 +36,12 @@ use Rattle.xen_host.specs.Led.{DeliveryEnds, IsOn, IsTurnOver, TurnEnds, WaitEnd
 use Rattle.xen_host.specs.Over.{AllHeld}
 use Rattle.xen_host.specs.Told.{IsToldAt}
 use Rattle.xen_host.specs.Rest.{is_delivering, is_turning, is_waiting, reads_filling, reads_in, rest_filling, rest_in, rest_of_delivery, rest_of_wait}
-use Rattle.xen_host.specs.Wired.{vif_of, wiring_of}
-use Rattle.xen_host.specs.declared.engine.Engine.{Engine}
+use Rattle.xen_host.specs.EngineAt.{EngineAt, WorkAt}
 use Rattle.xen_host.specs.declared.stage.Fill.{Fill}
 use Rattle.xen_host.specs.declared.stage.Fill.TheVariants as fill
 use Rattle.xen_host.specs.declared.stage.Purpose.TheVariants as purpose
 use Rattle.xen_host.specs.declared.stage.Stage.{Stage}
 use Rattle.xen_host.specs.declared.stage.Stage.TheVariants as stage
-use Rattle.xen_host.specs.declared.wires.OwnedWiring.{OwnedWiring}
-use Rattle.xen_host.specs.declared.work.Work.{Work}
 use Rattle.xen_host.proofs.AskLemmas.{asks_post, asks_slot, asks_words, reads_bind}
 use Rattle.xen_host.proofs.StepLemmas.{AreInPages, all_within, last_within, page_pages, read_led, turn_pages}
 
@@ -53,7 +50,7 @@ use Rattle.xen_host.proofs.StepLemmas.{AreInPages, all_within, last_within, page
 none : Place
 none = page_word 0 0
 
-pub reads_of_fill : (w : Vif) (x : ℕ) (f : Fill) (b : Work) → (at : Place) × AsksReads at (reads_filling f) (rest_filling w x f b)
+pub reads_of_fill : (w : Vif) (x : ℕ) (f : Fill) (b : WorkAt) → (at : Place) × AsksReads at (reads_filling f) (rest_filling w x f b)
 reads_of_fill w x fill.Producer b = (rx_word w 0, (refl, λ a. tt))
 reads_of_fill w x (fill.Slot left) b = (rx_slot w (add32 x (length b.targets)) 0, asks_post w (add32 x (length b.targets)) (targeted b.targets (read_targets w x left)) (after_targets w x b.packet))
 reads_of_fill w x (fill.Grant left id at) b = (at, (refl, λ a. (refl, λ c. tt)))
@@ -62,12 +59,12 @@ reads_of_fill w x (fill.Respond grants i) b = (none, tt)
 reads_of_fill w x (fill.Push grants) b = (rx_word w 3, (refl, λ a. tt))
 reads_of_fill w x (fill.Notice grants) b = (none, tt)
 
-reads_of_turn : (w : Wiring) (s : State) (g : Stage) (b : Work) → is_turning g ≡ true → (at : Place) × AsksReads at (reads_in g) (rest_in w s g b)
+reads_of_turn : (w : Wiring) (s : State) (g : Stage) (b : WorkAt) → is_turning g ≡ true → (at : Place) × AsksReads at (reads_in g) (rest_in w s g b)
 reads_of_turn w s stage.Ready b t = cc t
 reads_of_turn w s stage.Announce b t = (tx_word w.vif 0, (refl, λ a. tt))
 reads_of_turn w s (stage.Slot left) b t = (tx_slot w.vif (add32 s.tx_index (length b.chain)) 0, asks_slot w (add32 s.tx_index (length b.chain)) (λ (slot : Slot). judged (b.chain ++ slot ∷ []) (standing (b.chain ++ slot ∷ [])) (read_slots w s.tx_index left (b.chain ++ slot ∷ []))) (after_scan w s))
 reads_of_turn w s (stage.Entry i at) b t = (at, (refl, λ a. (refl, λ c. tt)))
-reads_of_turn w s (stage.Page i f frame) b t = (page_word frame (f.offset / 4), asks_words f frame (f.offset / 4) (covered f) b.packet (copy w (drop i b.fragments.items)) (after_copy w s b.chain))
+reads_of_turn w s (stage.Page i f frame) b t = (page_word frame (f.offset / 4), asks_words f frame (f.offset / 4) (covered f) b.packet (copy w (drop i b.fragments)) (after_copy w s b.chain))
 reads_of_turn w s (stage.Fill f (purpose.Back n)) b t = let r = reads_of_fill w.vif s.rx_index f b in (r.0, reads_bind r.0 (reads_filling f) (rest_filling w.vif s.rx_index f b) (after_transmit w s b.chain b.packet n) r.1)
 reads_of_turn w s (stage.Fill f purpose.Delivery) b t = cc t
 reads_of_turn w s (stage.Respond a i) b t = (none, tt)
@@ -77,7 +74,7 @@ reads_of_turn w s (stage.Deliver producer) b t = cc t
 reads_of_turn w s (stage.Wait pages) b t = cc t
 reads_of_turn w s (stage.WaitLook pages) b t = cc t
 
-reads_of_delivery : (w : Vif) (s : State) (g : Stage) (b : Work) → is_delivering g ≡ true → (at : Place) × AsksReads at (reads_in g) (rest_of_delivery w s g b)
+reads_of_delivery : (w : Vif) (s : State) (g : Stage) (b : WorkAt) → is_delivering g ≡ true → (at : Place) × AsksReads at (reads_in g) (rest_of_delivery w s g b)
 reads_of_delivery w s stage.Ready b t = cc t
 reads_of_delivery w s stage.Announce b t = cc t
 reads_of_delivery w s (stage.Slot left) b t = cc t
@@ -109,7 +106,7 @@ reads_of_wait rx s (stage.WaitLook pages) t = (page_word rx 0, (refl, λ a. tt))
 -- ---- what ends
 
 -- a queue at a stage of a turn whose rest completes, and so on
-turn_task : (w : OwnedWiring) (s : State) (g : Stage) (b : Work) → is_turning g ≡ true → Completes (wiring_of w) (rest_in (wiring_of w) s g b) → TaskCompletes w s g b
+turn_task : (w : Wiring) (s : State) (g : Stage) (b : WorkAt) → is_turning g ≡ true → Completes w (rest_in w s g b) → TaskCompletes w s g b
 turn_task w s stage.Ready b t h = cc t
 turn_task w s stage.Announce b t h = h
 turn_task w s (stage.Slot left) b t h = h
@@ -124,7 +121,7 @@ turn_task w s (stage.Deliver producer) b t h = cc t
 turn_task w s (stage.Wait pages) b t h = cc t
 turn_task w s (stage.WaitLook pages) b t h = cc t
 
-pub task_turn : (w : OwnedWiring) (s : State) (g : Stage) (b : Work) → is_turning g ≡ true → TaskCompletes w s g b → Completes (wiring_of w) (rest_in (wiring_of w) s g b)
+pub task_turn : (w : Wiring) (s : State) (g : Stage) (b : WorkAt) → is_turning g ≡ true → TaskCompletes w s g b → Completes w (rest_in w s g b)
 task_turn w s stage.Ready b t h = cc t
 task_turn w s stage.Announce b t h = h
 task_turn w s (stage.Slot left) b t h = h
@@ -139,7 +136,7 @@ task_turn w s (stage.Deliver producer) b t h = cc t
 task_turn w s (stage.Wait pages) b t h = cc t
 task_turn w s (stage.WaitLook pages) b t h = cc t
 
-delivery_task : (w : OwnedWiring) (s : State) (g : Stage) (b : Work) → is_delivering g ≡ true → Arriving w s g b → TaskCompletes w s g b
+delivery_task : (w : Wiring) (s : State) (g : Stage) (b : WorkAt) → is_delivering g ≡ true → Arriving w s g b → TaskCompletes w s g b
 delivery_task w s stage.Ready b t h = cc t
 delivery_task w s stage.Announce b t h = cc t
 delivery_task w s (stage.Slot left) b t h = cc t
@@ -154,7 +151,7 @@ delivery_task w s (stage.Deliver producer) b t h = h
 delivery_task w s (stage.Wait pages) b t h = cc t
 delivery_task w s (stage.WaitLook pages) b t h = cc t
 
-wait_task : (w : OwnedWiring) (s : State) (g : Stage) (b : Work) → is_waiting g ≡ true → Waiting w s g → TaskCompletes w s g b
+wait_task : (w : Wiring) (s : State) (g : Stage) (b : WorkAt) → is_waiting g ≡ true → Waiting w s g → TaskCompletes w s g b
 wait_task w s stage.Ready b t h = cc t
 wait_task w s stage.Announce b t h = cc t
 wait_task w s (stage.Slot left) b t h = cc t
@@ -168,13 +165,13 @@ wait_task w s (stage.Deliver producer) b t h = cc t
 wait_task w s (stage.Wait pages) b t h = h
 wait_task w s (stage.WaitLook pages) b t h = h
 
-ready_task : (w : OwnedWiring) (s : State) (g : Stage) (b : Work) → g ≡ stage.Ready → TaskCompletes w s g b
+ready_task : (w : Wiring) (s : State) (g : Stage) (b : WorkAt) → g ≡ stage.Ready → TaskCompletes w s g b
 ready_task w s g b e = subst (λ (x : Stage). TaskCompletes w s x b) (sym e) tt
 
 -- ---- where a step ends
 
-pub turn_split : (e : Engine) (last : Ask) (left : Steps Ending) → TurnEnds e last left →
-    ((k : Kind) × (last ≡ ask.TurnOver k) × IsTurnOver e k left) ⊎ IsOn (rest_in (wiring_of e.wires) e.state e.stage e.work) (reads_in e.stage) (is_turning e.stage) (IsToldAt e.wires.table e.stage) last left
+pub turn_split : (e : EngineAt) (last : Ask) (left : Steps Ending) → TurnEnds e last left →
+    ((k : Kind) × (last ≡ ask.TurnOver k) × IsTurnOver e k left) ⊎ IsOn (rest_in e.wires e.state e.stage e.work) (reads_in e.stage) (is_turning e.stage) (IsToldAt e.wires.vif.table.now e.stage) last left
 turn_split e (ask.TurnOver k) left h = inl (k, refl, h)
 turn_split e (ask.Read at count) left h = inr h
 turn_split e (ask.Entry at reference rights) left h = inr h
@@ -186,8 +183,8 @@ turn_split e (ask.Notify port) left h = inr h
 turn_split e (ask.DeliveryOver what) left h = inr h
 turn_split e (ask.WaitOver what) left h = inr h
 
-pub delivery_split : (packet : List ℕ) (e : Engine) (last : Ask) (left : Steps Arrival) → DeliveryEnds packet e last left →
-    ((what : Delivery) × (last ≡ ask.DeliveryOver what) × (e.stage ≡ stage.Ready)) ⊎ IsOn (rest_of_delivery (vif_of e.wires) e.state e.stage e.work) (reads_in e.stage) (is_delivering e.stage) (IsToldAt e.wires.table e.stage) last left
+pub delivery_split : (packet : List ℕ) (e : EngineAt) (last : Ask) (left : Steps Arrival) → DeliveryEnds packet e last left →
+    ((what : Delivery) × (last ≡ ask.DeliveryOver what) × (e.stage ≡ stage.Ready)) ⊎ IsOn (rest_of_delivery e.wires.vif e.state e.stage e.work) (reads_in e.stage) (is_delivering e.stage) (IsToldAt e.wires.vif.table.now e.stage) last left
 delivery_split packet e (ask.DeliveryOver what) left h = inl (what, refl, h.1)
 delivery_split packet e (ask.Read at count) left h = inr h.0
 delivery_split packet e (ask.Entry at reference rights) left h = inr h.0
@@ -199,8 +196,8 @@ delivery_split packet e (ask.Notify port) left h = inr h.0
 delivery_split packet e (ask.TurnOver k) left h = inr h.0
 delivery_split packet e (ask.WaitOver what) left h = inr h.0
 
-pub wait_split : (packet : List ℕ) (e : Engine) (last : Ask) (left : Steps Wait) → WaitEnds packet e last left →
-    ((what : Awaited) × (last ≡ ask.WaitOver what) × (e.stage ≡ stage.Ready)) ⊎ IsOn (rest_of_wait e.wires.rx e.state e.stage) (reads_in e.stage) (is_waiting e.stage) (IsToldAt e.wires.table e.stage) last left
+pub wait_split : (packet : List ℕ) (e : EngineAt) (last : Ask) (left : Steps Wait) → WaitEnds packet e last left →
+    ((what : Awaited) × (last ≡ ask.WaitOver what) × (e.stage ≡ stage.Ready)) ⊎ IsOn (rest_of_wait e.wires.vif.rx e.state e.stage) (reads_in e.stage) (is_waiting e.stage) (IsToldAt e.wires.vif.table.now e.stage) last left
 wait_split packet e (ask.WaitOver what) left h = inl (what, refl, h.1)
 wait_split packet e (ask.Read at count) left h = inr h.0
 wait_split packet e (ask.Entry at reference rights) left h = inr h.0
@@ -230,9 +227,9 @@ pub record EndsWell {A : Type 0} (frames : ℕ) (within : Want → Type 0) (all 
   pub finishes : Finishes within left
 
 pub ends_well : {H A : Type 0} {was : H → Ask → List ℕ → H → Type 0} {full : H → Type 0} {host host_after : H} (frames : ℕ) (within : Want → Type 0) → AreInPages frames within →
-    (ends : Ask → Steps A → Type 0) (w : OwnedWiring) (flags : TxFlags) (from : Steps A) (new : Engine) (h : HostLed was full ends w flags from new host host_after) → IsMet frames h.last.ask h.left → Finishes within from →
+    (ends : Ask → Steps A → Type 0) (flags : TxFlags) (from : Steps A) (new : EngineAt) (h : HostLed was full ends flags from new host host_after) → IsMet frames h.last.ask h.left → Finishes within from →
     EndsWell frames within (h.first ++ h.last ∷ []) h.left
-ends_well {A = A} frames within in_pages ends w flags from new h met f = record {
+ends_well {A = A} frames within in_pages ends flags from new h met f = record {
   inside = λ held. all_within frames within in_pages h.first h.last from h.left held h.sized h.take_none h.gone (last_met held met) f;
   finishes = finishes_gone within from h.left (events_of (h.first ++ h.last ∷ [])) f h.gone;
 }
@@ -242,7 +239,7 @@ ends_well {A = A} frames within in_pages ends w flags from new h met f = record 
     last_met held (inr p) m g k = p
 
 -- A step's end.
-pub record Ended (frames : ℕ) (e : Engine) (all : List Asked) : Type 0 where
+pub record Ended (frames : ℕ) (e : EngineAt) (all : List Asked) : Type 0 where
   pub inside : AllHeld all → AllInPages frames (asks_of all)
   pub task : TaskCompletes e.wires e.state e.stage e.work
 
@@ -250,72 +247,72 @@ pub record Ended (frames : ℕ) (e : Engine) (all : List Asked) : Type 0 where
 over_met : {A : Type 0} (frames : ℕ) (last over : Ask) (left : Steps A) → last ≡ over → IsInPages frames over → IsMet frames last left
 over_met frames last over left is p = inr (subst (λ (a : Ask). IsInPages frames a) (sym is) p)
 
-pub turn_ended : {H : Type 0} {was : H → Ask → List ℕ → H → Type 0} {full : H → Type 0} {host host_after : H} (w : OwnedWiring) (flags : TxFlags) (from : Steps Ending) (new : Engine)
-    (h : HostLed was full (TurnEnds new) w flags from new host host_after) → Completes (wiring_of w) from → Ended (length w.owners) new (h.first ++ h.last ∷ [])
-turn_ended w flags from new h c = by (turn_split new h.last.ask h.left h.is_end)
+pub turn_ended : {H : Type 0} {was : H → Ask → List ℕ → H → Type 0} {full : H → Type 0} {host host_after : H} (w : Wiring) (flags : TxFlags) (from : Steps Ending) (new : EngineAt) →
+    new.wires ≡ w → (h : HostLed was full (TurnEnds new) flags from new host host_after) → Completes w from → Ended (length w.vif.owners.now) new (h.first ++ h.last ∷ [])
+turn_ended w flags from new same h c = by (turn_split new h.last.ask h.left h.is_end)
   where
     frames : ℕ
-    frames = length w.owners
+    frames = length w.vif.owners.now
 
-    well : IsMet frames h.last.ask h.left → EndsWell frames (may_want (wiring_of w)) (h.first ++ h.last ∷ []) h.left
-    well met = ends_well frames (may_want (wiring_of w)) (turn_pages frames w.program.shapes) (TurnEnds new) w flags from new h met c
+    well : IsMet frames h.last.ask h.left → EndsWell frames (may_want w) (h.first ++ h.last ∷ []) h.left
+    well met = ends_well frames (may_want w) (turn_pages frames w.program.now.shapes) (TurnEnds new) flags from new h met c
 
-    by : ((k : Kind) × (h.last.ask ≡ ask.TurnOver k) × IsTurnOver new k h.left) ⊎ IsOn (rest_in (wiring_of new.wires) new.state new.stage new.work) (reads_in new.stage) (is_turning new.stage) (IsToldAt new.wires.table new.stage) h.last.ask h.left → Ended frames new (h.first ++ h.last ∷ [])
+    by : ((k : Kind) × (h.last.ask ≡ ask.TurnOver k) × IsTurnOver new k h.left) ⊎ IsOn (rest_in new.wires new.state new.stage new.work) (reads_in new.stage) (is_turning new.stage) (IsToldAt new.wires.vif.table.now new.stage) h.last.ask h.left → Ended frames new (h.first ++ h.last ∷ [])
     by (inl x) = record { inside = (well (over_met frames h.last.ask (ask.TurnOver x.0) h.left x.1 tt)).inside; task = ready_task new.wires new.state new.stage new.work x.2.ready }
     by (inr on) =
         let r = well (inl (reads_in new.stage, on.waits)) in
-        let there = subst (λ (x : OwnedWiring). Completes (wiring_of x) h.left) (sym h.wires) r.finishes in
-        record { inside = r.inside; task = turn_task new.wires new.state new.stage new.work on.is_here (subst (λ (x : Steps Ending). Completes (wiring_of new.wires) x) on.is_rest there) }
+        let there = subst (λ (x : Wiring). Completes x h.left) (sym same) r.finishes in
+        record { inside = r.inside; task = turn_task new.wires new.state new.stage new.work on.is_here (subst (λ (x : Steps Ending). Completes new.wires x) on.is_rest there) }
 
-pub delivery_ended : {H : Type 0} {was : H → Ask → List ℕ → H → Type 0} {full : H → Type 0} {host host_after : H} (w : OwnedWiring) (flags : TxFlags) (packet : List ℕ) (from : Steps Arrival) (new : Engine)
-    (h : HostLed was full (DeliveryEnds packet new) w flags from new host host_after) → Finishes (IsPageWant (length w.owners)) from → Ended (length w.owners) new (h.first ++ h.last ∷ [])
-delivery_ended w flags packet from new h c = by (delivery_split packet new h.last.ask h.left h.is_end)
+pub delivery_ended : {H : Type 0} {was : H → Ask → List ℕ → H → Type 0} {full : H → Type 0} {host host_after : H} (w : Wiring) (flags : TxFlags) (packet : List ℕ) (from : Steps Arrival) (new : EngineAt) →
+    new.wires ≡ w → (h : HostLed was full (DeliveryEnds packet new) flags from new host host_after) → Finishes (IsPageWant (length w.vif.owners.now)) from → Ended (length w.vif.owners.now) new (h.first ++ h.last ∷ [])
+delivery_ended w flags packet from new same h c = by (delivery_split packet new h.last.ask h.left h.is_end)
   where
     frames : ℕ
-    frames = length w.owners
+    frames = length w.vif.owners.now
 
     well : IsMet frames h.last.ask h.left → EndsWell frames (IsPageWant frames) (h.first ++ h.last ∷ []) h.left
-    well met = ends_well frames (IsPageWant frames) (page_pages frames) (DeliveryEnds packet new) w flags from new h met c
+    well met = ends_well frames (IsPageWant frames) (page_pages frames) (DeliveryEnds packet new) flags from new h met c
 
-    by : ((what : Delivery) × (h.last.ask ≡ ask.DeliveryOver what) × (new.stage ≡ stage.Ready)) ⊎ IsOn (rest_of_delivery (vif_of new.wires) new.state new.stage new.work) (reads_in new.stage) (is_delivering new.stage) (IsToldAt new.wires.table new.stage) h.last.ask h.left → Ended frames new (h.first ++ h.last ∷ [])
+    by : ((what : Delivery) × (h.last.ask ≡ ask.DeliveryOver what) × (new.stage ≡ stage.Ready)) ⊎ IsOn (rest_of_delivery new.wires.vif new.state new.stage new.work) (reads_in new.stage) (is_delivering new.stage) (IsToldAt new.wires.vif.table.now new.stage) h.last.ask h.left → Ended frames new (h.first ++ h.last ∷ [])
     by (inl x) = record { inside = (well (over_met frames h.last.ask (ask.DeliveryOver x.0) h.left x.1 tt)).inside; task = ready_task new.wires new.state new.stage new.work x.2 }
     by (inr on) =
         let r = well (inl (reads_in new.stage, on.waits)) in
-        let there = subst (λ (x : OwnedWiring). Finishes (IsPageWant (length x.owners)) h.left) (sym h.wires) r.finishes in
-        record { inside = r.inside; task = delivery_task new.wires new.state new.stage new.work on.is_here (subst (λ (x : Steps Arrival). Finishes (IsPageWant (length new.wires.owners)) x) on.is_rest there) }
+        let there = subst (λ (x : Wiring). Finishes (IsPageWant (length x.vif.owners.now)) h.left) (sym same) r.finishes in
+        record { inside = r.inside; task = delivery_task new.wires new.state new.stage new.work on.is_here (subst (λ (x : Steps Arrival). Finishes (IsPageWant (length new.wires.vif.owners.now)) x) on.is_rest there) }
 
-pub wait_ended : {H : Type 0} {was : H → Ask → List ℕ → H → Type 0} {full : H → Type 0} {host host_after : H} (w : OwnedWiring) (flags : TxFlags) (packet : List ℕ) (from : Steps Wait) (new : Engine)
-    (h : HostLed was full (WaitEnds packet new) w flags from new host host_after) → Finishes (IsPageWant (length w.owners)) from → Ended (length w.owners) new (h.first ++ h.last ∷ [])
-wait_ended w flags packet from new h c = by (wait_split packet new h.last.ask h.left h.is_end)
+pub wait_ended : {H : Type 0} {was : H → Ask → List ℕ → H → Type 0} {full : H → Type 0} {host host_after : H} (w : Wiring) (flags : TxFlags) (packet : List ℕ) (from : Steps Wait) (new : EngineAt) →
+    new.wires ≡ w → (h : HostLed was full (WaitEnds packet new) flags from new host host_after) → Finishes (IsPageWant (length w.vif.owners.now)) from → Ended (length w.vif.owners.now) new (h.first ++ h.last ∷ [])
+wait_ended w flags packet from new same h c = by (wait_split packet new h.last.ask h.left h.is_end)
   where
     frames : ℕ
-    frames = length w.owners
+    frames = length w.vif.owners.now
 
     well : IsMet frames h.last.ask h.left → EndsWell frames (IsPageWant frames) (h.first ++ h.last ∷ []) h.left
-    well met = ends_well frames (IsPageWant frames) (page_pages frames) (WaitEnds packet new) w flags from new h met c
+    well met = ends_well frames (IsPageWant frames) (page_pages frames) (WaitEnds packet new) flags from new h met c
 
-    by : ((what : Awaited) × (h.last.ask ≡ ask.WaitOver what) × (new.stage ≡ stage.Ready)) ⊎ IsOn (rest_of_wait new.wires.rx new.state new.stage) (reads_in new.stage) (is_waiting new.stage) (IsToldAt new.wires.table new.stage) h.last.ask h.left → Ended frames new (h.first ++ h.last ∷ [])
+    by : ((what : Awaited) × (h.last.ask ≡ ask.WaitOver what) × (new.stage ≡ stage.Ready)) ⊎ IsOn (rest_of_wait new.wires.vif.rx new.state new.stage) (reads_in new.stage) (is_waiting new.stage) (IsToldAt new.wires.vif.table.now new.stage) h.last.ask h.left → Ended frames new (h.first ++ h.last ∷ [])
     by (inl x) = record { inside = (well (over_met frames h.last.ask (ask.WaitOver x.0) h.left x.1 tt)).inside; task = ready_task new.wires new.state new.stage new.work x.2 }
     by (inr on) =
         let r = well (inl (reads_in new.stage, on.waits)) in
-        let there = subst (λ (x : OwnedWiring). Finishes (IsPageWant (length x.owners)) h.left) (sym h.wires) r.finishes in
-        record { inside = r.inside; task = wait_task new.wires new.state new.stage new.work on.is_here (subst (λ (x : Steps Wait). Finishes (IsPageWant (length new.wires.owners)) x) on.is_rest there) }
+        let there = subst (λ (x : Wiring). Finishes (IsPageWant (length x.vif.owners.now)) h.left) (sym same) r.finishes in
+        record { inside = r.inside; task = wait_task new.wires new.state new.stage new.work on.is_here (subst (λ (x : Steps Wait). Finishes (IsPageWant (length new.wires.vif.owners.now)) x) on.is_rest there) }
 
 -- What is answered to what was asked last finishes too.
-pub fed_turn : (w : OwnedWiring) (s : State) (g : Stage) (b : Work) (words : List ℕ) → AreWords words → length words ≡ reads_in g → is_turning g ≡ true → TaskCompletes w s g b → Completes (wiring_of w) (fed (rest_in (wiring_of w) s g b) words)
+pub fed_turn : (w : Wiring) (s : State) (g : Stage) (b : WorkAt) (words : List ℕ) → AreWords words → length words ≡ reads_in g → is_turning g ≡ true → TaskCompletes w s g b → Completes w (fed (rest_in w s g b) words)
 fed_turn w s g b words below n t c =
-    let r = reads_of_turn (wiring_of w) s g b t in
-    let rest = rest_in (wiring_of w) s g b in
-    finishes_gone (may_want (wiring_of w)) rest (fed rest words) (reads_at r.0 words) (task_turn w s g b t c) (read_led rest r.0 (reads_in g) words below n r.1)
+    let r = reads_of_turn w s g b t in
+    let rest = rest_in w s g b in
+    finishes_gone (may_want w) rest (fed rest words) (reads_at r.0 words) (task_turn w s g b t c) (read_led rest r.0 (reads_in g) words below n r.1)
 
-pub fed_delivery : (w : OwnedWiring) (s : State) (g : Stage) (b : Work) (words : List ℕ) → AreWords words → length words ≡ reads_in g → is_delivering g ≡ true → Arriving w s g b → Finishes (IsPageWant (length w.owners)) (fed (rest_of_delivery (vif_of w) s g b) words)
+pub fed_delivery : (w : Wiring) (s : State) (g : Stage) (b : WorkAt) (words : List ℕ) → AreWords words → length words ≡ reads_in g → is_delivering g ≡ true → Arriving w s g b → Finishes (IsPageWant (length w.vif.owners.now)) (fed (rest_of_delivery w.vif s g b) words)
 fed_delivery w s g b words below n t c =
-    let r = reads_of_delivery (vif_of w) s g b t in
-    let rest = rest_of_delivery (vif_of w) s g b in
-    finishes_gone (IsPageWant (length w.owners)) rest (fed rest words) (reads_at r.0 words) c (read_led rest r.0 (reads_in g) words below n r.1)
+    let r = reads_of_delivery w.vif s g b t in
+    let rest = rest_of_delivery w.vif s g b in
+    finishes_gone (IsPageWant (length w.vif.owners.now)) rest (fed rest words) (reads_at r.0 words) c (read_led rest r.0 (reads_in g) words below n r.1)
 
-pub fed_wait : (w : OwnedWiring) (s : State) (g : Stage) (words : List ℕ) → AreWords words → length words ≡ reads_in g → is_waiting g ≡ true → Waiting w s g → Finishes (IsPageWant (length w.owners)) (fed (rest_of_wait w.rx s g) words)
+pub fed_wait : (w : Wiring) (s : State) (g : Stage) (words : List ℕ) → AreWords words → length words ≡ reads_in g → is_waiting g ≡ true → Waiting w s g → Finishes (IsPageWant (length w.vif.owners.now)) (fed (rest_of_wait w.vif.rx s g) words)
 fed_wait w s g words below n t c =
-    let r = reads_of_wait w.rx s g t in
-    let rest = rest_of_wait w.rx s g in
-    finishes_gone (IsPageWant (length w.owners)) rest (fed rest words) (reads_at r.0 words) c (read_led rest r.0 (reads_in g) words below n r.1)
+    let r = reads_of_wait w.vif.rx s g t in
+    let rest = rest_of_wait w.vif.rx s g in
+    finishes_gone (IsPageWant (length w.vif.owners.now)) rest (fed rest words) (reads_at r.0 words) c (read_led rest r.0 (reads_in g) words below n r.1)

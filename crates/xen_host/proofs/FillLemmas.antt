@@ -5,9 +5,9 @@ use Rattle.xen_steps.specs.Steps.{Steps, bind}
 use Rattle.xen_rx_fill.specs.declared.by_event.phase.Outcome.{Outcome}
 use Rattle.xen_rx_fill.specs.declared.target.Target.{Target}
 use Rattle.xen_rx_fill.proofs.StraightLemmas.{gone_bind}
-use Rattle.xen_back.specs.Deliveries.{Arrival, arrived}
-use Rattle.xen_back.specs.Tree.{after_transmit}
-use Rattle.xen_back.specs.Turned.{Ending}
+use Rattle.xen_turns.specs.Deliveries.{Arrival, arrived}
+use Rattle.xen_turns.specs.Tree.{after_transmit}
+use Rattle.xen_turns.specs.Turned.{Ending}
 use Rattle.xen_host.specs.Asks.{Ask, IsSized, did_all, did_by, takes_none}
 use Rattle.xen_host.specs.Asks as ask
 use Rattle.xen_host.specs.Fed.{WaitsFor}
@@ -16,13 +16,11 @@ use Rattle.xen_host.specs.Hosts.{WasAskedAll, events_of, plain_all}
 use Rattle.xen_host.specs.Led.{Beside, DeliveryEnds, IsOn, TurnEnds, beside}
 use Rattle.xen_host.specs.Rest.{is_delivering, is_turning, reads_filling, reads_in, rest_filling, rest_in, rest_of_delivery}
 use Rattle.xen_host.specs.Told.{IsToldAt, IsToldFilling}
-use Rattle.xen_host.specs.Wired.{vif_of, wiring_of}
-use Rattle.xen_host.specs.declared.engine.Engine.{Engine}
+use Rattle.xen_host.specs.EngineAt.{EngineAt, WorkAt}
 use Rattle.xen_host.specs.declared.stage.Fill.{Fill}
 use Rattle.xen_host.specs.declared.stage.Purpose.{Purpose}
 use Rattle.xen_host.specs.declared.stage.Purpose.TheVariants as purpose
 use Rattle.xen_host.specs.declared.stage.Stage.TheVariants as stage
-use Rattle.xen_host.specs.declared.work.Work.{Work}
 use Rattle.xen_host.proofs.AskLemmas.{reads_bind}
 use Rattle.xen_host.proofs.HostLedLemmas.{asks_all, asks_before}
 use Rattle.xen_host.proofs.LedLemmas.{AreChained}
@@ -53,7 +51,7 @@ waits_none (ask.DeliveryOver what) s h = cc h
 waits_none (ask.WaitOver what) s h = cc h
 
 -- what goes on isn't over
-pub turn_of_on : (e : Engine) (last : Ask) (left : Steps Ending) → IsOn (rest_in (wiring_of e.wires) e.state e.stage e.work) (reads_in e.stage) (is_turning e.stage) (IsToldAt e.wires.table e.stage) last left → TurnEnds e last left
+pub turn_of_on : (e : EngineAt) (last : Ask) (left : Steps Ending) → IsOn (rest_in e.wires e.state e.stage e.work) (reads_in e.stage) (is_turning e.stage) (IsToldAt e.wires.vif.table.now e.stage) last left → TurnEnds e last left
 turn_of_on e (ask.TurnOver kind) left on = absurd on.waits
 turn_of_on e (ask.Read at count) left on = on
 turn_of_on e (ask.Entry at reference rights) left on = on
@@ -65,7 +63,7 @@ turn_of_on e (ask.Notify port) left on = on
 turn_of_on e (ask.DeliveryOver what) left on = on
 turn_of_on e (ask.WaitOver what) left on = on
 
-delivery_of_on : (packet : List ℕ) (e : Engine) (last : Ask) (left : Steps Arrival) → IsOn (rest_of_delivery (vif_of e.wires) e.state e.stage e.work) (reads_in e.stage) (is_delivering e.stage) (IsToldAt e.wires.table e.stage) last left → e.work.packet ≡ packet → DeliveryEnds packet e last left
+delivery_of_on : (packet : List ℕ) (e : EngineAt) (last : Ask) (left : Steps Arrival) → IsOn (rest_of_delivery e.wires.vif e.state e.stage e.work) (reads_in e.stage) (is_delivering e.stage) (IsToldAt e.wires.vif.table.now e.stage) last left → e.work.packet ≡ packet → DeliveryEnds packet e last left
 delivery_of_on packet e (ask.DeliveryOver what) left on p = absurd on.waits
 delivery_of_on packet e (ask.Read at count) left on p = (on, p)
 delivery_of_on packet e (ask.Entry at reference rights) left on p = (on, p)
@@ -79,21 +77,21 @@ delivery_of_on packet e (ask.WaitOver what) left on p = (on, p)
 
 -- ---- a transmit
 
-abbrev pub with_targets : Work → List Target → Work
+abbrev pub with_targets : WorkAt → List Target → WorkAt
 with_targets b ts = record b { targets = ts }
 
 -- an engine whose transmit is here, with these targets
-abbrev pub filling_at : Engine → List Target → Fill → Purpose → Engine
+abbrev pub filling_at : EngineAt → List Target → Fill → Purpose → EngineAt
 filling_at q ts f p = record q { stage = stage.Fill f p; work = with_targets q.work ts }
 
-abbrev pub IsFillOn : Engine → List Target → Fill → Ask → Steps Outcome → Type 0
+abbrev pub IsFillOn : EngineAt → List Target → Fill → Ask → Steps Outcome → Type 0
 IsFillOn q ts f a left =
-    (left ≡ rest_filling (vif_of q.wires) q.state.rx_index f (with_targets q.work ts)) × IsToldFilling q.wires.table f a × WaitsFor a (reads_filling f) left
+    (left ≡ rest_filling q.wires.vif q.state.rx_index f (with_targets q.work ts)) × IsToldFilling q.wires.vif.table.now f a × WaitsFor a (reads_filling f) left
 
-pub lift_fill : {H : Type 0} (was : H → Ask → List ℕ → H → Type 0) (full : H → Type 0) (p : Purpose) (q : Engine) (ts : List Target) (f : Fill) (x : Steps Outcome) (host host_after : H) →
-    HostLed was full (IsFillOn q ts f) q.wires q.flags x (filling_at q ts f p) host host_after → FillLeads was full p (beside q) x (filling_at q ts f p) host host_after
+pub lift_fill : {H : Type 0} (was : H → Ask → List ℕ → H → Type 0) (full : H → Type 0) (p : Purpose) (q : EngineAt) (ts : List Target) (f : Fill) (x : Steps Outcome) (host host_after : H) →
+    HostLed was full (IsFillOn q ts f) q.flags x (filling_at q ts f p) host host_after → FillLeads was full p (beside q) x (filling_at q ts f p) host host_after
 lift_fill was full (purpose.Back n) q ts f x host host_after h =
-    let then = after_transmit (wiring_of q.wires) q.state q.work.chain q.work.packet n in
+    let then = after_transmit q.wires q.state q.work.chain q.work.packet n in
     record {
       first = h.first;
       last = h.last;
@@ -105,7 +103,6 @@ lift_fill was full (purpose.Back n) q ts f x host host_after h =
       gone = gone_bind x h.left (events_of (h.first ++ h.last ∷ [])) then h.gone;
       is_end = turn_of_on (filling_at q ts f (purpose.Back n)) h.last.ask (bind h.left then)
           (record { is_rest = ap (λ (s : Steps Outcome). bind s then) h.is_end.0; waits = waits_bind h.last.ask (reads_filling f) h.left then h.is_end.2; is_here = refl; told = h.is_end.1 });
-      wires = refl;
       flags_are = refl;
       fits = h.fits;
     }
@@ -122,32 +119,31 @@ lift_fill was full purpose.Delivery q ts f x host host_after h =
       gone = gone_bind x h.left (events_of (h.first ++ h.last ∷ [])) then h.gone;
       is_end = delivery_of_on q.work.packet (filling_at q ts f purpose.Delivery) h.last.ask (bind h.left then)
           (record { is_rest = ap (λ (s : Steps Outcome). bind s then) h.is_end.0; waits = waits_bind h.last.ask (reads_filling f) h.left then h.is_end.2; is_here = refl; told = h.is_end.1 }) refl;
-      wires = refl;
       flags_are = refl;
       fits = h.fits;
     }
 
 -- From another computation that is the same.
-pub fill_same : {H : Type 0} (was : H → Ask → List ℕ → H → Type 0) (full : H → Type 0) (p : Purpose) (e : Beside) (x same : Steps Outcome) (new : Engine) (host host_after : H) →
+pub fill_same : {H : Type 0} (was : H → Ask → List ℕ → H → Type 0) (full : H → Type 0) (p : Purpose) (e : Beside) (x same : Steps Outcome) (new : EngineAt) (host host_after : H) →
     same ≡ x → FillLeads was full p e same new host host_after → FillLeads was full p e x new host host_after
 fill_same was full p e x same new host host_after s h = subst (λ (z : Steps Outcome). FillLeads was full p e z new host host_after) s h
 
 -- An ask that takes no answer, before others.
-pub fill_before : {H : Type 0} (was : H → Ask → List ℕ → H → Type 0) (full : H → Type 0) (p : Purpose) (e : Beside) (from between : Steps Outcome) (new : Engine) (host mid host_after : H) (a : Ask) (words : List ℕ) →
+pub fill_before : {H : Type 0} (was : H → Ask → List ℕ → H → Type 0) (full : H → Type 0) (p : Purpose) (e : Beside) (from between : Steps Outcome) (new : EngineAt) (host mid host_after : H) (a : Ask) (words : List ℕ) →
     was host a words mid → takes_none a ≡ true → IsSized a → LedBy from (did_by a words) between → FillLeads was full p e between new mid host_after → FillLeads was full p e from new host host_after
 fill_before was full (purpose.Back n) e from between new host mid host_after a words asked none sized g h =
-    let then = after_transmit (wiring_of e.wires) e.state e.chain e.packet n in
-    asks_before was full _ e.wires e.flags (bind from then) (bind between then) new host mid host_after a words asked none sized (gone_bind from between (did_by a words) then g) h
+    let then = after_transmit e.wires e.state e.chain e.packet n in
+    asks_before was full _ e.flags (bind from then) (bind between then) new host mid host_after a words asked none sized (gone_bind from between (did_by a words) then g) h
 fill_before was full purpose.Delivery e from between new host mid host_after a words asked none sized g h =
     let then = arrived e.state in
-    asks_before was full _ e.wires e.flags (bind from then) (bind between then) new host mid host_after a words asked none sized (gone_bind from between (did_by a words) then g) h
+    asks_before was full _ e.flags (bind from then) (bind between then) new host mid host_after a words asked none sized (gone_bind from between (did_by a words) then g) h
 
 -- Several that take no answer and no words.
-pub fill_all : {H : Type 0} (was : H → Ask → List ℕ → H → Type 0) (full : H → Type 0) (p : Purpose) (e : Beside) (from between : Steps Outcome) (new : Engine) (all : List Ask) (host mid host_after : H) →
+pub fill_all : {H : Type 0} (was : H → Ask → List ℕ → H → Type 0) (full : H → Type 0) (p : Purpose) (e : Beside) (from between : Steps Outcome) (new : EngineAt) (all : List Ask) (host mid host_after : H) →
     WasAskedAll was host (plain_all all) mid → AreChained all → LedBy from (did_all all []) between → FillLeads was full p e between new mid host_after → FillLeads was full p e from new host host_after
 fill_all was full (purpose.Back n) e from between new all host mid host_after asked chained g h =
-    let then = after_transmit (wiring_of e.wires) e.state e.chain e.packet n in
-    asks_all was full _ e.wires e.flags (bind from then) (bind between then) new all host mid host_after asked chained (gone_bind from between (did_all all []) then g) h
+    let then = after_transmit e.wires e.state e.chain e.packet n in
+    asks_all was full _ e.flags (bind from then) (bind between then) new all host mid host_after asked chained (gone_bind from between (did_all all []) then g) h
 fill_all was full purpose.Delivery e from between new all host mid host_after asked chained g h =
     let then = arrived e.state in
-    asks_all was full _ e.wires e.flags (bind from then) (bind between then) new all host mid host_after asked chained (gone_bind from between (did_all all []) then g) h
+    asks_all was full _ e.flags (bind from then) (bind between then) new all host mid host_after asked chained (gone_bind from between (did_all all []) then g) h

@@ -23,12 +23,12 @@ use Rattle.xen_rx_fill.specs.declared.target.Grants.{Grants}
 use Rattle.xen_rx_fill.specs.declared.target.Grants.TheVariants.{Passed, Refused}
 use Rattle.xen_rx_fill.specs.declared.target.Target.{Target}
 use Rattle.xen_rx_fill.specs.declared.vif.Vif.{Vif}
-use Rattle.xen_back.specs.Parts.{HasRead, IsCopy, IsLook, IsRespond, copied, denied, once, part, response_writes, slot_reads, slots_reads, twice}
-use Rattle.xen_back.specs.Program.{event_of}
-use Rattle.xen_back.specs.Responses.{Left, responses}
-use Rattle.xen_back.specs.Turns.{HasRun}
-use Rattle.xen_back.specs.declared.state.State.{State}
-use Rattle.xen_back.specs.declared.wiring.Wiring.{Wiring}
+use Rattle.xen_turns.specs.Parts.{HasRead, IsCopy, IsLook, IsRespond, copied, denied, once, part, response_writes, slot_reads, slots_reads, twice}
+use Rattle.xen_turns.specs.Program.{event_of}
+use Rattle.xen_turns.specs.Responses.{Left, responses}
+use Rattle.xen_turns.specs.Turns.{HasRun}
+use Rattle.xen_turns.specs.declared.state.State.{State}
+use Rattle.xen_turns.specs.declared.wiring.Wiring.{Wiring}
 use Rattle.xen_host.specs.GivesBack.{AllOfRings, GivesBack, HasPushed, IsPush}
 
 -- ---- parts that write nothing

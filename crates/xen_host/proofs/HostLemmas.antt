@@ -6,14 +6,14 @@ use Rattle.xen_steps.specs.Event.{Event, Read}
 use Rattle.xen_steps.specs.Places.{page_word}
 use Rattle.xen_steps.specs.Steps.{Steps}
 use Rattle.xen_rx_fill.specs.Places.{tx_word}
-use Rattle.xen_back.specs.Program.{event_of}
+use Rattle.xen_turns.specs.Program.{event_of}
 use Rattle.xen_host.specs.Asks.{AllInPages, AllSized, Ask, TakeNone, WordsStay, did_all, did_by, needs_no_answer, op_of, read_by, reads_at, writes_at}
 use Rattle.xen_host.specs.Asks as ask
 use Rattle.xen_host.specs.Buses.{IsHeld}
 use Rattle.xen_host.specs.Fed.{WaitsFor}
 use Rattle.xen_host.specs.Hosts.{Asked, HasGiven, IsFull, IsLent, IsPut, IsSameLoan, WasAskedAll, WasGiven, asks_of, events_of}
 use Rattle.xen_host.specs.Over.{AllHeld, BeginsOver, SteppedOver}
-use Rattle.xen_host.specs.Queues.{DeliveryGoesOn, HasBegun, Stepped, TurnGoesOn, WaitGoesOn, WaitsForSome, first_read, read_by_some, wiring}
+use Rattle.xen_host.specs.Queues.{DeliveryGoesOn, HasBegun, Stepped, TurnGoesOn, WaitGoesOn, WaitsForSome, first_read, read_by_some, wiring, seen}
 use Rattle.xen_host.specs.Rest.{flags_after, flags_behind, reads_in}
 use Rattle.xen_host.specs.Said.{Said}
 use Rattle.xen_host.specs.declared.host.Ops.{Ops}
@@ -22,7 +22,7 @@ use Rattle.xen_host.specs.declared.op.Op.{Op}
 use Rattle.xen_host.specs.declared.queue.Queue.{Queue}
 use Rattle.xen_host.specs.declared.stage.Stage.{Stage}
 use Rattle.xen_host.specs.declared.stage.Stage.TheVariants as stage
-use Rattle.xen_host.specs.declared.work.Work.{Work}
+use Rattle.xen_host.specs.EngineAt.{WorkAt}
 use Rattle.xen_host.proofs.LedLemmas.{did_more, keeps, length_more, ops_more, put_ask, stay_kept}
 
 asks_append : (all : List Asked) (a : Asked) → asks_of (all ++ a ∷ []) ≡ asks_of all ++ a.ask ∷ []
@@ -250,8 +250,9 @@ begun_of old new producer host host_after none few d lent long =
       last = d.last.ask;
       said = said_of d.first d.last host host_after lent lent none d.asked d.take_none d.stops d.sized (stays all lent k);
       told = d.told;
-      within = pages_of d.first d.last (length old.engine.wires.owners) (d.within (held_all all host host_after d.asked));
+      within = pages_of d.first d.last (length (seen old).wires.vif.owners.now) (d.within (held_all all host host_after d.asked));
       wires = d.wires;
+      share = d.share;
       flags = d.flags;
       turn = subst (λ (t : List Event). TurnGoesOn new d.last.ask s (reads ++ t)) did d.turn;
     }
@@ -287,7 +288,7 @@ some_same : {A : Type 0} (a : Option Ask) (n : ℕ) (s : Steps A) (lent : List �
 some_same None n s lent w = refl
 some_same (Some a) n s lent w = read_same a n s lent w
 
-flags_same : (g : Stage) (b : Work) (lent : List ℕ) (f : TxFlags) → flags_after g b (take (reads_in g) lent) f ≡ flags_after g b lent f
+flags_same : (g : Stage) (b : WorkAt) (lent : List ℕ) (f : TxFlags) → flags_after g b (take (reads_in g) lent) f ≡ flags_after g b lent f
 flags_same stage.Ready b lent f = refl
 flags_same stage.Announce b lent f = refl
 flags_same (stage.Slot left) b lent f = ap (λ l. flags_behind b.chain l f) (take_twice 3 lent)
@@ -327,9 +328,9 @@ module _ (went : List (Option Operation) → Type 0) (same : Type 0) (old new : 
         last = last;
         said = said_of d.first d.last host host_after lent lent_after none put d.take_none d.stops d.sized wrote.0;
         told = d.told;
-        within = pages_of d.first d.last (length old.engine.wires.owners) (d.within (held_all all host host_after put));
+        within = pages_of d.first d.last (length (seen old).wires.vif.owners.now) (d.within (held_all all host host_after put));
         wires = d.wires;
-        flags = d.flags ∙ ap (λ l. flags_after g old.engine.work l old.engine.flags) answered.0 ∙ flags_same g old.engine.work lent old.engine.flags;
+        flags = d.flags ∙ ap (λ l. flags_after g (seen old).work l old.engine.flags) answered.0 ∙ flags_same g (seen old).work lent old.engine.flags;
         labels = d.labels;
         history = d.history;
         turn = λ s trace asked token.

@@ -15,36 +15,35 @@ use Rattle.xen_rx_fill.specs.declared.by_event.phase.Outcome.{Outcome}
 use Rattle.xen_rx_fill.specs.declared.by_event.phase.Outcome.TheVariants as outcome
 use Rattle.xen_rx_fill.proofs.Figures.{most_transmit, n_transmit}
 use Rattle.xen_rx_fill.proofs.Bounds.{frame_inside}
-use Rattle.xen_back.specs.Awaited.{IsAwaiting}
-use Rattle.xen_back.specs.Awaited as awaited
-use Rattle.xen_back.specs.Delivered.{IsDelivery, is_frame}
-use Rattle.xen_back.specs.Delivered as delivered
-use Rattle.xen_back.specs.Deliveries.{whole_delivery}
-use Rattle.xen_back.specs.Program.{event_of}
-use Rattle.xen_back.specs.Tree.{unless_halted as turn_by, whole_turn}
-use Rattle.xen_back.specs.Turned.{Turned}
-use Rattle.xen_back.specs.Turns.{IsTurn}
-use Rattle.xen_back.specs.Waits.{Wait, check_unless, whole_wait}
-use Rattle.xen_back.specs.Within.{may_want}
-use Rattle.xen_back.specs.declared.delivery.wait.Awaited.{Awaited}
-use Rattle.xen_back.specs.declared.delivery.delivering.Delivery.{Delivery}
-use Rattle.xen_back.specs.declared.state.State.{State}
-use Rattle.xen_back.specs.declared.turn.Halt.{Halt}
-use Rattle.xen_back.specs.declared.wiring.Wiring.{Wiring}
-use Rattle.xen_back.proofs.ArriveLemmas.{arrives, delivery_rows}
-use Rattle.xen_back.proofs.Figures.{turn_accesses, turn_most}
-use Rattle.xen_back.proofs.TurnParts.{turn_parts}
-use Rattle.xen_back.proofs.TurnRuns.{runs_turn}
-use Rattle.xen_back.proofs.WaitLemmas.{wait_ends, wait_rows}
+use Rattle.xen_turns.specs.Awaited.{IsAwaiting}
+use Rattle.xen_turns.specs.Awaited as awaited
+use Rattle.xen_turns.specs.Delivered.{IsDelivery, is_frame}
+use Rattle.xen_turns.specs.Delivered as delivered
+use Rattle.xen_turns.specs.Deliveries.{whole_delivery}
+use Rattle.xen_turns.specs.Program.{event_of}
+use Rattle.xen_turns.specs.Tree.{unless_halted as turn_by, whole_turn}
+use Rattle.xen_turns.specs.Turned.{Turned}
+use Rattle.xen_turns.specs.Turns.{IsTurn}
+use Rattle.xen_turns.specs.Waits.{Wait, check_unless, whole_wait}
+use Rattle.xen_turns.specs.Within.{may_want}
+use Rattle.xen_turns.specs.declared.delivery.wait.Awaited.{Awaited}
+use Rattle.xen_turns.specs.declared.delivery.delivering.Delivery.{Delivery}
+use Rattle.xen_turns.specs.declared.state.State.{State}
+use Rattle.xen_turns.specs.declared.turn.Halt.{Halt}
+use Rattle.xen_turns.specs.declared.wiring.Wiring.{Wiring}
+use Rattle.xen_turns.proofs.ArriveLemmas.{arrives, delivery_rows}
+use Rattle.xen_turns.proofs.Figures.{turn_accesses, turn_most}
+use Rattle.xen_turns.proofs.TurnParts.{turn_parts}
+use Rattle.xen_turns.proofs.TurnRuns.{runs_turn}
+use Rattle.xen_turns.proofs.WaitLemmas.{wait_ends, wait_rows}
 use Rattle.xen_host.specs.Asks.{Ask, IsSized, did_all, did_by, read_by}
 use Rattle.xen_host.specs.Asks as ask
 use Rattle.xen_host.specs.Fed.{WaitsFor}
 use Rattle.xen_host.specs.Loops.{AreSteps, IsStep}
-use Rattle.xen_host.specs.Queues.{BegunBy, DeliveryGoesOn, HasBegun, IsBegun, IsDelivering, IsTurning, IsWaitBegun, IsWaiting, TurnGoesOn, WaitGoesOn}
+use Rattle.xen_host.specs.Queues.{BegunBy, DeliveryGoesOn, HasBegun, IsBegun, IsDelivering, IsTurning, IsWaitBegun, IsWaiting, TurnGoesOn, WaitGoesOn, seen}
 use Rattle.xen_host.specs.Queues.{first_read, packet_of, read_by_some, resting, wiring}
 use Rattle.xen_host.specs.Rest.{is_waiting, reads_in, rest_in, rest_of_delivery, rest_of_wait}
 use Rattle.xen_host.specs.Told.{IsPush, IsToldAt}
-use Rattle.xen_host.specs.Wired.{vif_of}
 use Rattle.xen_host.specs.declared.op.Op.{Op}
 use Rattle.xen_host.specs.declared.queue.Queue.{Queue}
 use Rattle.xen_host.specs.declared.stage.Stage.{Stage}
@@ -87,7 +86,7 @@ on_turn_light : (s : State) (q : Queue) (t : List Event) (o : Option Ask) → On
 on_turn_light s q t None h = absurd h
 on_turn_light s q t (Some a) h =
     let w = wiring q in
-    let e = q.engine in
+    let e = seen q in
     let whole = whole_turn w s in
     let rest = rest_in w e.state e.stage e.work in
     let r = some_run (may_want w) rest (finishes_gone (may_want w) whole rest t (q.turns s) h.gone) in
@@ -179,9 +178,9 @@ OnDelivery s packet q t o = IsDelivering q s packet t o
 
 on_delivery_light : (s : State) (packet : List ℕ) (q : Queue) (t : List Event) (o : Option Ask) → IsDelivering q s packet t o → weight t ≤ delivery_weighs s.halt
 on_delivery_light s packet q t o h =
-    let w = vif_of q.engine.wires in
-    let e = q.engine in
-    let within = IsPageWant (length e.wires.owners) in
+    let w = (seen q).wires.vif in
+    let e = seen q in
+    let within = IsPageWant (length e.wires.vif.owners.now) in
     let whole = whole_delivery w s packet in
     let rest = rest_of_delivery w e.state e.stage e.work in
     let r = some_run within rest (finishes_gone within whole rest t (arrives w s packet q.wired) h.0.gone) in
@@ -222,12 +221,12 @@ OnWait s pages packet q t o = IsWaiting q s pages packet t o
 
 on_wait_light : (s : State) (pages : ℕ) (packet : List ℕ) (q : Queue) (t : List Event) (o : Option Ask) → IsWaiting q s pages packet t o → weight t ≤ 2
 on_wait_light s pages packet q t o h =
-    let e = q.engine in
-    let rx = e.wires.rx in
-    let within = IsPageWant (length e.wires.owners) in
+    let e = seen q in
+    let rx = e.wires.vif.rx in
+    let within = IsPageWant (length e.wires.vif.owners.now) in
     let whole = whole_wait rx s pages in
     let rest = rest_of_wait rx e.state e.stage in
-    let r = some_run within rest (finishes_gone within whole rest t (wait_ends (length e.wires.owners) rx s pages (frame_inside (vif_of e.wires) rx q.wired.rx)) h.0.gone) in
+    let r = some_run within rest (finishes_gone within whole rest t (wait_ends (length e.wires.vif.owners.now) rx s pages (frame_inside e.wires.vif rx q.wired.rx)) h.0.gone) in
     begins t r.0 2 (wait_light (wiring q) s pages (t ++ r.0) r.1.0 r.1.1 (wait_rows (wiring q) s pages (t ++ r.0) r.1.0 r.1.1 (runs_gone whole rest t r.0 (r.1.0, r.1.1) h.0.gone r.2)))
 
 on_wait : (s : State) (pages : ℕ) (packet : List ℕ) (q : Queue) (a : Ask) (t : List Event) → WaitGoesOn q a s pages packet t → (v : ℕ) → (weight t ≤ 2 → v ≤ 2) →
@@ -353,7 +352,7 @@ first_wait old next c s pages packet p =
     let t = first ++ last in
     let z = sized old next c in
     on_wait s pages packet next c.stepped.last t (c.stepped.wait s pages packet [] None p).0 1 (λ l. omega arith) z
-    (λ i h. first_waits old.engine.wires.table c.lent_after next.engine.wires.rx s next.engine.state pages next.engine.stage c.stepped.last t h.0.is_here c.stepped.told h.0.waits h.0.gone z
+    (λ i h. first_waits (seen old).wires.vif.table.now c.lent_after (seen next).wires.vif.rx s next.engine.state pages next.engine.stage c.stepped.last t h.0.is_here c.stepped.told h.0.waits h.0.gone z
     (omega (arith, weight_append first last)) (adds old next c [] [] [] 0 (omega arith) i))
 
 pub waits_few : (old begun new : Queue) (pages n : ℕ) → IsWaitBegun old begun pages → AreSteps n begun new → n ≤ 2

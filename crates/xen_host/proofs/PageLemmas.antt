@@ -6,7 +6,7 @@ use Rattle.std.proofs.lemmas.Slice.{drop-put_mid, take-put_mid}
 use borrow.Rule.Slice.PartMut.{put_mid}
 use Rattle.xen_netif.specs.Copy.{bytes_from, bytes_of}
 use Rattle.xen_netif.specs.declared.fragment.Fragment.{Fragment}
-use Rattle.xen_back.proofs.ReadLemmas.{bytes_from-append, whole_bytes}
+use Rattle.xen_turns.proofs.ReadLemmas.{bytes_from-append, whole_bytes}
 
 pub three_parts : (f : Fragment) (first a b : ℕ) (ws p0 p1 p2 p3 : List ℕ) → a ≤ b → b ≤ length ws → (first + a < first + b → (f.offset ≤ 4 * (first + a)) × (4 * (first + b) ≤ f.offset + f.size)) →
     p1 ≡ p0 ++ bytes_from f first (take a (take b ws)) → p2 ≡ p1 ++ bytes_of (drop a (take b ws)) → p3 ≡ p2 ++ bytes_from f (first + b) (drop b ws) → p3 ≡ p0 ++ bytes_from f first ws

@@ -10,44 +10,42 @@ use Rattle.xen_steps.proofs.DriveLemmas.{gone_append}
 use Rattle.xen_rx_fill.specs.Places.{rx_word, tx_word}
 use Rattle.xen_rx_fill.specs.declared.vif.Vif.{Vif}
 use Rattle.xen_rx_fill.proofs.Bounds.{frame_inside}
-use Rattle.xen_back.specs.Delivered.{is_frame}
-use Rattle.xen_back.specs.Deliveries.{if_frame, unless_halted as delivery_by, whole_delivery}
-use Rattle.xen_back.specs.Tree.{unless_halted as turn_by, whole_turn}
-use Rattle.xen_back.specs.Waits.{whole_wait}
-use Rattle.xen_back.specs.declared.turn.Halt.{Halt}
-use Rattle.xen_back.specs.declared.wiring.Wiring.{Wiring}
-use Rattle.xen_back.proofs.ArriveLemmas.{arrives}
-use Rattle.xen_back.proofs.WaitLemmas.{wait_ends}
+use Rattle.xen_turns.specs.Delivered.{is_frame}
+use Rattle.xen_turns.specs.Deliveries.{if_frame, unless_halted as delivery_by, whole_delivery}
+use Rattle.xen_turns.specs.Tree.{unless_halted as turn_by, whole_turn}
+use Rattle.xen_turns.specs.declared.turn.Halt.{Halt}
+use Rattle.xen_turns.specs.declared.wiring.Wiring.{Wiring}
+use Rattle.xen_turns.proofs.ArriveLemmas.{arrives}
+use Rattle.xen_turns.proofs.WaitLemmas.{wait_ends}
 use Rattle.xen_host.specs.Asks.{Ask}
 use Rattle.xen_steps.proofs.FinishLemmas.{finishes_gone}
 use Rattle.xen_rx_fill.specs.Wired.{IsWired}
-use Rattle.xen_back.specs.Program.{event_of}
-use Rattle.xen_back.specs.Within.{Completes, TurnsComplete, may_want}
-use Rattle.xen_back.specs.declared.state.State.{State}
+use Rattle.xen_turns.specs.Program.{event_of}
+use Rattle.xen_turns.specs.Within.{Completes, TurnsComplete, may_want}
+use Rattle.xen_turns.specs.declared.state.State.{State}
 use Rattle.xen_host.specs.Completing.{Arriving, TaskCompletes, Waiting}
 use Rattle.xen_host.specs.Fed.{fed}
 use Rattle.xen_host.specs.Fits.{Fits}
 use Rattle.xen_host.specs.HostLed.{GoesOnAt, TurnLeads}
 use Rattle.xen_host.specs.Hosts.{events_of}
 use Rattle.xen_host.specs.Over.{BeginsOver, SteppedOver}
-use Rattle.xen_host.specs.Queues.{AreFew, AreFewAtSeat, IsBegun, IsUnderWay, IsWaitBegun, between, first_read, packet_in, packet_of, resting, wiring}
-use Rattle.xen_host.specs.Rest.{is_delivering, is_waiting, no_flags, reads_in, rest_in, rest_of_delivery, rest_of_wait}
-use Rattle.xen_host.specs.Wired.{vif_of, wiring_of}
-use Rattle.xen_host.specs.declared.engine.Engine.{Engine}
+use Rattle.xen_host.specs.Queues.{AreFew, AreFewAtSeat, between, first_read, resting, wiring, seen, wired_to}
+use Rattle.xen_host.specs.Rest.{is_delivering, is_waiting, no_flags, rest_in}
+use Rattle.xen_host.specs.EngineAt.{EngineAt, WorkAt}
 use Rattle.bpf_note.specs.declared.op.Op.{Op as Operation}
 use Rattle.xen_host.specs.declared.op.Op.{Op}
+use Rattle.xen_host.specs.Wired.{wiring_of}
 use Rattle.xen_host.specs.declared.queue.Queue.{Queue}
 use Rattle.xen_host.specs.declared.stage.Purpose.TheVariants as purpose
 use Rattle.xen_host.specs.declared.stage.Stage.{Stage}
 use Rattle.xen_host.specs.declared.stage.Stage.TheVariants as stage
 use Rattle.xen_host.specs.declared.wires.OwnedWiring.{OwnedWiring}
-use Rattle.xen_host.specs.declared.work.Work.{Work}
 use Rattle.xen_host.proofs.EndLemmas.{Ended, delivery_ended, fed_delivery, fed_turn, fed_wait, turn_ended, wait_ended}
 use Rattle.xen_host.proofs.StageLemmas.{AtDelivery, AtTurn, AtWait, Under, delivery, given_length, given_words, nothing, turn, under, wait}
 use Rattle.xen_host.proofs.ToldLemmas.{delivery_told, turn_told, wait_told}
 use Rattle.xen_host.proofs.TurnLemmas.{delivery_steps, turn_goes, turn_steps, wait_steps}
 
-task_delivery : (w : OwnedWiring) (s : State) (g : Stage) (b : Work) → is_delivering g ≡ true → TaskCompletes w s g b → Arriving w s g b
+task_delivery : (w : Wiring) (s : State) (g : Stage) (b : WorkAt) → is_delivering g ≡ true → TaskCompletes w s g b → Arriving w s g b
 task_delivery w s stage.Ready b t h = cc t
 task_delivery w s stage.Announce b t h = cc t
 task_delivery w s (stage.Slot left) b t h = cc t
@@ -62,7 +60,7 @@ task_delivery w s (stage.Deliver producer) b t h = h
 task_delivery w s (stage.Wait pages) b t h = cc t
 task_delivery w s (stage.WaitLook pages) b t h = cc t
 
-task_wait : (w : OwnedWiring) (s : State) (g : Stage) (b : Work) → is_waiting g ≡ true → TaskCompletes w s g b → Waiting w s g
+task_wait : (w : Wiring) (s : State) (g : Stage) (b : WorkAt) → is_waiting g ≡ true → TaskCompletes w s g b → Waiting w s g
 task_wait w s stage.Ready b t h = cc t
 task_wait w s stage.Announce b t h = cc t
 task_wait w s (stage.Slot left) b t h = cc t
@@ -77,69 +75,72 @@ task_wait w s (stage.Wait pages) b t h = h
 task_wait w s (stage.WaitLook pages) b t h = h
 
 -- what holds of an engine between two calls
-pub record Stands (e : Engine) : Type 0 where
+pub record Stands (e : EngineAt) : Type 0 where
   pub fits : Fits e.stage e.work
-  pub wired : IsWired (vif_of e.wires)
-  pub turns : TurnsComplete (wiring_of e.wires)
+  pub wired : IsWired e.wires.vif
+  pub turns : TurnsComplete e.wires
   pub left : TaskCompletes e.wires e.state e.stage e.work
 
-pub stands : (q : Queue) → Stands q.engine
+pub stands : (q : Queue) → Stands (seen q)
 stands q = record { fits = q.fits; wired = q.wired; turns = q.turns; left = q.left }
 
-wires_stand : (q : Queue) (w : OwnedWiring) → w ≡ q.engine.wires → IsWired (vif_of w) × TurnsComplete (wiring_of w)
-wires_stand q w e = subst (λ (x : OwnedWiring). IsWired (vif_of x) × TurnsComplete (wiring_of x)) (sym e) (q.wired, q.turns)
+wires_stand : (q : Queue) (w : Wiring) → w ≡ (seen q).wires → IsWired w.vif × TurnsComplete w
+wires_stand q w e = subst (λ (x : Wiring). IsWired x.vif × TurnsComplete x) (sym e) (q.wired, q.turns)
 
-module _ {H : Type 0} (was : H → Ask → List ℕ → H → Type 0) (full : H → Type 0) (gave : H → List ℕ → H → Type 0) (host host_after : H) (old : Queue) (engine : Engine) (went : List (Option Operation) → Type 0)
-    (led : GoesOnAt was full gave old.engine.stage old.engine engine went host host_after) where
+module _ {H : Type 0} (was : H → Ask → List ℕ → H → Type 0) (full : H → Type 0) (gave : H → List ℕ → H → Type 0) (host host_after : H) (old : Queue) (engine : EngineAt) (went : List (Option Operation) → Type 0)
+    (same : engine.wires ≡ (seen old).wires) (led : GoesOnAt was full gave old.engine.stage (seen old) engine went host host_after) where
   -- after the run, what is left of a turn ends
-  from : (t : AtTurn was full gave old.engine.stage old.engine engine went host host_after) → Completes (wiring old) t.led.led.between
+  from : (t : AtTurn was full gave old.engine.stage (seen old) engine went host host_after) → Completes (wiring old) t.led.led.between
   from t =
-      let e = old.engine in
+      let e = seen old in
       let a = t.led in
       finishes_gone (may_want (wiring old)) (fed (rest_in (wiring old) e.state e.stage e.work) a.words) a.led.between (map event_of a.led.ran.labels)
       (fed_turn e.wires e.state e.stage e.work a.words (given_words gave _ host a.mid a.words a.given) (given_length gave _ host a.mid a.words a.given) t.turning old.left) a.led.ran.gone
 
-  turn_end : (t : AtTurn was full gave old.engine.stage old.engine engine went host host_after) → Ended (length old.engine.wires.owners) engine (t.led.led.led.first ++ t.led.led.led.last ∷ [])
-  turn_end t = turn_ended old.engine.wires _ t.led.led.between engine t.led.led.led (from t)
+  turn_end : (t : AtTurn was full gave old.engine.stage (seen old) engine went host host_after) → Ended (length (seen old).wires.vif.owners.now) engine (t.led.led.led.first ++ t.led.led.led.last ∷ [])
+  turn_end t = turn_ended (seen old).wires _ t.led.led.between engine same t.led.led.led (from t)
 
-  delivery_end : (t : AtDelivery was full gave old.engine.stage old.engine engine went host host_after) → Ended (length old.engine.wires.owners) engine (t.led.led.first ++ t.led.led.last ∷ [])
+  delivery_end : (t : AtDelivery was full gave old.engine.stage (seen old) engine went host host_after) → Ended (length (seen old).wires.vif.owners.now) engine (t.led.led.first ++ t.led.led.last ∷ [])
   delivery_end t =
-      let e = old.engine in
+      let e = seen old in
       let a = t.led in
-      delivery_ended e.wires e.flags e.work.packet _ engine a.led (fed_delivery e.wires e.state e.stage e.work a.words (given_words gave _ host a.mid a.words a.given) (given_length gave _ host a.mid a.words a.given)
+      delivery_ended e.wires e.flags e.work.packet _ engine same a.led (fed_delivery e.wires e.state e.stage e.work a.words (given_words gave _ host a.mid a.words a.given) (given_length gave _ host a.mid a.words a.given)
       t.delivering (task_delivery e.wires e.state e.stage e.work t.delivering old.left))
 
-  wait_end : (t : AtWait was full gave old.engine.stage old.engine engine went host host_after) → Ended (length old.engine.wires.owners) engine (t.led.led.first ++ t.led.led.last ∷ [])
+  wait_end : (t : AtWait was full gave old.engine.stage (seen old) engine went host host_after) → Ended (length (seen old).wires.vif.owners.now) engine (t.led.led.first ++ t.led.led.last ∷ [])
   wait_end t =
-      let e = old.engine in
+      let e = seen old in
       let a = t.led in
-      wait_ended e.wires e.flags e.work.packet _ engine a.led (fed_wait e.wires e.state e.stage a.words (given_words gave _ host a.mid a.words a.given) (given_length gave _ host a.mid a.words a.given)
+      wait_ended e.wires e.flags e.work.packet _ engine same a.led (fed_wait e.wires e.state e.stage a.words (given_words gave _ host a.mid a.words a.given) (given_length gave _ host a.mid a.words a.given)
       t.waiting (task_wait e.wires e.state e.stage e.work t.waiting old.left))
 
   pub step_stands : Stands engine
-  step_stands = by (under old.engine.stage old.engine engine went led)
+  step_stands = by (under old.engine.stage (seen old) engine went led)
     where
-      by : Under was full gave old.engine.stage old.engine engine went host host_after → Stands engine
+      by : Under was full gave old.engine.stage (seen old) engine went host host_after → Stands engine
       by (nothing e h) = subst Stands (sym h.0) (stands old)
       by (turn t) =
           let l = t.led.led.led in
-          let w = wires_stand old engine.wires l.wires in
+          let w = wires_stand old engine.wires same in
           record { fits = l.fits; wired = w.0; turns = w.1; left = (turn_end t).task }
       by (delivery t) =
           let l = t.led.led in
-          let w = wires_stand old engine.wires l.wires in
+          let w = wires_stand old engine.wires same in
           record { fits = l.fits; wired = w.0; turns = w.1; left = (delivery_end t).task }
       by (wait t) =
           let l = t.led.led in
-          let w = wires_stand old engine.wires l.wires in
+          let w = wires_stand old engine.wires same in
           record { fits = l.fits; wired = w.0; turns = w.1; left = (wait_end t).task }
 
 -- and what is under way goes on
-pub stepped : {H : Type 0} {was : H → Ask → List ℕ → H → Type 0} {full : H → Type 0} {gave : H → List ℕ → H → Type 0} {host host_after : H} (old new : Queue) (went : List (Option Operation) → Type 0) (same : Type 0) → (went [] → same) →
-    GoesOnAt was full gave old.engine.stage old.engine new.engine went host host_after → (old.engine.stage ≡ stage.Ready → ⊥) → SteppedOver was full gave went same old new host host_after
-stepped {was = was} {full = full} {gave = gave} {host = host} {host_after = host_after} old new went same none led busy = by (under old.engine.stage old.engine new.engine went led)
+pub stepped : {H : Type 0} {was : H → Ask → List ℕ → H → Type 0} {full : H → Type 0} {gave : H → List ℕ → H → Type 0} {host host_after : H} (old new : Queue) (went : List (Option Operation) → Type 0) (same : Type 0) → (went [] → same) → wired_to new ≡ wired_to old →
+    GoesOnAt was full gave old.engine.stage (seen old) (seen new) went host host_after → (old.engine.stage ≡ stage.Ready → ⊥) → SteppedOver was full gave went same old new host host_after
+stepped {was = was} {full = full} {gave = gave} {host = host} {host_after = host_after} old new went none_same none wires led busy = by (under old.engine.stage (seen old) (seen new) went led)
   where
-    by : Under was full gave old.engine.stage old.engine new.engine went host host_after → SteppedOver was full gave went same old new host host_after
+    same : (seen new).wires ≡ (seen old).wires
+    same = ap (λ (w : OwnedWiring). wiring_of w) wires
+
+    by : Under was full gave old.engine.stage (seen old) (seen new) went host host_after → SteppedOver was full gave went none_same old new host host_after
     by (nothing e h) = absurd (busy e)
     by (turn t) =
         let a = t.led in
@@ -154,13 +155,13 @@ stepped {was = was} {full = full} {gave = gave} {host = host} {host_after = host
           take_none = l.take_none;
           stops = l.stops;
           sized = l.sized;
-          told = turn_told old.engine.wires new.engine l.last.ask l.left l.wires l.is_end;
-          within = (turn_end was full gave host host_after old new.engine went led t).inside;
-          wires = l.wires;
+          told = turn_told (seen old).wires (seen new) l.last.ask l.left same l.is_end;
+          within = (turn_end was full gave host host_after old (seen new) went same led t).inside;
+          wires = wires;
           flags = l.flags_are;
           labels = a.led.ran.labels;
           history = a.led.ran.history;
-          turn = turn_steps old new _ a.words went (given_words gave _ host a.mid a.words a.given) (given_length gave _ host a.mid a.words a.given) a.led;
+          turn = turn_steps old new _ a.words went (given_words gave _ host a.mid a.words a.given) (given_length gave _ host a.mid a.words a.given) same a.led;
           delivery = λ s packet trace asked token. absurd (cc (token.0.is_here, t.not_delivering));
           wait = λ s pages packet trace asked token. absurd (cc (token.0.is_here, t.not_waiting));
         }
@@ -177,15 +178,15 @@ stepped {was = was} {full = full} {gave = gave} {host = host} {host_after = host
           take_none = l.take_none;
           stops = l.stops;
           sized = l.sized;
-          told = delivery_told old.engine.wires old.engine.work.packet new.engine l.last.ask l.left l.wires l.is_end;
-          within = (delivery_end was full gave host host_after old new.engine went led t).inside;
-          wires = l.wires;
+          told = delivery_told (seen old).wires (seen old).work.packet (seen new) l.last.ask l.left same l.is_end;
+          within = (delivery_end was full gave host host_after old (seen new) went same led t).inside;
+          wires = wires;
           flags = l.flags_are ∙ sym (t.flags a.words);
           labels = [];
           history = t.counters;
           turn = λ s trace asked token. absurd (cc (token.is_here, t.not_turning));
           delivery = λ s packet trace asked token.
-              (delivery_steps old new old.engine.flags a.words (given_words gave _ host a.mid a.words a.given) (given_length gave _ host a.mid a.words a.given) l s packet trace asked token, none t.counters);
+              (delivery_steps old new old.engine.flags a.words (given_words gave _ host a.mid a.words a.given) (given_length gave _ host a.mid a.words a.given) same l s packet trace asked token, none t.counters);
           wait = λ s pages packet trace asked token. absurd (cc (token.0.is_here, t.not_waiting));
         }
     by (wait t) =
@@ -201,16 +202,16 @@ stepped {was = was} {full = full} {gave = gave} {host = host} {host_after = host
           take_none = l.take_none;
           stops = l.stops;
           sized = l.sized;
-          told = wait_told old.engine.wires old.engine.work.packet new.engine l.last.ask l.left l.wires l.is_end;
-          within = (wait_end was full gave host host_after old new.engine went led t).inside;
-          wires = l.wires;
+          told = wait_told (seen old).wires (seen old).work.packet (seen new) l.last.ask l.left same l.is_end;
+          within = (wait_end was full gave host host_after old (seen new) went same led t).inside;
+          wires = wires;
           flags = l.flags_are ∙ sym (t.flags a.words);
           labels = [];
           history = t.counters;
           turn = λ s trace asked token. absurd (cc (token.is_here, t.not_turning));
           delivery = λ s packet trace asked token. absurd (cc (token.0.is_here, t.not_delivering));
           wait = λ s pages packet trace asked token.
-              (wait_steps old new old.engine.flags a.words (given_words gave _ host a.mid a.words a.given) (given_length gave _ host a.mid a.words a.given) l s pages packet trace asked token, none t.counters);
+              (wait_steps old new old.engine.flags a.words (given_words gave _ host a.mid a.words a.given) (given_length gave _ host a.mid a.words a.given) same l s pages packet trace asked token, none t.counters);
         }
 
 -- what is known of its operations, and of a step without one, in other words
@@ -261,7 +262,7 @@ not_few_at_seat q words ops a c d (inl h) = absurd (omega (arith, a, h))
 not_few_at_seat q words ops a c d (inr (inl h)) = absurd (omega (arith, c, h))
 not_few_at_seat q words ops a c d (inr (inr h)) = let none = subst (λ (o : Option State). IsSome o) d h in cc none
 
-pub not_few : (q : Queue) (words counters : List ℕ) (ops : List Op) → 1024 ≤ length words → total q.engine.wires.program.shapes ≤ length counters → 1 ≤ length ops → resting q ≡ None → AreFew q words counters ops → ⊥
+pub not_few : (q : Queue) (words counters : List ℕ) (ops : List Op) → 1024 ≤ length words → total (wired_to q).program.shapes ≤ length counters → 1 ≤ length ops → resting q ≡ None → AreFew q words counters ops → ⊥
 not_few q words counters ops a b c d (inl h) = absurd (omega (arith, a, h))
 not_few q words counters ops a b c d (inr (inl h)) = absurd (omega (arith, b, h))
 not_few q words counters ops a b c d (inr (inr (inl h))) = absurd (omega (arith, c, h))
@@ -277,25 +278,26 @@ first_led w s producer small o e =
     by None = (next (turn_by w s None) producer, (producer, (small, refl), refl), refl)
     by (Some cause) = refl
 
-module _ {H : Type 0} {was : H → Ask → List ℕ → H → Type 0} {full : H → Type 0} {host host_after : H} (old : Queue) (engine : Engine) (producer : ℕ) (small : producer < 2 ^ 32)
-    (l : TurnLeads was full old.engine.wires no_flags (next (whole_turn (wiring old) old.engine.state) producer) engine host host_after) where
+module _ {H : Type 0} {was : H → Ask → List ℕ → H → Type 0} {full : H → Type 0} {host host_after : H} (old : Queue) (engine : EngineAt) (producer : ℕ) (small : producer < 2 ^ 32) (same : engine.wires ≡ (seen old).wires)
+    (l : TurnLeads was full no_flags (next (whole_turn (wiring old) old.engine.state) producer) engine host host_after) where
   -- what is left of a turn that begins ends
-  begins : Ended (length old.engine.wires.owners) engine (l.first ++ l.last ∷ [])
+  begins : Ended (length (seen old).wires.vif.owners.now) engine (l.first ++ l.last ∷ [])
   begins =
       let w = wiring old in
       let s = old.engine.state in
       let whole = whole_turn w s in
       let c = finishes_gone (may_want w) whole (next whole producer) (first_read s.halt (Read (tx_word w.vif 0) producer)) (old.turns s) (first_led w s producer small s.halt refl) in
-      turn_ended old.engine.wires no_flags (next whole producer) engine l c
+      turn_ended (seen old).wires no_flags (next whole producer) engine same l c
 
   pub begun_stands : Stands engine
   begun_stands =
-      let x = wires_stand old engine.wires l.wires in
+      let x = wires_stand old engine.wires same in
       record { fits = l.fits; wired = x.0; turns = x.1; left = begins.task }
 
-pub begun : {H : Type 0} {was : H → Ask → List ℕ → H → Type 0} {full : H → Type 0} {host host_after : H} (old new : Queue) (producer : ℕ) → producer < 2 ^ 32 →
-    TurnLeads was full old.engine.wires no_flags (next (whole_turn (wiring old) old.engine.state) producer) new.engine host host_after → BeginsOver was full old new producer host host_after
-begun old new producer small l =
+pub begun : {H : Type 0} {was : H → Ask → List ℕ → H → Type 0} {full : H → Type 0} {host host_after : H} (old new : Queue) (producer : ℕ) → producer < 2 ^ 32 → wired_to new ≡ wired_to old → new.share ≡ old.share →
+    TurnLeads was full no_flags (next (whole_turn (wiring old) old.engine.state) producer) (seen new) host host_after → BeginsOver was full old new producer host host_after
+begun old new producer small wires share l =
+    let same : (seen new).wires ≡ (seen old).wires = ap (λ (w : OwnedWiring). wiring_of w) wires in
     let w = wiring old in
     let s = old.engine.state in
     let whole = whole_turn w s in
@@ -309,11 +311,12 @@ begun old new producer small l =
       take_none = l.take_none;
       stops = l.stops;
       sized = l.sized;
-      told = turn_told old.engine.wires new.engine l.last.ask l.left l.wires l.is_end;
-      within = (begins old new.engine producer small l).inside;
-      wires = l.wires;
+      told = turn_told (seen old).wires (seen new) l.last.ask l.left same l.is_end;
+      within = (begins old (seen new) producer small same l).inside;
+      wires = wires;
+      share = share;
       flags = l.flags_are;
-      turn = turn_goes new s (reads ++ did) l.last.ask l.left (subst (λ (x : OwnedWiring). LedBy (whole_turn (wiring_of x) s) (reads ++ did) l.left) (sym l.wires) g) l.is_end;
+      turn = turn_goes new s (reads ++ did) l.last.ask l.left (subst (λ (x : Wiring). LedBy (whole_turn x s) (reads ++ did) l.left) (sym same) g) l.is_end;
     }
 
 delivery_led : (w : Vif) (s : State) (packet : List ℕ) (producer : ℕ) → producer < 2 ^ 32 → is_frame packet ≡ true → LedBy (whole_delivery w s packet) (first_read s.halt (Read (rx_word w 0) producer)) (next (delivery_by w s packet s.halt) producer)
@@ -325,53 +328,21 @@ delivery_led w s packet producer small frame =
     by (Some cause) = refl
 
 -- a delivery of this packet is to begin
-pub delivery_stands : (old : Queue) (producer : ℕ) (b : Work) → producer < 2 ^ 32 → is_frame b.packet ≡ true → Stands (record old.engine { stage = stage.Deliver producer; work = b })
+pub delivery_stands : (old : Queue) (producer : ℕ) (b : WorkAt) → producer < 2 ^ 32 → is_frame b.packet ≡ true → Stands (record (seen old) { stage = stage.Deliver producer; work = b })
 delivery_stands old producer b small frame =
-    let e = old.engine in
-    let w = vif_of e.wires in
+    let e = seen old in
+    let w = e.wires.vif in
     let whole = whole_delivery w e.state b.packet in
     let rest = next (delivery_by w e.state b.packet e.state.halt) producer in
     record {
       fits = frame;
       wired = old.wired;
       turns = old.turns;
-      left = finishes_gone (IsPageWant (length e.wires.owners)) whole rest (first_read e.state.halt (Read (rx_word w 0) producer)) (arrives w e.state b.packet old.wired) (delivery_led w e.state b.packet producer small frame);
-    }
-
-pub delivery_begun : (old new : Queue) (producer : ℕ) (packet : List ℕ) (b : Work) → producer < 2 ^ 32 → is_frame packet ≡ true → b.packet ≡ packet → old.engine.stage ≡ stage.Ready →
-    new.engine ≡ record old.engine { stage = stage.Deliver producer; work = b } → IsBegun old new producer packet
-delivery_begun old new producer packet b small frame is ready e =
-    let s = old.engine.state in
-    let w = vif_of old.engine.wires in
-    let begun : Engine = record old.engine { stage = stage.Deliver producer; work = b } in
-    let reads = first_read s.halt (Read (rx_word w 0) producer) in
-    let led = delivery_led w s packet producer small frame in
-    let here : IsUnderWay (whole_delivery w s packet) (rest_of_delivery w s (stage.Deliver producer) b) 0 true reads None × (b.packet ≡ packet) =
-    (record { gone = subst (λ p. LedBy (whole_delivery w s packet) reads (next (delivery_by w s p s.halt) producer)) (sym is) led; waits = refl; is_here = refl }, is) in
-    record {
-      rested = ap (λ (g : Stage). between s g) ready;
-      frame = frame;
-      delivering = subst (λ (x : Engine). IsUnderWay (whole_delivery (vif_of x.wires) s packet) (rest_of_delivery (vif_of x.wires) x.state x.stage x.work) (reads_in x.stage) (is_delivering x.stage) reads None × (x.work.packet ≡ packet)) (sym e) here;
-      wires = ap (λ (x : Engine). x.wires) e;
-      flags = ap (λ (x : Engine). x.flags) e;
+      left = finishes_gone (IsPageWant (length e.wires.vif.owners.now)) whole rest (first_read e.state.halt (Read (rx_word w 0) producer)) (arrives w e.state b.packet old.wired) (delivery_led w e.state b.packet producer small frame);
     }
 
 -- a wait is to begin
-pub wait_stands : (old : Queue) (pages : ℕ) → Stands (record old.engine { stage = stage.Wait pages })
+pub wait_stands : (old : Queue) (pages : ℕ) → Stands (record (seen old) { stage = stage.Wait pages })
 wait_stands old pages =
-    let e = old.engine in
-    record { fits = tt; wired = old.wired; turns = old.turns; left = wait_ends (length e.wires.owners) e.wires.rx e.state pages (frame_inside (vif_of e.wires) e.wires.rx old.wired.rx) }
-
-pub wait_begun : (old new : Queue) (pages : ℕ) → old.engine.stage ≡ stage.Ready → new.engine ≡ record old.engine { stage = stage.Wait pages } → IsWaitBegun old new pages
-wait_begun old new pages ready e =
-    let s = old.engine.state in
-    let rx = old.engine.wires.rx in
-    let packet : old.engine.work.packet ≡ packet_of old = sym (ap (λ (g : Stage). packet_in g old.engine.work.packet) ready) in
-    let here : IsUnderWay (whole_wait rx s pages) (rest_of_wait rx s (stage.Wait pages)) 0 true [] None × (old.engine.work.packet ≡ packet_of old) =
-    (record { gone = refl; waits = refl; is_here = refl }, packet) in
-    record {
-      rested = ap (λ (g : Stage). between s g) ready;
-      waiting = subst (λ (x : Engine). IsUnderWay (whole_wait x.wires.rx s pages) (rest_of_wait x.wires.rx x.state x.stage) (reads_in x.stage) (is_waiting x.stage) [] None × (x.work.packet ≡ packet_of old)) (sym e) here;
-      wires = ap (λ (x : Engine). x.wires) e;
-      flags = ap (λ (x : Engine). x.flags) e;
-    }
+    let e = seen old in
+    record { fits = tt; wired = old.wired; turns = old.turns; left = wait_ends (length e.wires.vif.owners.now) e.wires.vif.rx e.state pages (frame_inside e.wires.vif e.wires.vif.rx old.wired.rx) }

@@ -4,24 +4,23 @@ use Rattle.std.specs.Prelude.{Option}
 use Rattle.bpf_note.specs.declared.op.Op.{Op}
 use Rattle.xen_netif.specs.declared.flags.TxFlags.{TxFlags}
 use Rattle.xen_steps.specs.Steps.{Steps}
-use Rattle.xen_back.specs.Turned.{Ending}
+use Rattle.xen_turns.specs.Turned.{Ending}
 use Rattle.xen_host.specs.Asks.{Ask}
 use Rattle.xen_host.specs.HostLed.{TurnLeads, TurnRanLeads}
-use Rattle.xen_host.specs.declared.engine.Engine.{Engine}
-use Rattle.xen_host.specs.declared.wires.OwnedWiring.{OwnedWiring}
+use Rattle.xen_host.specs.EngineAt.{EngineAt}
 
 -- It didn't.
-pub ran_none : {H : Type 0} (was : H → Ask → List ℕ → H → Type 0) (full : H → Type 0) (w : OwnedWiring) (flags : TxFlags) (from : Steps Ending) (new : Engine) (went : List (Option Op) → Type 0) (host host_after : H) →
-    went [] → TurnLeads was full w flags from new host host_after → TurnRanLeads was full w flags from new went host host_after
-ran_none was full w flags from new went host host_after none h = record { between = from; ran = record { labels = []; history = none; gone = refl }; led = h }
+pub ran_none : {H : Type 0} (was : H → Ask → List ℕ → H → Type 0) (full : H → Type 0) (flags : TxFlags) (from : Steps Ending) (new : EngineAt) (went : List (Option Op) → Type 0) (host host_after : H) →
+    went [] → TurnLeads was full flags from new host host_after → TurnRanLeads was full flags from new went host host_after
+ran_none was full flags from new went host host_after none h = record { between = from; ran = record { labels = []; history = none; gone = refl }; led = h }
 
 -- From another computation that is the same.
-pub ran_from_same : {H : Type 0} (was : H → Ask → List ℕ → H → Type 0) (full : H → Type 0) (w : OwnedWiring) (flags : TxFlags) (from same : Steps Ending) (new : Engine) (went : List (Option Op) → Type 0) (host host_after : H) →
-    same ≡ from → TurnRanLeads was full w flags same new went host host_after → TurnRanLeads was full w flags from new went host host_after
-ran_from_same was full w flags from same new went host host_after e h = subst (λ (x : Steps Ending). TurnRanLeads was full w flags x new went host host_after) e h
+pub ran_from_same : {H : Type 0} (was : H → Ask → List ℕ → H → Type 0) (full : H → Type 0) (flags : TxFlags) (from same : Steps Ending) (new : EngineAt) (went : List (Option Op) → Type 0) (host host_after : H) →
+    same ≡ from → TurnRanLeads was full flags same new went host host_after → TurnRanLeads was full flags from new went host host_after
+ran_from_same was full flags from same new went host host_after e h = subst (λ (x : Steps Ending). TurnRanLeads was full flags x new went host host_after) e h
 
 -- From another computation that is the same, with no run.
-pub ran_led : {H : Type 0} (was : H → Ask → List ℕ → H → Type 0) (full : H → Type 0) (w : OwnedWiring) (flags : TxFlags) (from same : Steps Ending) (new : Engine) (went : List (Option Op) → Type 0) (host host_after : H) →
-    went [] → same ≡ from → TurnLeads was full w flags same new host host_after → TurnRanLeads was full w flags from new went host host_after
-ran_led was full w flags from same new went host host_after none e h =
-    ran_from_same was full w flags from same new went host host_after e (ran_none was full w flags same new went host host_after none h)
+pub ran_led : {H : Type 0} (was : H → Ask → List ℕ → H → Type 0) (full : H → Type 0) (flags : TxFlags) (from same : Steps Ending) (new : EngineAt) (went : List (Option Op) → Type 0) (host host_after : H) →
+    went [] → same ≡ from → TurnLeads was full flags same new host host_after → TurnRanLeads was full flags from new went host host_after
+ran_led was full flags from same new went host host_after none e h =
+    ran_from_same was full flags from same new went host host_after e (ran_none was full flags same new went host host_after none h)

@@ -7,15 +7,14 @@ use Rattle.xen_page.specs.declared.place.Place.{Place}
 use Rattle.xen_steps.specs.Pages.{AreWords}
 use Rattle.xen_steps.specs.Steps.{Steps, ask, bind, done, never}
 use Rattle.xen_rx_fill.specs.declared.by_event.phase.Outcome.{Outcome}
-use Rattle.xen_back.specs.Deliveries.{arrived}
-use Rattle.xen_back.specs.Tree.{after_transmit}
+use Rattle.xen_turns.specs.Deliveries.{arrived}
+use Rattle.xen_turns.specs.Tree.{after_transmit}
 use Rattle.xen_host.specs.Fed.{AsksReads, fed}
 use Rattle.xen_host.specs.Asks.{Ask}
 use Rattle.xen_host.specs.HostLed.{AfterAnswer, DeliveryLeads, FillGoesOn, GoesOnAt, TurnRanLeads, WaitLeads}
 use Rattle.xen_host.specs.Hosts.{WasGiven}
 use Rattle.xen_host.specs.Rest.{flags_after, is_delivering, is_turning, is_waiting, reads_filling, reads_in, rest_filling, rest_in, rest_of_delivery, rest_of_wait}
-use Rattle.xen_host.specs.Wired.{vif_of, wiring_of}
-use Rattle.xen_host.specs.declared.engine.Engine.{Engine}
+use Rattle.xen_host.specs.EngineAt.{EngineAt}
 use Rattle.xen_host.specs.declared.stage.Fill.{Fill}
 use Rattle.xen_host.specs.declared.stage.Purpose.{Purpose}
 use Rattle.xen_host.specs.declared.stage.Purpose.TheVariants as purpose
@@ -32,31 +31,31 @@ fed_bind at (done x) f (v ∷ vs) h = cc h.0
 fed_bind at (ask w k) f (v ∷ vs) h = fed_bind (frame_place at) (k v) f vs (h.1 v)
 fed_bind at never f (v ∷ vs) h = cc h.0
 
-fed_fill : {B : Type 0} (q : Engine) (f : Fill) (then : Outcome → Steps B) (words : List ℕ) → length words ≡ reads_filling f →
-    bind (fed (rest_filling (vif_of q.wires) q.state.rx_index f q.work) words) then ≡ fed {A = B} (bind (rest_filling (vif_of q.wires) q.state.rx_index f q.work) then) words
+fed_fill : {B : Type 0} (q : EngineAt) (f : Fill) (then : Outcome → Steps B) (words : List ℕ) → length words ≡ reads_filling f →
+    bind (fed (rest_filling q.wires.vif q.state.rx_index f q.work) words) then ≡ fed {A = B} (bind (rest_filling q.wires.vif q.state.rx_index f q.work) then) words
 fed_fill q f then words e =
-    let s = rest_filling (vif_of q.wires) q.state.rx_index f q.work in
-    let r = reads_of_fill (vif_of q.wires) q.state.rx_index f q.work in
+    let s = rest_filling q.wires.vif q.state.rx_index f q.work in
+    let r = reads_of_fill q.wires.vif q.state.rx_index f q.work in
     sym (fed_bind r.0 s then words (subst (λ k. AsksReads r.0 k s) (sym e) r.1))
 
 pub given_length : {H : Type 0} (gave : H → List ℕ → H → Type 0) (n : ℕ) (host mid : H) (words : List ℕ) → WasGiven gave n host words mid → length words ≡ n
 given_length gave zero host mid words g = ap (λ (l : List ℕ). length l) g.0
 given_length gave (suc n) host mid words g = g.0
 
-pub fill_goes : {H : Type 0} (was : H → Ask → List ℕ → H → Type 0) (full : H → Type 0) (gave : H → List ℕ → H → Type 0) (f : Fill) (p : Purpose) (old new : Engine) (went : List (Option Operation) → Type 0) (host host_after : H) → went [] →
+pub fill_goes : {H : Type 0} (was : H → Ask → List ℕ → H → Type 0) (full : H → Type 0) (gave : H → List ℕ → H → Type 0) (f : Fill) (p : Purpose) (old new : EngineAt) (went : List (Option Operation) → Type 0) (host host_after : H) → went [] →
     FillGoesOn was full gave f p old new host host_after → GoesOnAt was full gave (stage.Fill f p) old new went host host_after
 fill_goes was full gave f (purpose.Back n) old new went host host_after none h = record {
   words = h.words;
   mid = h.mid;
   given = h.given;
-  led = ran_led _ _ _ _ _ _ _ _ _ _ none (fed_fill old f (after_transmit (wiring_of old.wires) old.state old.work.chain old.work.packet n) h.words (given_length gave _ host h.mid h.words h.given)) h.led;
+  led = ran_led _ _ _ _ _ _ _ _ _ none (fed_fill old f (after_transmit old.wires old.state old.work.chain old.work.packet n) h.words (given_length gave _ host h.mid h.words h.given)) h.led;
 }
 fill_goes was full gave f purpose.Delivery old new went host host_after none h = (
   record {
     words = h.words;
     mid = h.mid;
     given = h.given;
-    led = asked_from _ _ _ _ _ _ _ _ _ _ (fed_fill old f (arrived old.state) h.words (given_length gave _ host h.mid h.words h.given)) h.led;
+    led = asked_from _ _ _ _ _ _ _ _ _ (fed_fill old f (arrived old.state) h.words (given_length gave _ host h.mid h.words h.given)) h.led;
   },
   none,
 )
@@ -68,19 +67,19 @@ given_words gave (suc n) host mid words g = g.2
 -- ---- what is under way at a stage
 
 -- What is under way at a stage, and what is asked after the words that it waits for.
-module _ {H : Type 0} (was : H → Ask → List ℕ → H → Type 0) (full : H → Type 0) (gave : H → List ℕ → H → Type 0) (g : Stage) (old new : Engine) (went : List (Option Operation) → Type 0) (host host_after : H) where
+module _ {H : Type 0} (was : H → Ask → List ℕ → H → Type 0) (full : H → Type 0) (gave : H → List ℕ → H → Type 0) (g : Stage) (old new : EngineAt) (went : List (Option Operation) → Type 0) (host host_after : H) where
   pub record AtTurn : Type 0 where
     pub turning : is_turning g ≡ true
     pub not_delivering : is_delivering g ≡ false
     pub not_waiting : is_waiting g ≡ false
-    pub led : AfterAnswer gave (reads_in g) (λ words mid. TurnRanLeads was full old.wires (flags_after g old.work words old.flags) (fed (rest_in (wiring_of old.wires) old.state g old.work) words) new went mid host_after) host
+    pub led : AfterAnswer gave (reads_in g) (λ words mid. TurnRanLeads was full (flags_after g old.work words old.flags) (fed (rest_in old.wires old.state g old.work) words) new went mid host_after) host
 
   pub record AtDelivery : Type 0 where
     pub not_turning : is_turning g ≡ false
     pub delivering : is_delivering g ≡ true
     pub not_waiting : is_waiting g ≡ false
     pub flags : (words : List ℕ) → flags_after g old.work words old.flags ≡ old.flags
-    pub led : AfterAnswer gave (reads_in g) (λ words mid. DeliveryLeads was full old.wires old.flags old.work.packet (fed (rest_of_delivery (vif_of old.wires) old.state g old.work) words) new mid host_after) host
+    pub led : AfterAnswer gave (reads_in g) (λ words mid. DeliveryLeads was full old.flags old.work.packet (fed (rest_of_delivery old.wires.vif old.state g old.work) words) new mid host_after) host
     pub counters : went []
 
   pub record AtWait : Type 0 where
@@ -88,7 +87,7 @@ module _ {H : Type 0} (was : H → Ask → List ℕ → H → Type 0) (full : H 
     pub not_delivering : is_delivering g ≡ false
     pub waiting : is_waiting g ≡ true
     pub flags : (words : List ℕ) → flags_after g old.work words old.flags ≡ old.flags
-    pub led : AfterAnswer gave (reads_in g) (λ words mid. WaitLeads was full old.wires old.flags old.work.packet (fed (rest_of_wait old.wires.rx old.state g) words) new mid host_after) host
+    pub led : AfterAnswer gave (reads_in g) (λ words mid. WaitLeads was full old.flags old.work.packet (fed (rest_of_wait old.wires.vif.rx old.state g) words) new mid host_after) host
     pub counters : went []
 
   pub data Under : Type 0 where
@@ -101,7 +100,7 @@ module _ {H : Type 0} (was : H → Ask → List ℕ → H → Type 0) (full : H 
 unanswered : {H : Type 0} {gave : H → List ℕ → H → Type 0} (then : List ℕ → H → Type 0) (host : H) → then [] host → AfterAnswer gave 0 then host
 unanswered then host h = record { words = []; mid = host; given = (refl, refl); led = h }
 
-pub under : {H : Type 0} {was : H → Ask → List ℕ → H → Type 0} {full : H → Type 0} {gave : H → List ℕ → H → Type 0} {host host_after : H} (g : Stage) (old new : Engine) (went : List (Option Operation) → Type 0) →
+pub under : {H : Type 0} {was : H → Ask → List ℕ → H → Type 0} {full : H → Type 0} {gave : H → List ℕ → H → Type 0} {host host_after : H} (g : Stage) (old new : EngineAt) (went : List (Option Operation) → Type 0) →
     GoesOnAt was full gave g old new went host host_after → Under was full gave g old new went host host_after
 under stage.Ready old new went h = nothing refl h
 under stage.Announce old new went h = turn (record { turning = refl; not_delivering = refl; not_waiting = refl; led = h })

@@ -13,7 +13,7 @@ use Rattle.xen_steps.specs.declared.want.Want.{Want}
 use Rattle.xen_steps.specs.declared.want.Want.TheVariants as want
 use Rattle.xen_steps.proofs.DriveLemmas.{occurs_read}
 use Rattle.xen_steps.proofs.FinishLemmas.{finishes_gone, finishes_next, finishes_want}
-use Rattle.xen_back.specs.Within.{IsWithin}
+use Rattle.xen_turns.specs.Within.{IsWithin}
 use Rattle.xen_host.specs.Asks.{AllInPages, AllSized, Ask, IsInPages, IsSized, TakeNone, did_by, read_by, reads_at, takes_none, writes_at}
 use Rattle.xen_host.specs.Asks as ask
 use Rattle.xen_host.specs.Buses.{IsHeld}

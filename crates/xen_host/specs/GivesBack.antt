@@ -5,9 +5,9 @@ use Rattle.std.specs.Prelude.{ℕ, ◌≡◌, ◌⊎◌, List, [], ◌∷◌, �
 use Rattle.xen_steps.specs.Event.{Event, Read, Write, Notify}
 use Rattle.xen_steps.specs.Places.{page_word}
 use Rattle.xen_rx_fill.specs.declared.vif.Vif.{Vif}
-use Rattle.xen_back.specs.Turned.{Turned, Ran, Refused}
-use Rattle.xen_back.specs.declared.delivery.delivering.Delivery.{Delivery}
-use Rattle.xen_back.specs.declared.delivery.delivering.Delivery.TheVariants as delivery
+use Rattle.xen_turns.specs.Turned.{Turned, Ran, Refused}
+use Rattle.xen_turns.specs.declared.delivery.delivering.Delivery.{Delivery}
+use Rattle.xen_turns.specs.declared.delivery.delivering.Delivery.TheVariants as delivery
 
 -- Responses are pushed by these two events, which are what a host does at a PUSH of word 2.
 abbrev pub IsPush : Event → Event → Type 0

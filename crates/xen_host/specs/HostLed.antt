@@ -2,6 +2,7 @@
 -- What a function that asks a host has done: the computation that was left, and where the asks lead from it.
 use Rattle.std.specs.Prelude.{ℕ, suc, ◌≡◌, ◌≤◌, ◌+◌, ◌/◌, ◌⊎◌, false, List, [], ◌∷◌, ◌++◌, Option, None, Some, drop, length}
 use Rattle.bpf_note.specs.declared.op.Op.{Op}
+use Rattle.xen_netif.specs.Chain.{Slot}
 use Rattle.xen_netif.specs.Copy.{bytes_from}
 use Rattle.xen_netif.specs.declared.fragment.Fragment.{Fragment}
 use Rattle.xen_netif.specs.declared.flags.TxFlags.{TxFlags}
@@ -10,10 +11,11 @@ use Rattle.xen_steps.specs.Pages.{AreWords, covered}
 use Rattle.xen_steps.specs.Steps.{Steps, bind}
 use Rattle.xen_rx_fill.specs.declared.target.Grants.{Grants}
 use Rattle.xen_rx_fill.specs.declared.by_event.phase.Outcome.{Outcome}
-use Rattle.xen_back.specs.Deliveries.{Arrival, arrived}
-use Rattle.xen_back.specs.Tree.{after_copy, after_transmit, copy, responses}
-use Rattle.xen_back.specs.Turned.{Ending}
-use Rattle.xen_back.specs.Waits.{Wait}
+use Rattle.xen_rx_fill.specs.declared.vif.Vif.{Vif}
+use Rattle.xen_turns.specs.Deliveries.{Arrival, arrived}
+use Rattle.xen_turns.specs.Tree.{after_copy, after_transmit, copy, responses}
+use Rattle.xen_turns.specs.Turned.{Ending}
+use Rattle.xen_turns.specs.Waits.{Wait}
 use Rattle.xen_host.specs.Asks.{AllSized, Ask, TakeNone, needs_no_answer}
 use Rattle.xen_host.specs.Chained.{replies, stores}
 use Rattle.xen_host.specs.Fed.{fed}
@@ -22,20 +24,18 @@ use Rattle.xen_host.specs.Hosts.{Asked, WasAskedAll, WasGiven, asks_of, events_o
 use Rattle.xen_host.specs.Led.{Beside, DeliveryEnds, TurnEnds, WaitEnds, beside}
 use Rattle.xen_host.specs.Ran.{HasRunThrough}
 use Rattle.xen_host.specs.Rest.{flags_after, reads_filling, reads_in, rest_filling, rest_in, rest_of_delivery, rest_of_wait}
-use Rattle.xen_host.specs.Wired.{vif_of, wiring_of}
-use Rattle.xen_host.specs.declared.engine.Engine.{Engine}
+use Rattle.xen_host.specs.EngineAt.{EngineAt}
 use Rattle.xen_host.specs.declared.stage.Answer.{Answer}
 use Rattle.xen_host.specs.declared.stage.Fill.{Fill}
 use Rattle.xen_host.specs.declared.stage.Purpose.{Purpose}
 use Rattle.xen_host.specs.declared.stage.Purpose.TheVariants as purpose
 use Rattle.xen_host.specs.declared.stage.Stage.{Stage}
 use Rattle.xen_host.specs.declared.stage.Stage.TheVariants as stage
-use Rattle.xen_host.specs.declared.wires.OwnedWiring.{OwnedWiring}
 
 -- What a host was asked leads from a computation to where it ends. All but the last take no answer, and as much was asked as there was
--- room for, up to an ask that the step can't go on after. The wiring stays; the flags are these.
+-- room for, up to an ask that the step can't go on after. The flags are these.
 pub record HostLed {H : Type 0} {A : Type 0} (was : H → Ask → List ℕ → H → Type 0) (full : H → Type 0) (ends : Ask → Steps A → Type 0)
-    (w : OwnedWiring) (flags : TxFlags) (from : Steps A) (new : Engine) (host host_after : H) : Type 0 where
+    (flags : TxFlags) (from : Steps A) (new : EngineAt) (host host_after : H) : Type 0 where
   pub first : List Asked
   pub last : Asked
   pub asked : WasAskedAll was host (first ++ last ∷ []) host_after
@@ -45,36 +45,35 @@ pub record HostLed {H : Type 0} {A : Type 0} (was : H → Ask → List ℕ → H
   pub left : Steps A
   pub gone : LedBy from (events_of (first ++ last ∷ [])) left
   pub is_end : ends last.ask left
-  pub wires : new.wires ≡ w
   pub flags_are : new.flags ≡ flags
   pub fits : Fits new.stage new.work
 
-abbrev pub TurnLeads : {H : Type 0} → (H → Ask → List ℕ → H → Type 0) → (H → Type 0) → OwnedWiring → TxFlags → Steps Ending → Engine →
+abbrev pub TurnLeads : {H : Type 0} → (H → Ask → List ℕ → H → Type 0) → (H → Type 0) → TxFlags → Steps Ending → EngineAt →
     (host host_after : H) → Type 0
-TurnLeads was full w flags from new host host_after = HostLed was full (TurnEnds new) w flags from new host host_after
+TurnLeads was full flags from new host host_after = HostLed was full (TurnEnds new) flags from new host host_after
 
 -- As TurnLeads, after the program's run.
-pub record TurnRanLeads {H : Type 0} (was : H → Ask → List ℕ → H → Type 0) (full : H → Type 0) (w : OwnedWiring) (flags : TxFlags)
-    (from : Steps Ending) (new : Engine) (went : List (Option Op) → Type 0) (host host_after : H) : Type 0 where
+pub record TurnRanLeads {H : Type 0} (was : H → Ask → List ℕ → H → Type 0) (full : H → Type 0) (flags : TxFlags)
+    (from : Steps Ending) (new : EngineAt) (went : List (Option Op) → Type 0) (host host_after : H) : Type 0 where
   pub between : Steps Ending
   pub ran : HasRunThrough went from between
-  pub led : TurnLeads was full w flags between new host host_after
+  pub led : TurnLeads was full flags between new host host_after
 
-abbrev pub DeliveryLeads : {H : Type 0} → (H → Ask → List ℕ → H → Type 0) → (H → Type 0) → OwnedWiring → TxFlags → List ℕ →
-    Steps Arrival → Engine → (host host_after : H) → Type 0
-DeliveryLeads was full w flags packet from new host host_after =
-    HostLed was full (DeliveryEnds packet new) w flags from new host host_after
+abbrev pub DeliveryLeads : {H : Type 0} → (H → Ask → List ℕ → H → Type 0) → (H → Type 0) → TxFlags → List ℕ →
+    Steps Arrival → EngineAt → (host host_after : H) → Type 0
+DeliveryLeads was full flags packet from new host host_after =
+    HostLed was full (DeliveryEnds packet new) flags from new host host_after
 
-abbrev pub WaitLeads : {H : Type 0} → (H → Ask → List ℕ → H → Type 0) → (H → Type 0) → OwnedWiring → TxFlags → List ℕ → Steps Wait →
-    Engine → (host host_after : H) → Type 0
-WaitLeads was full w flags packet from new host host_after = HostLed was full (WaitEnds packet new) w flags from new host host_after
+abbrev pub WaitLeads : {H : Type 0} → (H → Ask → List ℕ → H → Type 0) → (H → Type 0) → TxFlags → List ℕ → Steps Wait →
+    EngineAt → (host host_after : H) → Type 0
+WaitLeads was full flags packet from new host host_after = HostLed was full (WaitEnds packet new) flags from new host host_after
 
-abbrev pub FillLeads : {H : Type 0} → (H → Ask → List ℕ → H → Type 0) → (H → Type 0) → Purpose → Beside → Steps Outcome → Engine →
+abbrev pub FillLeads : {H : Type 0} → (H → Ask → List ℕ → H → Type 0) → (H → Type 0) → Purpose → Beside → Steps Outcome → EngineAt →
     (host host_after : H) → Type 0
 FillLeads was full (purpose.Back n) e from new host host_after =
-    TurnLeads was full e.wires e.flags (bind from (after_transmit (wiring_of e.wires) e.state e.chain e.packet n)) new host host_after
+    TurnLeads was full e.flags (bind from (after_transmit e.wires e.state e.chain e.packet n)) new host host_after
 FillLeads was full purpose.Delivery e from new host host_after =
-    DeliveryLeads was full e.wires e.flags e.packet (bind from (arrived e.state)) new host host_after
+    DeliveryLeads was full e.flags e.packet (bind from (arrived e.state)) new host host_after
 
 -- ---- responses
 
@@ -86,18 +85,17 @@ SaidSome was free full asks from all None host host_after =
 SaidSome was free full asks from all (Some i) host host_after =
     (n : ℕ) × (from + suc n ≡ i) × (i ≤ all) × WasAskedAll was host (plain_all (asks (suc n))) host_after × full host_after
 
--- The responses to an engine's chain, from one on.
-abbrev pub HasResponded : {H : Type 0} → (H → Ask → List ℕ → H → Type 0) → (free full : H → Type 0) → Engine → Answer → ℕ → Option ℕ →
-    (host host_after : H) → Type 0
-HasResponded was free full e a from left host host_after =
-    SaidSome was free full (stores (vif_of e.wires) a.at.tx_index (responses a.status e.work.chain) from) from (length e.work.chain) left
-    host host_after
+-- The responses to a chain, from one on.
+abbrev pub HasResponded : {H : Type 0} → (H → Ask → List ℕ → H → Type 0) → (free full : H → Type 0) → Vif → List Slot → Answer → ℕ →
+    Option ℕ → (host host_after : H) → Type 0
+HasResponded was free full w chain a from left host host_after =
+    SaidSome was free full (stores w a.at.tx_index (responses a.status chain) from) from (length chain) left host host_after
 
 -- The responses to its rx slots.
-abbrev pub HasReplied : {H : Type 0} → (H → Ask → List ℕ → H → Type 0) → (free full : H → Type 0) → Engine → Grants → ℕ → Option ℕ →
+abbrev pub HasReplied : {H : Type 0} → (H → Ask → List ℕ → H → Type 0) → (free full : H → Type 0) → EngineAt → Grants → ℕ → Option ℕ →
     (host host_after : H) → Type 0
 HasReplied was free full e grants from left host host_after =
-    SaidSome was free full (replies (vif_of e.wires) e.state.rx_index e.work.packet grants e.work.targets from) from
+    SaidSome was free full (replies e.wires.vif e.state.rx_index e.work.packet grants e.work.targets from) from
     (length e.work.targets) left host host_after
 
 -- ---- answers
@@ -111,41 +109,41 @@ pub record AfterAnswer {H : Type 0} (gave : H → List ℕ → H → Type 0) (re
 
 -- After the words of a page that a fragment covers; the next fragment is the i-th.
 pub record HasCopied {H : Type 0} (was : H → Ask → List ℕ → H → Type 0) (full : H → Type 0) (gave : H → List ℕ → H → Type 0) (i : ℕ)
-    (f : Fragment) (old new : Engine) (went : List (Option Op) → Type 0) (host host_after : H) : Type 0 where
+    (f : Fragment) (old new : EngineAt) (went : List (Option Op) → Type 0) (host host_after : H) : Type 0 where
   pub words : List ℕ
   pub mid : H
   pub all : length words ≡ covered f
   pub below : AreWords words
   pub given : gave host words mid
-  pub led : TurnRanLeads was full old.wires old.flags (bind (copy (wiring_of old.wires) (drop i old.work.fragments.items)
-      (old.work.packet ++ bytes_from f (f.offset / 4) words)) (after_copy (wiring_of old.wires) old.state old.work.chain)) new went
+  pub led : TurnRanLeads was full old.flags (bind (copy old.wires (drop i old.work.fragments)
+      (old.work.packet ++ bytes_from f (f.offset / 4) words)) (after_copy old.wires old.state old.work.chain)) new went
       mid host_after
 
 abbrev pub FillGoesOn : {H : Type 0} → (H → Ask → List ℕ → H → Type 0) → (H → Type 0) → (H → List ℕ → H → Type 0) → Fill → Purpose →
-    (old new : Engine) → (host host_after : H) → Type 0
+    (old new : EngineAt) → (host host_after : H) → Type 0
 FillGoesOn was full gave f p old new host host_after =
     AfterAnswer gave (reads_filling f) (λ words mid. FillLeads was full p (beside old)
-    (fed (rest_filling (vif_of old.wires) old.state.rx_index f old.work) words) new mid host_after) host
+    (fed (rest_filling old.wires.vif old.state.rx_index f old.work) words) new mid host_after) host
 
 -- ---- a step
 
 -- A step from a stage, after the words that were waited for.
 abbrev pub GoesOnAt : {H : Type 0} → (H → Ask → List ℕ → H → Type 0) → (H → Type 0) → (H → List ℕ → H → Type 0) → Stage →
-    (old new : Engine) → (went : List (Option Op) → Type 0) → (host host_after : H) → Type 0
+    (old new : EngineAt) → (went : List (Option Op) → Type 0) → (host host_after : H) → Type 0
 GoesOnAt was full gave stage.Ready old new went host host_after = (new ≡ old) × (host_after ≡ host) × went []
 GoesOnAt was full gave (stage.Fill f purpose.Delivery) old new went host host_after =
-    AfterAnswer gave (reads_filling f) (λ words mid. DeliveryLeads was full old.wires old.flags old.work.packet
-    (fed (rest_of_delivery (vif_of old.wires) old.state (stage.Fill f purpose.Delivery) old.work) words) new mid host_after) host ×
+    AfterAnswer gave (reads_filling f) (λ words mid. DeliveryLeads was full old.flags old.work.packet
+    (fed (rest_of_delivery old.wires.vif old.state (stage.Fill f purpose.Delivery) old.work) words) new mid host_after) host ×
     went []
 GoesOnAt was full gave (stage.Deliver producer) old new went host host_after =
-    DeliveryLeads was full old.wires old.flags old.work.packet (rest_of_delivery (vif_of old.wires) old.state (stage.Deliver producer)
+    DeliveryLeads was full old.flags old.work.packet (rest_of_delivery old.wires.vif old.state (stage.Deliver producer)
     old.work) new host host_after × went []
 GoesOnAt was full gave (stage.Wait pages) old new went host host_after =
-    WaitLeads was full old.wires old.flags old.work.packet (rest_of_wait old.wires.rx old.state (stage.Wait pages)) new host host_after ×
+    WaitLeads was full old.flags old.work.packet (rest_of_wait old.wires.vif.rx old.state (stage.Wait pages)) new host host_after ×
     went []
 GoesOnAt was full gave (stage.WaitLook pages) old new went host host_after =
-    AfterAnswer gave 1 (λ words mid. WaitLeads was full old.wires old.flags old.work.packet
-    (fed (rest_of_wait old.wires.rx old.state (stage.WaitLook pages)) words) new mid host_after) host × went []
+    AfterAnswer gave 1 (λ words mid. WaitLeads was full old.flags old.work.packet
+    (fed (rest_of_wait old.wires.vif.rx old.state (stage.WaitLook pages)) words) new mid host_after) host × went []
 GoesOnAt was full gave g old new went host host_after =
-    AfterAnswer gave (reads_in g) (λ words mid. TurnRanLeads was full old.wires (flags_after g old.work words old.flags)
-    (fed (rest_in (wiring_of old.wires) old.state g old.work) words) new went mid host_after) host
+    AfterAnswer gave (reads_in g) (λ words mid. TurnRanLeads was full (flags_after g old.work words old.flags)
+    (fed (rest_in old.wires old.state g old.work) words) new went mid host_after) host

@@ -4,22 +4,20 @@ use Rattle.std.specs.Prelude.{ℕ, ◌≡◌, Bool, true, false, List, []}
 use Rattle.xen_netif.specs.Chain.{Slot}
 use Rattle.xen_netif.specs.declared.flags.TxFlags.{TxFlags}
 use Rattle.xen_steps.specs.Steps.{Steps, done}
-use Rattle.xen_back.specs.Deliveries.{Arrival}
-use Rattle.xen_back.specs.Turned.{Ending, turned}
-use Rattle.xen_back.specs.Waits.{Wait}
-use Rattle.xen_back.specs.declared.state.State.{State}
-use Rattle.xen_back.specs.declared.turn.Kind.{Kind}
-use Rattle.xen_back.specs.declared.turn.Kind.TheVariants as kind
+use Rattle.xen_turns.specs.Deliveries.{Arrival}
+use Rattle.xen_turns.specs.Turned.{Ending, turned}
+use Rattle.xen_turns.specs.Waits.{Wait}
+use Rattle.xen_turns.specs.declared.state.State.{State}
+use Rattle.xen_turns.specs.declared.turn.Kind.{Kind}
+use Rattle.xen_turns.specs.declared.turn.Kind.TheVariants as kind
 use Rattle.xen_host.specs.Asks.{Ask, DeliveryOver, TurnOver, WaitOver}
 use Rattle.xen_host.specs.Fed.{WaitsFor}
 use Rattle.xen_host.specs.Rest.{is_delivering, is_turning, is_waiting, reads_in, rest_in, rest_of_delivery, rest_of_wait}
 use Rattle.xen_host.specs.Said.{has_run}
 use Rattle.xen_host.specs.Told.{IsToldAt}
-use Rattle.xen_host.specs.Wired.{vif_of, wiring_of}
-use Rattle.xen_host.specs.declared.engine.Engine.{Engine}
+use Rattle.xen_host.specs.EngineAt.{EngineAt}
 use Rattle.xen_host.specs.declared.stage.Stage.TheVariants as stage
-use Rattle.xen_host.specs.declared.wires.OwnedWiring.{OwnedWiring}
-use Rattle.xen_host.specs.declared.work.Work.{Work}
+use Rattle.xen_turns.specs.declared.wiring.Wiring.{Wiring}
 
 -- What is left is an engine's rest, which waits for what was asked last, as the op shows.
 pub record IsOn {A : Type 0} (rest : Steps A) (reads : ℕ) (here : Bool) (tells : Ask → Type 0) (last : Ask) (left : Steps A) : Type 0 where
@@ -35,44 +33,41 @@ abbrev pub packet_after : Kind → List ℕ → List ℕ
 packet_after (kind.Ran ops number slots) packet = packet
 packet_after k packet = []
 
-abbrev pub with_packet : Work → List ℕ → Work
-with_packet b packet = record b { packet = packet }
-
 -- A turn is over, and leaves a packet only if the program ran.
-pub record IsTurnOver (e : Engine) (k : Kind) (left : Steps Ending) : Type 0 where
+pub record IsTurnOver (e : EngineAt) (k : Kind) (left : Steps Ending) : Type 0 where
   pub over : left ≡ done (e.state, turned k e.work.packet)
   pub ready : e.stage ≡ stage.Ready
   pub packet : has_run k ≡ false → e.work.packet ≡ []
 
-abbrev pub TurnEnds : Engine → Ask → Steps Ending → Type 0
+abbrev pub TurnEnds : EngineAt → Ask → Steps Ending → Type 0
 TurnEnds e (TurnOver k) left = IsTurnOver e k left
 TurnEnds e last left =
-    IsOn (rest_in (wiring_of e.wires) e.state e.stage e.work) (reads_in e.stage) (is_turning e.stage) (IsToldAt e.wires.table e.stage) last
+    IsOn (rest_in e.wires e.state e.stage e.work) (reads_in e.stage) (is_turning e.stage) (IsToldAt e.wires.vif.table.now e.stage) last
     left
 
 -- ---- deliveries and waits, beside which the packet stays
 
-abbrev pub DeliveryEnds : List ℕ → Engine → Ask → Steps Arrival → Type 0
+abbrev pub DeliveryEnds : List ℕ → EngineAt → Ask → Steps Arrival → Type 0
 DeliveryEnds packet e (DeliveryOver what) left = (left ≡ done (e.state, what)) × (e.stage ≡ stage.Ready) × (e.work.packet ≡ packet)
 DeliveryEnds packet e last left =
-    IsOn (rest_of_delivery (vif_of e.wires) e.state e.stage e.work) (reads_in e.stage) (is_delivering e.stage)
-    (IsToldAt e.wires.table e.stage) last left × (e.work.packet ≡ packet)
+    IsOn (rest_of_delivery e.wires.vif e.state e.stage e.work) (reads_in e.stage) (is_delivering e.stage)
+    (IsToldAt e.wires.vif.table.now e.stage) last left × (e.work.packet ≡ packet)
 
-abbrev pub WaitEnds : List ℕ → Engine → Ask → Steps Wait → Type 0
+abbrev pub WaitEnds : List ℕ → EngineAt → Ask → Steps Wait → Type 0
 WaitEnds packet e (WaitOver what) left = (left ≡ done (e.state, what)) × (e.stage ≡ stage.Ready) × (e.work.packet ≡ packet)
 WaitEnds packet e last left =
-    IsOn (rest_of_wait e.wires.rx e.state e.stage) (reads_in e.stage) (is_waiting e.stage) (IsToldAt e.wires.table e.stage) last left ×
+    IsOn (rest_of_wait e.wires.vif.rx e.state e.stage) (reads_in e.stage) (is_waiting e.stage) (IsToldAt e.wires.vif.table.now e.stage) last left ×
     (e.work.packet ≡ packet)
 
 -- ---- a transmit
 
 -- What a transmit leaves as it is.
 pub record Beside : Type 0 where
-  pub wires : OwnedWiring
+  pub wires : Wiring
   pub flags : TxFlags
   pub state : State
   pub chain : List Slot
   pub packet : List ℕ
 
-abbrev pub beside : Engine → Beside
+abbrev pub beside : EngineAt → Beside
 beside e = record { wires = e.wires; flags = e.flags; state = e.state; chain = e.work.chain; packet = e.work.packet }

@@ -1,13 +1,14 @@
 -- Stated: claims rest on this file.
 -- Making a queue of numbers.
-use Rattle.std.specs.Prelude.{ℕ, ◌≡◌, ◌≢◌, ◌<◌, ◌≤◌, List, [], None, Some, Contains, length, slice_get}
+use Rattle.std.specs.Prelude.{ℕ, ◌≡◌, ◌≢◌, ◌<◌, ◌≤◌, List, [], Option, None, Some, Contains, length, slice_get}
+use Rattle.bpf_lists.specs.declared.list.MapList.{MapList}
 use Rattle.bpf_verify.specs.Consistent.{Accepted}
 use Rattle.xen_page.specs.Table.{IsTable}
 use Rattle.xen_page.specs.declared.owners.OwnersFault.{OwnersFault}
 use Rattle.xen_page.specs.declared.owners.OwnersFault.TheVariants as owned
 use Rattle.xen_rx_fill.specs.Wired.{IsWired}
 use Rattle.xen_host.specs.Frames.{Limits, limits_of, owners_in}
-use Rattle.xen_host.specs.Queues.{packet_of, resting}
+use Rattle.xen_host.specs.Queues.{packet_of, resting, wired_to}
 use Rattle.xen_host.specs.Rest.{no_flags}
 use Rattle.xen_host.specs.Wired.{wiring_of}
 use Rattle.xen_host.specs.declared.make.MakeFault.{MakeFault}
@@ -66,7 +67,7 @@ pub record AreRings (g : Given) : Type 0 where
   pub rx : IsRing g g.rx
 
 -- Each part is what was given, within its limits.
-pub record IsWiredTo (program : Accepted) (g : Given) (w : OwnedWiring) : Type 0 where
+pub record IsWiredTo (program : Accepted) (lists : List (Option MapList)) (g : Given) (w : OwnedWiring) : Type 0 where
   pub tx : w.tx ≡ g.tx
   pub rx : w.rx ≡ g.rx
   pub table : w.table ≡ g.table
@@ -75,7 +76,7 @@ pub record IsWiredTo (program : Accepted) (g : Given) (w : OwnedWiring) : Type 0
   pub user : w.user ≡ g.user
   pub port : w.port ≡ g.port
   pub program_is : w.program ≡ program
-  pub lists : w.lists.items ≡ []
+  pub lists_are : w.lists ≡ lists
   pub ifindex : w.ifindex ≡ g.ifindex
   pub queue : w.queue ≡ g.queue
   pub wired : IsWired (wiring_of w).vif
@@ -85,8 +86,8 @@ pub record IsWiredTo (program : Accepted) (g : Given) (w : OwnedWiring) : Type 0
   pub domains : g.granter ≢ g.user
 
 -- A queue between turns of these parts, with no packet.
-pub record IsMadeOf (program : Accepted) (g : Given) (q : Queue) : Type 0 where
-  pub wires : IsWiredTo program g q.engine.wires
+pub record IsMadeOf (program : Accepted) (lists : List (Option MapList)) (g : Given) (q : Queue) : Type 0 where
+  pub wires : IsWiredTo program lists g (wired_to q)
   pub state : resting q ≡ Some (record { tx_index = g.tx_index; rx_index = g.rx_index; halt = None })
   pub packet : packet_of q ≡ []
   pub flags : q.engine.flags ≡ no_flags

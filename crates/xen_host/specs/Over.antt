@@ -7,12 +7,12 @@ use Rattle.xdp_program.specs.Ran.{IsHistory}
 use Rattle.xdp_program.specs.Tallies.{HasGrown}
 use Rattle.xen_steps.specs.Event.{Event, Read}
 use Rattle.xen_rx_fill.specs.Places.{tx_word}
-use Rattle.xen_back.specs.Program.{event_of}
-use Rattle.xen_back.specs.declared.state.State.{State}
+use Rattle.xen_turns.specs.Program.{event_of}
+use Rattle.xen_turns.specs.declared.state.State.{State}
 use Rattle.xen_host.specs.Asks.{AllInPages, AllSized, Ask, TakeNone, needs_no_answer, read_by}
 use Rattle.xen_host.specs.Buses.{IsHeld}
 use Rattle.xen_host.specs.Hosts.{Asked, WasAskedAll, WasGiven, asks_of, events_of}
-use Rattle.xen_host.specs.Queues.{DeliveryGoesOn, IsDelivering, IsTurning, IsWaiting, TurnGoesOn, WaitGoesOn, first_read, read_by_some, wiring}
+use Rattle.xen_host.specs.Queues.{DeliveryGoesOn, IsDelivering, IsTurning, IsWaiting, TurnGoesOn, WaitGoesOn, first_read, read_by_some, seen, wired_to, wiring}
 use Rattle.xen_host.specs.Rest.{flags_after, no_flags, reads_in}
 use Rattle.xen_host.specs.Told.{IsToldAt}
 use Rattle.xen_host.specs.declared.queue.Queue.{Queue}
@@ -31,9 +31,10 @@ pub record BeginsOver {H : Type 0} (was : H → Ask → List ℕ → H → Type 
   pub take_none : TakeNone (asks_of first)
   pub stops : full host_after ⊎ (needs_no_answer last.ask ≡ false)
   pub sized : AllSized (asks_of (first ++ last ∷ []))
-  pub told : IsToldAt old.engine.wires.table new.engine.stage last.ask
-  pub within : AllHeld (first ++ last ∷ []) → AllInPages (length old.engine.wires.owners) (asks_of (first ++ last ∷ []))
-  pub wires : new.engine.wires ≡ old.engine.wires
+  pub told : IsToldAt (wired_to old).table new.engine.stage last.ask
+  pub within : AllHeld (first ++ last ∷ []) → AllInPages (length (wired_to old).owners) (asks_of (first ++ last ∷ []))
+  pub wires : wired_to new ≡ wired_to old
+  pub share : new.share ≡ old.share
   pub flags : new.engine.flags ≡ no_flags
   pub turn : TurnGoesOn new last.ask old.engine.state
       (first_read old.engine.state.halt (Read (tx_word (wiring old).vif 0) producer) ++ events_of (first ++ last ∷ []))
@@ -51,10 +52,10 @@ pub record SteppedOver {H : Type 0} (was : H → Ask → List ℕ → H → Type
   pub take_none : TakeNone (asks_of first)
   pub stops : full host_after ⊎ (needs_no_answer last.ask ≡ false)
   pub sized : AllSized (asks_of (first ++ last ∷ []))
-  pub told : IsToldAt old.engine.wires.table new.engine.stage last.ask
-  pub within : AllHeld (first ++ last ∷ []) → AllInPages (length old.engine.wires.owners) (asks_of (first ++ last ∷ []))
-  pub wires : new.engine.wires ≡ old.engine.wires
-  pub flags : new.engine.flags ≡ flags_after old.engine.stage old.engine.work words old.engine.flags
+  pub told : IsToldAt (wired_to old).table new.engine.stage last.ask
+  pub within : AllHeld (first ++ last ∷ []) → AllInPages (length (wired_to old).owners) (asks_of (first ++ last ∷ []))
+  pub wires : wired_to new ≡ wired_to old
+  pub flags : new.engine.flags ≡ flags_after old.engine.stage (seen old).work words old.engine.flags
   pub labels : List (Option Operation)
   pub history : went labels
   pub turn : (s : State) (trace : List Event) (asked : Ask) → IsTurning old s trace asked →
@@ -68,7 +69,7 @@ pub record SteppedOver {H : Type 0} (was : H → Ask → List ℕ → H → Type
 abbrev pub StepsOver : {H : Type 0} → (H → Ask → List ℕ → H → Type 0) → (H → Type 0) → (H → List ℕ → H → Type 0) → (old new : Queue) →
     (before after : List ℕ) → (host host_after : H) → Type 0
 StepsOver was full gave old new before after host host_after =
-    SteppedOver was full gave (λ labels. IsHistory old.engine.wires.program.shapes labels before after) (after ≡ before) old new host
+    SteppedOver was full gave (λ labels. IsHistory (wired_to old).program.shapes labels before after) (after ≡ before) old new host
     host_after
 
 -- A step at a seat, whose list grew by the program's operations and by no others.

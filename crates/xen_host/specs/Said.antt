@@ -1,8 +1,8 @@
 -- Stated: claims rest on this file.
 -- What stands in a host's ops after a call that says some, and which turns run a program.
 use Rattle.std.specs.Prelude.{ℕ, suc, ◌≡◌, ◌≤◌, ◌⊎◌, Bool, true, false, List, [], ◌∷◌, ◌++◌, length, drop, map}
-use Rattle.xen_back.specs.declared.turn.Kind.{Kind}
-use Rattle.xen_back.specs.declared.turn.Kind.TheVariants as kind
+use Rattle.xen_turns.specs.declared.turn.Kind.{Kind}
+use Rattle.xen_turns.specs.declared.turn.Kind.TheVariants as kind
 use Rattle.xen_host.specs.Asks.{AllSized, Ask, TakeNone, WordsStay, needs_no_answer, op_of}
 use Rattle.xen_host.specs.declared.op.Op.{Op}
 

@@ -4,7 +4,7 @@ ghost use Rattle.std.specs.Prelude.{◌≡◌, ◌<◌, ◌≤◌, IsSome, None,
 ghost use Rattle.bpf_maps.specs.Layout.{total};
 ghost use Rattle.bpf_maps.specs.Seats.{IsSeatOf};
 ghost use Rattle.xen_host.specs.Hosts.{IsFresh, IsFree, IsSameLoan};
-ghost use Rattle.xen_host.specs.Queues.{HasBegun, HasStepped, HasSteppedAtSeat, resting};
+ghost use Rattle.xen_host.specs.Queues.{HasBegun, HasStepped, HasSteppedAtSeat, resting, wired_to};
 
 use crate::host::Ops;
 use crate::op::Op;
@@ -45,12 +45,13 @@ impl Queue {
     #[inline(always)]
     fn step_ops(&mut self, counters: &mut [u64], host: &mut Ops<'_>)
         requires busy { resting self.old ≡ None }
-        requires counts { total self.old.engine.wires.program.shapes ≤ length counters.old }
+        requires counts { total (wired_to self.old).program.shapes ≤ length counters.old }
         requires fresh { IsFresh host.old }
         ensures counters { length counters.new ≡ length counters.old }
         ensures words { length host.new.words.now ≡ length host.old.words.now }
         ensures stepped { HasStepped self.old self.new host.old.words.now host.new.words.now counters.old counters.new
             host.old.ops.now host.new.ops.now host.new.count }
+        ensures share { self.new.share ≡ self.old.share }
         ensures loan { IsSameLoan host.old host.new }
     {
         self.step_by(counters, host)
@@ -66,11 +67,12 @@ impl Queue {
     ) -> usize
         requires busy { resting self.old ≡ None }
         requires enough { 1024 ≤ length words.old }
-        requires counts { total self.old.engine.wires.program.shapes ≤ length counters.old }
+        requires counts { total (wired_to self.old).program.shapes ≤ length counters.old }
         requires room { 1 ≤ length ops.old }
         ensures words { length words.new ≡ length words.old }
         ensures counters { length counters.new ≡ length counters.old }
         ensures stepped { HasStepped self.old self.new words.old words.new counters.old counters.new ops.old ops.new result }
+        ensures share { self.new.share ≡ self.old.share }
     {
         let mut host = Ops {
             ops,
@@ -80,16 +82,18 @@ impl Queue {
         self.step_ops(counters, &mut host);
         host.count
     }
+
     /// As `step_ops`, at a seat.
     #[inline(always)]
     fn step_ops_at_seat(&mut self, counters: &Counters, seat: &mut CounterSeat, host: &mut Ops<'_>)
         requires busy { resting self.old ≡ None }
-        requires shapes { counters.now.shapes ≡ self.old.engine.wires.program.shapes }
+        requires shapes { counters.now.shapes ≡ (wired_to self.old).program.shapes }
         requires seat { IsSeatOf counters.now seat.old }
         requires fresh { IsFresh host.old }
         ensures words { length host.new.words.now ≡ length host.old.words.now }
         ensures stepped { HasSteppedAtSeat self.old self.new host.old.words.now host.new.words.now seat.old seat.new
             host.old.ops.now host.new.ops.now host.new.count }
+        ensures share { self.new.share ≡ self.old.share }
         ensures loan { IsSameLoan host.old host.new }
     {
         self.step_by_at_seat(counters, seat, host)
@@ -106,11 +110,12 @@ impl Queue {
     ) -> usize
         requires busy { resting self.old ≡ None }
         requires enough { 1024 ≤ length words.old }
-        requires shapes { counters.now.shapes ≡ self.old.engine.wires.program.shapes }
+        requires shapes { counters.now.shapes ≡ (wired_to self.old).program.shapes }
         requires seat { IsSeatOf counters.now seat.old }
         requires room { 1 ≤ length ops.old }
         ensures words { length words.new ≡ length words.old }
         ensures stepped { HasSteppedAtSeat self.old self.new words.old words.new seat.old seat.new ops.old ops.new result }
+        ensures share { self.new.share ≡ self.old.share }
     {
         let mut host = Ops {
             ops,

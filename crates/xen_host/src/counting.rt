@@ -5,7 +5,7 @@ ghost use Rattle.bpf_maps.specs.Layout.{total};
 ghost use Rattle.bpf_maps.specs.Seats.{IsSeatOf};
 ghost use Rattle.xdp_program.specs.Tallies.{HasWords, IsSeated, Went};
 ghost use Rattle.xen_host.specs.Over.{SteppedOver, StepsOver, StepsOverAtSeat};
-ghost use Rattle.xen_host.specs.Queues.{resting};
+ghost use Rattle.xen_host.specs.Queues.{resting, wired_to};
 
 use crate::host::Host;
 use crate::queue::Queue;
@@ -17,25 +17,28 @@ impl Queue {
     #[inline(always)]
     fn step_counting<H: Host, T: Tallies>(&mut self, counters: &mut T, host: &mut H)
         requires busy { resting self.old ≡ None }
-        requires counts { T.serves self.old.engine.wires.program.shapes counters.old }
+        requires counts { T.serves (wired_to self.old).program.shapes counters.old }
         requires fresh { H.is_fresh host.old }
         requires free { H.is_free host.old }
-        ensures { SteppedOver H.was_asked H.is_full H.has_given (Went (T.did self.old.engine.wires.program.shapes) counters.old counters.new)
+        ensures stepped { SteppedOver H.was_asked H.is_full H.has_given (Went (T.did (wired_to self.old).program.shapes) counters.old counters.new)
             (counters.new ≡ counters.old) self.old self.new host.old host.new }
+        ensures share { self.new.share ≡ self.old.share }
     {
-        self.engine.step(counters, host)
+        self.engine
+            .step(&self.wires, &mut self.packet, counters, host)
     }
 
     /// As [`Queue::step_by`], in words that are lent.
     #[inline(always)]
     fn step_in_words<H: Host>(&mut self, counters: &mut Words<'_>, host: &mut H)
         requires busy { resting self.old ≡ None }
-        requires counts { HasWords self.old.engine.wires.program.shapes counters.old }
+        requires counts { HasWords (wired_to self.old).program.shapes counters.old }
         requires fresh { H.is_fresh host.old }
         requires free { H.is_free host.old }
         ensures counters { length counters.new.words.now ≡ length counters.old.words.now }
         ensures stepped { StepsOver H.was_asked H.is_full H.has_given self.old self.new counters.old.words.now counters.new.words.now
             host.old host.new }
+        ensures share { self.new.share ≡ self.old.share }
         ensures loan { counters.new.words.ghost_name ≡ counters.old.words.ghost_name }
     {
         self.step_counting(counters, host)
@@ -46,11 +49,12 @@ impl Queue {
     #[inline(always)]
     pub fn step_by<H: Host>(&mut self, counters: &mut [u64], host: &mut H)
         requires busy { resting self.old ≡ None }
-        requires counts { total self.old.engine.wires.program.shapes ≤ length counters.old }
+        requires counts { total (wired_to self.old).program.shapes ≤ length counters.old }
         requires fresh { H.is_fresh host.old }
         requires free { H.is_free host.old }
         ensures counters { length counters.new ≡ length counters.old }
         ensures stepped { StepsOver H.was_asked H.is_full H.has_given self.old self.new counters.old counters.new host.old host.new }
+        ensures share { self.new.share ≡ self.old.share }
     {
         let mut own = Words { words: counters };
         self.step_in_words(&mut own, host)
@@ -60,11 +64,12 @@ impl Queue {
     #[inline(always)]
     fn step_seated<H: Host>(&mut self, counters: &mut Seated<'_>, host: &mut H)
         requires busy { resting self.old ≡ None }
-        requires counts { IsSeated self.old.engine.wires.program.shapes counters.old }
+        requires counts { IsSeated (wired_to self.old).program.shapes counters.old }
         requires fresh { H.is_fresh host.old }
         requires free { H.is_free host.old }
         ensures stepped { StepsOverAtSeat H.was_asked H.is_full H.has_given self.old self.new counters.old.seat.now counters.new.seat.now
             host.old host.new }
+        ensures share { self.new.share ≡ self.old.share }
         ensures loan { counters.new.seat.ghost_name ≡ counters.old.seat.ghost_name }
     {
         self.step_counting(counters, host)
@@ -79,11 +84,12 @@ impl Queue {
         host: &mut H,
     )
         requires busy { resting self.old ≡ None }
-        requires shapes { counters.now.shapes ≡ self.old.engine.wires.program.shapes }
+        requires shapes { counters.now.shapes ≡ (wired_to self.old).program.shapes }
         requires seat { IsSeatOf counters.now seat.old }
         requires fresh { H.is_fresh host.old }
         requires free { H.is_free host.old }
-        ensures { StepsOverAtSeat H.was_asked H.is_full H.has_given self.old self.new seat.old seat.new host.old host.new }
+        ensures stepped { StepsOverAtSeat H.was_asked H.is_full H.has_given self.old self.new seat.old seat.new host.old host.new }
+        ensures share { self.new.share ≡ self.old.share }
     {
         let mut shared = Seated { counters, seat };
         self.step_seated(&mut shared, host)

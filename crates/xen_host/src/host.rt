@@ -12,9 +12,9 @@ use crate::filling::put_words;
 use crate::op::Op;
 use crate::packet::Packet;
 use crate::words::are_words;
-use xen_back::{Awaited, Delivery, Kind};
 use xen_netif::Fragment;
 use xen_page::{Place, Rights};
+use xen_turns::{Awaited, Delivery, Kind};
 
 /// Who does what an engine says. After a read nothing more is said before its answer is taken, and that is the first thing of the next
 /// step: only taking it makes the host free again.

@@ -12,11 +12,11 @@ ghost use Rattle.xen_host.specs.Buses.{HasRead, IsAlways, IsFilled, IsInBus, IsM
 use crate::host::Host;
 use crate::op::Op;
 use crate::packet::Packet;
-use xen_back::{Awaited, Delivery, Kind};
 use xen_netif::Fragment;
 use xen_page::{Bus, Place, Rights};
 use xen_ring::{Port, Ports};
 use xen_rx_fill::packet_word;
+use xen_turns::{Awaited, Delivery, Kind};
 
 /// How many words a page has.
 const PAGE_WORDS: u32 = 1024;
@@ -90,6 +90,18 @@ impl<'a, 'p, B: Bus> OverBus<'a, 'p, B> {
         at.frame < self.bus.frames() && at.word <= PAGE_WORDS - (k + count)
     }
 
+    /// The k-th word of the next answer, which is a word of the bus's pages.
+    #[inline(always)]
+    fn due(&mut self, k: u32) -> u32
+        requires { IsInBus (B.size self.old.bus.now) (behind self.old.at k) 1 }
+        ensures { MayReadRun B.log B.access_gives B.size self.old k (result ∷ []) self.new }
+    {
+        self.bus.read(Place {
+            frame: self.at.frame,
+            word: self.at.word + k,
+        })
+    }
+
     /// The k-th word of the next answer.
     #[inline(always)]
     fn word_behind(&mut self, k: u32) -> u32
@@ -97,10 +109,7 @@ impl<'a, 'p, B: Bus> OverBus<'a, 'p, B> {
         ensures { MayReadRun B.log B.access_gives B.size self.old k (result ∷ []) self.new }
     {
         if self.reaches(self.at, k, 1) {
-            self.bus.read(Place {
-                frame: self.at.frame,
-                word: self.at.word + k,
-            })
+            self.due(k)
         } else {
             0
         }
@@ -295,16 +304,22 @@ impl<'a, 'p, B: Bus> Host for OverBus<'a, 'p, B> {
 
     #[inline(always)]
     fn two(&mut self) -> [u32; 2] {
-        let first = self.word_behind(0);
-        let second = self.word_behind(1);
+        if !self.reaches(self.at, 0, 2) {
+            return [0; 2];
+        }
+        let first = self.due(0);
+        let second = self.due(1);
         [first, second]
     }
 
     #[inline(always)]
     fn three(&mut self) -> [u32; 3] {
-        let first = self.word_behind(0);
-        let second = self.word_behind(1);
-        let third = self.word_behind(2);
+        if !self.reaches(self.at, 0, 3) {
+            return [0; 3];
+        }
+        let first = self.due(0);
+        let second = self.due(1);
+        let third = self.due(2);
         [first, second, third]
     }
 

@@ -3,24 +3,27 @@
 ghost use Rattle.std.specs.Prelude.{◌≡◌, ◌≤◌, ℕ, List, length};
 ghost use Rattle.xen_steps.specs.Places.{available};
 ghost use Rattle.xen_steps.specs.Steps.{done};
-ghost use Rattle.xen_back.specs.Waits.{wait_end, whole_wait};
+ghost use Rattle.xen_turns.specs.Waits.{wait_end, whole_wait};
 ghost use Rattle.xen_host.specs.HostLed.{WaitLeads};
+ghost use Rattle.xen_turns.specs.declared.wiring.Wiring.{Wiring};
+ghost use Rattle.xen_host.specs.EngineAt.{engine_at};
 
 use crate::engine::Engine;
 use crate::host::Host;
 use crate::stage::Stage;
-use xen_back::decisions::wait_answer;
-use xen_back::{Awaited, State};
+use crate::wires::Wires;
 use xen_ring::{REQ_EVENT, REQ_PROD};
 use xen_steps::{header, requests_shown};
+use xen_turns::decisions::wait_answer;
+use xen_turns::{Awaited, State};
 
 impl Engine {
     /// A wait begins.
     #[inline(never)]
-    pub(crate) fn wait_begun<H: Host>(&mut self, pages: u32, host: &mut H)
+    pub(crate) fn wait_begun<W: Wires, H: Host>(&mut self, pages: u32, wires: &W, host: &mut H)
         requires free { H.is_free host.old }
-        ensures led { WaitLeads H.was_asked H.is_full self.old.wires self.old.flags self.old.work.packet (whole_wait self.old.wires.rx
-            self.old.state pages) self.new host.old host.new }
+        ensures led { (packet : List ℕ) → WaitLeads H.was_asked H.is_full self.old.flags packet (whole_wait (W.wiring
+            wires.now).vif.rx self.old.state pages) (engine_at (W.wiring wires.now) packet self.new) host.old host.new }
     {
         if let Some(cause) = self.state.halt {
             let state = self.state;
@@ -28,15 +31,15 @@ impl Engine {
         }
         self.stage = Stage::WaitLook { pages };
         let index = self.state.rx_index.wrapping_add(pages);
-        host.push(header(self.wires.rx, REQ_EVENT), index, REQ_PROD)
+        host.push(header(wires.rx(), REQ_EVENT), index, REQ_PROD)
     }
 
     /// After the event index of a wait.
     #[inline(never)]
     pub(crate) fn wait_looked<H: Host>(&mut self, pages: u32, producer: u32, host: &mut H)
         requires free { H.is_free host.old }
-        ensures led { WaitLeads H.was_asked H.is_full self.old.wires self.old.flags self.old.work.packet (done (wait_end self.old.state
-            pages (available self.old.state.rx_index producer))) self.new host.old host.new }
+        ensures led { (w : Wiring) (packet : List ℕ) → WaitLeads H.was_asked H.is_full self.old.flags packet (done (wait_end
+            self.old.state pages (available self.old.state.rx_index producer))) (engine_at w packet self.new) host.old host.new }
     {
         let (after, awaited) = wait_answer(
             &self.state,
@@ -50,8 +53,8 @@ impl Engine {
     #[inline(always)]
     fn end_wait<H: Host>(&mut self, after: State, awaited: Awaited, host: &mut H)
         requires free { H.is_free host.old }
-        ensures led { WaitLeads H.was_asked H.is_full self.old.wires self.old.flags self.old.work.packet (done (after, awaited))
-            self.new host.old host.new }
+        ensures led { (w : Wiring) (packet : List ℕ) → WaitLeads H.was_asked H.is_full self.old.flags packet (done (after, awaited))
+            (engine_at w packet self.new) host.old host.new }
     {
         self.state = after;
         self.stage = Stage::Ready;

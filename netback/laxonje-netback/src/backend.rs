@@ -77,8 +77,9 @@ impl Backend {
 
     /// Whether to go on. An error: no process can be started any longer.
     fn round(&mut self) -> io::Result<bool> {
-        let own = [self.shared.store.fd(), self.control.fd(), self.signals.fd()];
-        let mut wanted: Vec<_> = own.into_iter().chain(self.shared.guests.borrow().fds()).map(Wanted::of).collect();
+        let own = [self.shared.store.fd(), self.signals.fd()];
+        let asking = own.into_iter().chain(self.control.fds());
+        let mut wanted: Vec<_> = asking.chain(self.shared.guests.borrow().fds()).map(Wanted::of).collect();
         if let Err(error) = wait_for_all(&mut wanted, self.time()) {
             self.log.caused(&format_args!("no events: {error}"));
             sleep(PAUSE);
@@ -90,10 +91,10 @@ impl Backend {
         let ready: BTreeSet<RawFd> = wanted.iter().filter(|one| one.ready).map(|one| one.fd).collect();
         self.take_news(&ready)?;
         self.look_again();
-        if wanted[1].ready {
+        if self.control.fds().any(|fd| ready.contains(&fd)) {
             self.answer();
         }
-        Ok(!wanted[2].ready || self.take_signals())
+        Ok(!wanted[1].ready || self.take_signals())
     }
 
     /// Until when there is nothing to do without an event.
@@ -239,13 +240,15 @@ impl Backend {
     }
 
     fn answer(&mut self) {
-        let answered = self.control.question().and_then(|asked| {
-            let answer = self.answer_to(&asked.question);
-            asked.answer(&answer)
-        });
-        if let Err(error) = answered {
-            self.log.caused(&format_args!("a question isn't answered: {error}"));
-            sleep(PAUSE);
+        for asked in self.control.questions() {
+            let answered = asked.and_then(|asked| {
+                let answer = self.answer_to(&asked.question);
+                asked.answer(&answer)
+            });
+            if let Err(error) = answered {
+                self.log.caused(&format_args!("a question isn't answered: {error}"));
+                sleep(PAUSE);
+            }
         }
     }
 

@@ -1,17 +1,27 @@
 //! The socket on which statistics are told and filters are reloaded, and the client of it.
+use std::collections::VecDeque;
 use std::fs;
-use std::io::{self, Read, Write};
+use std::io::{self, ErrorKind, Read, Write};
 use std::os::unix::fs::PermissionsExt;
 use std::os::unix::io::{AsRawFd, RawFd};
 use std::os::unix::net::{UnixListener, UnixStream};
 use std::path::Path;
 use std::time::Duration;
 
+/// How long one who doesn't take the answer is waited for.
 const PATIENCE: Duration = Duration::from_secs(2);
+/// How many may be connected and ask nothing: with one more the first of them is closed.
+const MOST_SILENT: usize = 16;
+/// How many connect before other events have their turn.
+const AT_ONCE: usize = 64;
 const LONGEST_QUESTION: usize = 16;
 
 /// Where questions come in. Whoever may write the socket's file may ask: its owner alone.
-pub struct Control(UnixListener);
+pub struct Control {
+    listener: UnixListener,
+    /// They are connected, and haven't asked yet.
+    silent: VecDeque<UnixStream>,
+}
 
 impl Control {
     /// An old socket that nobody answers on is taken away.
@@ -23,22 +33,42 @@ impl Control {
         let listener = UnixListener::bind(path)?;
         fs::set_permissions(path, fs::Permissions::from_mode(0o600))?;
         listener.set_nonblocking(true)?;
-        Ok(Control(listener))
+        Ok(Control { listener, silent: VecDeque::new() })
     }
 
-    pub fn fd(&self) -> RawFd {
-        self.0.as_raw_fd()
+    /// Returns the descriptors by which a question may come in.
+    pub fn fds(&self) -> impl Iterator<Item = RawFd> + '_ {
+        [self.listener.as_raw_fd()].into_iter().chain(self.silent.iter().map(AsRawFd::as_raw_fd))
     }
 
-    /// The question that has come in. One who is slow to ask isn't waited for.
-    pub fn question(&self) -> io::Result<Asked> {
-        let (mut from, _) = self.0.accept()?;
-        from.set_nonblocking(false)?;
-        from.set_read_timeout(Some(PATIENCE))?;
-        from.set_write_timeout(Some(PATIENCE))?;
+    /// Takes the questions that have come in. Nobody is waited for.
+    pub fn questions(&mut self) -> Vec<io::Result<Asked>> {
+        let mut clients: Vec<_> = self.silent.drain(..).map(Ok).collect();
+        while clients.len() < MOST_SILENT + AT_ONCE {
+            match self.listener.accept() {
+                Err(error) if error.kind() == ErrorKind::WouldBlock => break,
+                accepted => clients.push(accepted.map(|(client, _)| client)),
+            }
+            if matches!(clients.last(), Some(Err(_))) {
+                break;
+            }
+        }
+        clients.into_iter().filter_map(|client| client.and_then(|client| self.look(client)).transpose()).collect()
+    }
+
+    /// The question of one who is connected. `None`: it hasn't come yet.
+    fn look(&mut self, mut client: UnixStream) -> io::Result<Option<Asked>> {
+        client.set_nonblocking(true)?;
         let mut question = [0; LONGEST_QUESTION];
-        let length = from.read(&mut question)?;
-        Ok(Asked { question: String::from_utf8_lossy(&question[..length]).trim().to_owned(), from })
+        match client.read(&mut question) {
+            Err(error) if error.kind() == ErrorKind::WouldBlock => {
+                self.silent.push_back(client);
+                self.silent.drain(..self.silent.len().saturating_sub(MOST_SILENT));
+                Ok(None)
+            }
+            Ok(0) => Ok(None),
+            read => Ok(Some(Asked { question: String::from_utf8_lossy(&question[..read?]).trim().to_owned(), from: client })),
+        }
     }
 }
 
@@ -50,6 +80,8 @@ pub struct Asked {
 
 impl Asked {
     pub fn answer(mut self, answer: &str) -> io::Result<()> {
+        self.from.set_nonblocking(false)?;
+        self.from.set_write_timeout(Some(PATIENCE))?;
         self.from.write_all(answer.as_bytes())
     }
 }
@@ -67,37 +99,66 @@ pub fn ask(path: &Path, question: &str) -> io::Result<String> {
 mod tests {
     use super::*;
 
-    /// A child that another test starts has a copy of each descriptor until it runs its own program, and so the socket may
-    /// be answered on for a moment more.
-    fn is_soon_given_up(path: &Path) -> bool {
+    /// A child that another test starts has a copy of each descriptor until it runs its own program, and so a socket may
+    /// be open for a moment more.
+    fn is_soon(mut what: impl FnMut() -> bool) -> bool {
         (0..500).any(|_| {
-            let opened = Control::open(path).is_ok();
-            if !opened {
+            let is_so = what();
+            if !is_so {
                 std::thread::sleep(Duration::from_millis(10));
             }
-            opened
+            is_so
         })
+    }
+
+    /// The next question that comes in.
+    fn next(control: &mut Control) -> Asked {
+        let mut questions = std::iter::repeat_with(|| control.questions()).flatten();
+        questions.find_map(|asked| asked.ok()).unwrap()
+    }
+
+    fn asks(path: &Path) -> std::thread::JoinHandle<io::Result<String>> {
+        let path = path.to_owned();
+        std::thread::spawn(move || ask(&path, "stats"))
+    }
+
+    fn place(name: &str) -> std::path::PathBuf {
+        std::env::temp_dir().join(format!("laxonje-{name}-{}.sock", std::process::id()))
     }
 
     #[test]
     fn a_question_is_answered_and_one_program_has_the_socket() {
-        let path = std::env::temp_dir().join(format!("laxonje-control-{}.sock", std::process::id()));
-        let control = Control::open(&path).unwrap();
-        let client = {
-            let path = path.clone();
-            std::thread::spawn(move || ask(&path, "stats"))
-        };
-        let asked = loop {
-            if let Ok(asked) = control.question() {
-                break asked;
-            }
-        };
+        let path = place("control");
+        let mut control = Control::open(&path).unwrap();
+        let client = asks(&path);
+        let asked = next(&mut control);
         assert_eq!(asked.question, "stats");
         asked.answer("an answer").unwrap();
         assert_eq!(client.join().unwrap().unwrap(), "an answer");
         assert_eq!(Control::open(&path).err().unwrap().kind(), io::ErrorKind::AddrInUse);
         drop(control);
-        assert!(is_soon_given_up(&path));
+        assert!(is_soon(|| Control::open(&path).is_ok()));
+        fs::remove_file(&path).unwrap();
+    }
+
+    #[test]
+    fn one_who_says_nothing_is_not_waited_for_and_may_ask_later() {
+        let path = place("silent");
+        let mut control = Control::open(&path).unwrap();
+        let mut silent: Vec<_> = (0..40).map(|_| UnixStream::connect(&path).unwrap()).collect();
+        assert!(control.questions().is_empty());
+        assert_eq!(control.fds().count(), 1 + MOST_SILENT);
+        let (client, began) = (asks(&path), std::time::Instant::now());
+        next(&mut control).answer("at once").unwrap();
+        assert_eq!(client.join().unwrap().unwrap(), "at once");
+        assert!(began.elapsed() < PATIENCE);
+        // the first ones were closed
+        assert_eq!(silent[0].read(&mut [0]).unwrap(), 0);
+        silent[39].write_all(b"reload\n").unwrap();
+        assert_eq!(next(&mut control).question, "reload");
+        drop(silent);
+        let are_gone = |control: &mut Control| control.questions().is_empty() && control.fds().count() == 1;
+        assert!(is_soon(|| are_gone(&mut control)));
         fs::remove_file(&path).unwrap();
     }
 }

@@ -132,6 +132,10 @@ pub const SIGNALFD_BYTES: usize = 128;
 
 pub const PROT_READ: c_int = 1;
 pub const PROT_WRITE: c_int = 2;
+pub const MAP_PRIVATE: c_int = 2;
+pub const MAP_ANONYMOUS: c_int = 0x20;
+/// What `mmap` answers if it fails: `(void *)-1`.
+pub const MAP_FAILED: usize = usize::MAX;
 
 /// `struct ifreq`: a name, then a union of 24 bytes.
 #[repr(C)]
@@ -182,6 +186,8 @@ pub struct rlimit {
     pub most: c_ulong,
 }
 pub const RLIMIT_NICE: c_int = 13;
+pub const RLIMIT_AS: c_int = 9;
+pub const M_ARENA_MAX: c_int = -8;
 pub const CAP_VERSION_3: u32 = 0x2008_0522;
 pub const CAP_NET_ADMIN: u32 = 12;
 pub const PRIO_PROCESS: c_int = 0;
@@ -293,6 +299,9 @@ pub const SYS_IO_SUBMIT: c_long = 209;
 extern "C" {
     pub fn syscall(number: c_long, ...) -> c_long;
     pub fn free(at: *mut c_void);
+    pub fn mallopt(what: c_int, value: c_int) -> c_int;
+    pub fn mmap(at: *mut c_void, bytes: usize, access: c_int, kind: c_int, fd: c_int, offset: c_long) -> *mut c_void;
+    pub fn munmap(at: *mut c_void, bytes: usize) -> c_int;
     pub fn socketpair(family: c_int, kind: c_int, protocol: c_int, ends: *mut c_int) -> c_int;
     pub fn setsockopt(fd: c_int, level: c_int, option: c_int, value: *const c_void, bytes: c_uint) -> c_int;
     pub fn send(fd: c_int, message: *const c_void, bytes: usize, flags: c_int) -> isize;

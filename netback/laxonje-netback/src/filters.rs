@@ -22,6 +22,8 @@ pub struct Filter {
     pub program: Program,
     pub text: Vec<u8>,
     pub number: u64,
+    /// The number of the filter whose program it has, with lists of its own. 0: it was verified itself.
+    pub lists_of: u64,
 }
 
 /// Why a file gives no filter.
@@ -64,13 +66,36 @@ impl Filter {
 
     fn of(path: &Path, text: Vec<u8>, number: u64) -> Result<Filter, LoadError> {
         let program = Program::from_settings(&text)?;
-        Ok(Filter { path: path.to_owned(), program, text, number })
+        Ok(Filter { path: path.to_owned(), program, text, number, lists_of: 0 })
+    }
+
+    /// The same program with the lists of another text, which differs in rows alone: it isn't verified again.
+    fn relisted(&self, text: &[u8], number: u64) -> Option<Filter> {
+        if without_rows(&self.text) != without_rows(text) {
+            return None;
+        }
+        let program = relisted(&self.program, text)?;
+        Some(Filter { path: self.path.clone(), program, text: text.to_vec(), number, lists_of: self.number })
     }
 
     /// Whether another filter's counters go on as this one's: its maps have the same names and sizes, in the same order.
     pub fn counts_as(&self, other: &Filter) -> bool {
         self.program.map_names() == other.program.map_names() && self.program.maps() == other.program.maps()
     }
+}
+
+/// The same program with the lists of another text.
+pub fn relisted(program: &Program, text: &[u8]) -> Option<Program> {
+    let mut own = program.try_clone().ok()?;
+    own.relist(text).ok()?;
+    Some(own)
+}
+
+/// A settings text without the rows of its lists.
+fn without_rows(text: &[u8]) -> String {
+    let text = String::from_utf8_lossy(text);
+    let after_rows = |part: &str| part.split_once(']').map_or(part, |(_, rest)| rest).to_owned();
+    text.split("rows = [").enumerate().map(|(at, part)| if at == 0 { part.to_owned() } else { after_rows(part) }).collect()
 }
 
 /// The filters of all devices. A text is verified once in this process, however many devices have it and however often it is looked at, and once
@@ -113,7 +138,11 @@ impl Filters {
 
     fn learn(&mut self, path: &Path, text: Vec<u8>) -> Result<Rc<Filter>, LoadError> {
         self.next += 1;
-        let filter = Filter::of(path, text.clone(), self.next).map(Rc::new);
+        let relisted = match self.known.get(path) {
+            Some(Known::Accepted(before)) => before.relisted(&text, self.next),
+            _ => None,
+        };
+        let filter = relisted.map_or_else(|| Filter::of(path, text.clone(), self.next), Ok).map(Rc::new);
         let known = match &filter {
             Ok(filter) => Known::Accepted(Rc::clone(filter)),
             Err(error) => Known::Refused { text, error: *error },
@@ -218,6 +247,58 @@ mod tests {
         let renamed = String::from_utf8_lossy(COUNT).replace("\"protocols\"", "\"others\"");
         std::fs::write(&path, renamed).unwrap();
         assert!(!changed.counts_as(&filters.find(vec![path]).unwrap()));
+        std::fs::remove_dir_all(&folder).unwrap();
+    }
+
+    /// Drops each packet if the key 1, of four bytes, is among these rows.
+    fn listed(name: &str, rows: &str) -> String {
+        let program = r#"program = ["620afcff01000000", "bfa2000000000000", "07020000fcffffff", "1811000000000000", "0000000000000000",
+            "8500000001000000", "1500020000000000", "b700000001000000", "9500000000000000", "b700000002000000", "9500000000000000"]"#;
+        format!("{program}\n[[map]]\nname = \"{name}\"\nentries = 3\ncounters = 1\nkey = \"exact\"\nsize = 4\nrows = [{rows}]\n")
+    }
+
+    #[test]
+    fn rows_that_change_are_not_verified() {
+        let (folder, mut filters) = (folder("rows"), Filters::default());
+        let path = folder.join("a.toml");
+        let mut find = |text: String| {
+            std::fs::write(&path, text).unwrap();
+            filters.find(vec![path.clone()]).unwrap()
+        };
+        let action = |filter: &Filter| {
+            let mut program = filter.program.try_clone().unwrap();
+            program.run(&mut [0; 3], &mut [0; 60], 0, 0).unwrap().action
+        };
+        let first = find(listed("one", "\"02000000\""));
+        let second = find(listed("one", "\"02000000\", \"01000000\""));
+        assert_eq!((first.lists_of, second.lists_of), (0, first.number));
+        assert_eq!((action(&first), action(&second)), (laxonje::Action::Pass, laxonje::Action::Drop));
+        assert!(first.counts_as(&second));
+        let third = find(listed("two", "\"02000000\""));
+        assert_eq!((third.lists_of, third.counts_as(&second), action(&third)), (0, false, laxonje::Action::Pass));
+        std::fs::remove_dir_all(&folder).unwrap();
+    }
+
+    /// Ends each packet with the action that is a map's one constant.
+    fn constant(action: &str) -> String {
+        let program = r#"program = ["1801000000000038", "0000000000000000", "7110000000000000", "9500000000000000"]"#;
+        format!("{program}\n[[map]]\nname = \".rodata\"\nentries = 1\nkey = \"constants\"\nsize = 1\nrows = [\"{action}\"]\n")
+    }
+
+    #[test]
+    fn constants_that_change_are_not_verified() {
+        let (folder, mut filters) = (folder("constants"), Filters::default());
+        let path = folder.join("a.toml");
+        let mut find = |text: String| {
+            std::fs::write(&path, text).unwrap();
+            filters.find(vec![path.clone()]).unwrap()
+        };
+        let (first, second) = (find(constant("01")), find(constant("02")));
+        assert_eq!((first.lists_of, second.lists_of), (0, first.number));
+        for (filter, action) in [(first, laxonje::Action::Drop), (second, laxonje::Action::Pass)] {
+            let mut program = filter.program.try_clone().unwrap();
+            assert_eq!(program.run(&mut [0; 1], &mut [0; 60], 0, 0).unwrap().action, action);
+        }
         std::fs::remove_dir_all(&folder).unwrap();
     }
 

@@ -3,10 +3,12 @@
 #include <stdint.h>
 #include <stdbool.h>
 #include <fcntl.h>
+#include <malloc.h>
 #include <poll.h>
 #include <sched.h>
 #include <signal.h>
 #include <sys/ioctl.h>
+#include <sys/mman.h>
 #include <sys/prctl.h>
 #include <sys/file.h>
 #include <sys/resource.h>
@@ -129,6 +131,12 @@ IS(IOCTL_GNTALLOC_DEALLOC_GREF, 0x104706);
 IS(IOCTL_EVTCHN_NOTIFY, 0x44504);
 IS(CAP_NET_ADMIN, 12);
 IS(RLIMIT_NICE, 13);
+IS(RLIMIT_AS, 9);
+IS(M_ARENA_MAX, -8);
+IS(PROT_READ | PROT_WRITE, 3);
+IS(MAP_PRIVATE, 2);
+IS(MAP_ANONYMOUS, 0x20);
+IS((size_t)MAP_FAILED, SIZE_MAX);
 IS(PR_SET_NO_NEW_PRIVS, 38);
 IS(PR_CAPBSET_DROP, 24);
 IS(PR_SET_NAME, 15);

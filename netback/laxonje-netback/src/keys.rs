@@ -58,6 +58,8 @@ pub struct FrontKeys {
     pub queues: Vec<QueueKeys>,
     /// It sends a notice for buffers that it posts.
     pub notifies: bool,
+    /// It takes packets of more than a page.
+    pub scatters: bool,
 }
 
 /// Why a frontend isn't served.
@@ -125,7 +127,7 @@ pub fn front(read: impl Fn(&str) -> Option<String>, offered: u32) -> Result<Fron
     }
     let folder = |number: u32| if count == 1 { String::new() } else { format!("queue-{number}/") };
     let queues: Result<_, _> = (0..count).map(|number| queue(&read, &folder(number))).collect();
-    Ok(FrontKeys { queues: queues?, notifies: flag(&read, "feature-rx-notify") })
+    Ok(FrontKeys { queues: queues?, notifies: flag(&read, "feature-rx-notify"), scatters: flag(&read, "feature-sg") })
 }
 
 /// What comes next for a device.
@@ -179,13 +181,19 @@ mod tests {
         move |key| map.get(key).map(|value| (*value).to_owned())
     }
 
-    const ONE: [(&str, &str); 5] =
-        [("request-rx-copy", "1"), ("tx-ring-ref", "8"), ("rx-ring-ref", "9"), ("event-channel", "3"), ("feature-rx-notify", "1")];
+    const ONE: [(&str, &str); 6] = [
+        ("request-rx-copy", "1"),
+        ("tx-ring-ref", "8"),
+        ("rx-ring-ref", "9"),
+        ("event-channel", "3"),
+        ("feature-rx-notify", "1"),
+        ("feature-sg", "1"),
+    ];
 
     #[test]
     fn one_queue_has_its_keys_in_the_folder() {
         let front_keys = front(keys(&ONE), 4).unwrap();
-        assert_eq!(front_keys, FrontKeys { queues: vec![QueueKeys { tx: 8, rx: 9, event: 3 }], notifies: true });
+        assert_eq!(front_keys, FrontKeys { queues: vec![QueueKeys { tx: 8, rx: 9, event: 3 }], notifies: true, scatters: true });
         let told = [&ONE[..], &[("multi-queue-num-queues", "1")]].concat();
         assert_eq!(front(keys(&told), 1).unwrap(), front_keys);
     }
@@ -204,7 +212,7 @@ mod tests {
         ];
         let front_keys = front(keys(&two), 2).unwrap();
         assert_eq!(front_keys.queues, [QueueKeys { tx: 1, rx: 2, event: 3 }, QueueKeys { tx: 4, rx: 5, event: 6 }]);
-        assert!(!front_keys.notifies);
+        assert!(!front_keys.notifies && !front_keys.scatters);
         assert_eq!(front(keys(&two), 1), Err(KeyError::Queues(2, 1)));
         assert_eq!(front(keys(&two[..7]), 2), Err(KeyError::NoNumber("queue-1/event-channel".to_owned())));
     }

@@ -17,6 +17,7 @@ usage: laxonje-netback [OPTION..]           serve the network devices of guests
   --bridge NAME      a bridge for devices that the toolstack gives neither a script nor a bridge
   --grants copy|map  how pages are had of Xen (copy)
   --watch SECONDS    look every SECONDS whether a settings file has changed (only on SIGHUP and reload)
+  --memory MEGABYTES what the process of a guest may take, 32 to 65536 (256)
   --nice N           at what priority packets are moved, -20 to 19 (-10)
   --with-emulated    serve devices whose guest has an emulated card too, which goes around the filter
   --socket PATH      where stats and reload are answered (/run/laxonje-netback.sock)
@@ -30,6 +31,11 @@ const MOST_DOMAIN: u32 = 0x7fef;
 const USUAL_QUEUES: u32 = 4;
 /// Whoever receives a packet mustn't take the processor after each of them.
 const USUAL_NICE: i32 = -10;
+/// Megabytes for the process of a guest: enough for some forty queues, of 6 MB each.
+const USUAL_MEMORY: u32 = 256;
+/// What it has without a queue, and what is left over beside the queues.
+const LEAST_MEMORY: u32 = 32;
+const MOST_MEMORY: u32 = 65_536;
 
 /// What is to be done.
 #[derive(Debug, PartialEq, Eq)]
@@ -64,6 +70,8 @@ pub struct Options {
     pub way: Way,
     pub watch: Option<Duration>,
     pub nice: i32,
+    /// The most megabytes of the process of a guest.
+    pub memory: u32,
     pub socket: PathBuf,
     pub with_emulated: bool,
     pub restricted: bool,
@@ -79,6 +87,7 @@ impl Default for Options {
             way: Way::Copy,
             watch: None,
             nice: USUAL_NICE,
+            memory: USUAL_MEMORY,
             socket: PathBuf::from("/run/laxonje-netback.sock"),
             with_emulated: false,
             restricted: true,
@@ -98,7 +107,8 @@ impl Options {
             Way::Copy => "copy",
             Way::Map => "map",
         };
-        let words = [own.to_string(), "--grants".to_owned(), grants.to_owned(), "--nice".to_owned(), self.nice.to_string()];
+        let (own, nice, memory) = (own.to_string(), self.nice.to_string(), self.memory.to_string());
+        let words = [own.as_str(), "--grants", grants, "--nice", nice.as_str(), "--memory", memory.as_str()].map(str::to_owned);
         let unrestricted = (!self.restricted).then(|| "--unrestricted".to_owned());
         words.into_iter().chain(unrestricted).collect()
     }
@@ -165,6 +175,7 @@ fn serve(words: &[String]) -> Result<Options, String> {
             "--queues" => options.queues = number(word, words.next(), 1, MOST_QUEUES)?,
             "--bridge" => options.bridge = Some(value(word, words.next())?.to_owned()),
             "--watch" => options.watch = Some(Duration::from_secs(number(word, words.next(), 1, 86400)?.into())),
+            "--memory" => options.memory = number(word, words.next(), LEAST_MEMORY, MOST_MEMORY)?,
             "--nice" => options.nice = nice(value(word, words.next())?)?,
             "--socket" => options.socket = PathBuf::from(value(word, words.next())?),
             "--grants" => options.way = way(value(word, words.next())?)?,
@@ -201,7 +212,7 @@ mod tests {
     fn words_are_options() {
         assert_eq!(of(""), Ok(Command::Serve(Options::default())));
         let all =
-            "--filters /f --domain 7 --queues 4 --bridge br0 --grants map --watch 2 --nice 5 --socket /s --with-emulated --unrestricted";
+            "--filters /f --domain 7 --queues 4 --bridge br0 --grants map --watch 2 --nice 5 --memory 64 --socket /s --with-emulated --unrestricted";
         let options = Options {
             filters: "/f".into(),
             domain: Some(7),
@@ -210,6 +221,7 @@ mod tests {
             way: Way::Map,
             watch: Some(Duration::from_secs(2)),
             nice: 5,
+            memory: 64,
             socket: "/s".into(),
             with_emulated: true,
             restricted: false,
@@ -223,7 +235,7 @@ mod tests {
 
     #[test]
     fn the_processes_of_guests_get_what_they_need_to_know() {
-        for (words, restricted) in [("--grants map --nice 5 --unrestricted", false), ("--nice -20", true)] {
+        for (words, restricted) in [("--grants map --nice 5 --memory 64 --unrestricted", false), ("--nice -20", true)] {
             let options = match of(words) {
                 Ok(Command::Serve(options)) => options,
                 other => panic!("{other:?}"),
@@ -236,7 +248,7 @@ mod tests {
                 Ok(Command::ServeGuest {
                     domain: 3,
                     own: 7,
-                    options: Options { way: options.way, nice: options.nice, restricted, ..Options::default() }
+                    options: Options { way: options.way, nice: options.nice, memory: options.memory, restricted, ..Options::default() }
                 })
             );
         }
@@ -263,6 +275,8 @@ mod tests {
             "--queues 65",
             "--grants x",
             "--watch 0",
+            "--memory 31",
+            "--memory 65537",
             "--nice 20",
             "--nice x",
             "check",
@@ -276,7 +290,8 @@ mod tests {
 
     #[test]
     fn the_help_has_each_option() {
-        let options = "--filters --domain --queues --bridge --grants --watch --nice --socket --with-emulated --unrestricted --json";
+        let options =
+            "--filters --domain --queues --bridge --grants --watch --nice --memory --socket --with-emulated --unrestricted --json";
         assert!(options.split(' ').all(|option| HELP.contains(option)));
     }
 }

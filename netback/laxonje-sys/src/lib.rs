@@ -36,6 +36,7 @@ pub const LAXONJE_MAP: u32 = 2;
 pub const LAXONJE_SETTINGS: u32 = 3;
 pub const LAXONJE_EMPTY: u32 = 4;
 pub const LAXONJE_NULL: u32 = 5;
+pub const LAXONJE_OTHER: u32 = 6;
 
 /// The verifier's causes: V0 to V19.
 pub const LAXONJE_V_MEMORY: u32 = 0;
@@ -58,7 +59,7 @@ pub const LAXONJE_V_MAP_NUMBER: u32 = 16;
 pub const LAXONJE_V_ARGUMENT: u32 = 17;
 pub const LAXONJE_V_UNSUPPORTED: u32 = 19;
 
-/// The faults of settings: L0 to L7.
+/// The faults of settings: L0 to L8.
 pub const LAXONJE_L_MEMORY: u32 = 0;
 pub const LAXONJE_L_TEXT: u32 = 1;
 pub const LAXONJE_L_SYNTAX: u32 = 2;
@@ -67,6 +68,7 @@ pub const LAXONJE_L_LIMIT: u32 = 4;
 pub const LAXONJE_L_NAME: u32 = 5;
 pub const LAXONJE_L_HEX: u32 = 6;
 pub const LAXONJE_L_RELOCATION: u32 = 7;
+pub const LAXONJE_L_ROWS: u32 = 8;
 
 /// What a program's number stands for.
 pub const LAXONJE_ABORTED: u32 = 0;
@@ -83,6 +85,18 @@ pub const LAXONJE_MADE_RING: u32 = 4;
 pub const LAXONJE_MADE_DOMAIN: u32 = 5;
 pub const LAXONJE_MADE_PROGRAM: u32 = 6;
 pub const LAXONJE_MADE_NULL: u32 = 7;
+
+/// The most queues that share counters.
+pub const LAXONJE_SHARES: usize = 63;
+
+/// Whether a queue shares counters.
+pub const LAXONJE_SHARES_NOW: u32 = 0;
+pub const LAXONJE_SHARES_MEMORY: u32 = 1;
+pub const LAXONJE_SHARES_SEATS: u32 = 2;
+pub const LAXONJE_SHARES_BUSY: u32 = 3;
+pub const LAXONJE_SHARES_ALREADY: u32 = 4;
+pub const LAXONJE_SHARES_MAPS: u32 = 5;
+pub const LAXONJE_SHARES_NOTHING: u32 = 6;
 
 /// What an op asks for.
 pub const LAXONJE_OP_READ: u32 = 1;
@@ -104,6 +118,14 @@ pub const LAXONJE_TAKEN_BUSY: u32 = 2;
 pub const LAXONJE_TAKEN_NO_FRAME: u32 = 3;
 pub const LAXONJE_TAKEN_SLOTS: u32 = 4;
 pub const LAXONJE_TAKEN_COUNTERS: u32 = 5;
+
+/// Why a queue has the lists that it had.
+pub const LAXONJE_RELISTED: u32 = 0;
+pub const LAXONJE_RELISTED_NOT: u32 = 1;
+pub const LAXONJE_RELISTED_BUSY: u32 = 2;
+pub const LAXONJE_RELISTED_MAPS: u32 = 3;
+pub const LAXONJE_RELISTED_MEMORY: u32 = 4;
+pub const LAXONJE_RELISTED_PROGRAM: u32 = 5;
 
 /// What a turn, a delivery or a wait came to.
 pub const LAXONJE_TURN_IDLE: u32 = 0;
@@ -190,6 +212,13 @@ pub struct laxonje_program {
 #[repr(C, align(8))]
 #[derive(Debug, Default)]
 pub struct laxonje_queue {
+    _own: [u8; LAXONJE_HANDLE],
+}
+
+/// What a handle of shared counters points to.
+#[repr(C, align(8))]
+#[derive(Debug, Default)]
+pub struct laxonje_shared {
     _own: [u8; LAXONJE_HANDLE],
 }
 
@@ -291,4 +320,12 @@ extern "C" {
     pub fn laxonje_queue_packet(queue: *mut laxonje_queue, out: *mut u8, out_bytes: usize) -> usize;
     pub fn laxonje_queue_state(queue: *mut laxonje_queue) -> laxonje_queue_standing;
     pub fn laxonje_queue_free(queue: *mut laxonje_queue);
+
+    pub fn laxonje_relist(program: *mut laxonje_program, text: *const u8, text_bytes: usize) -> laxonje_verdict;
+    pub fn laxonje_queue_relist(queue: *mut laxonje_queue, program: *mut laxonje_program) -> u32;
+    pub fn laxonje_counters_make(program: *mut laxonje_program, queues: usize, out: *mut laxonje_shared) -> u32;
+    pub fn laxonje_queue_share(queue: *mut laxonje_queue, counters: *mut laxonje_shared) -> u32;
+    pub fn laxonje_queue_pass(queue: *mut laxonje_queue, to: *mut laxonje_queue) -> u32;
+    pub fn laxonje_counters_at(counters: *mut laxonje_shared, map: u32, entry: u32, counter: u32) -> u64;
+    pub fn laxonje_counters_free(counters: *mut laxonje_shared);
 }

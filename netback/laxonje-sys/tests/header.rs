@@ -88,6 +88,7 @@ fn a_declaration_that_differs_is_found() {
             "pub fn laxonje_queue_await(queue: *mut laxonje_queue, pages: u32)",
             "pub fn laxonje_queue_await(queue: *mut laxonje_queue, pages: usize)",
         ),
+        ("pub const LAXONJE_RELISTED_MAPS: u32 = 3;", "pub const LAXONJE_RELISTED_MAPS: u32 = 2;"),
         ("pub fn laxonje_version() -> u32;", "pub fn laxonje_version() -> u64;"),
         ("pub fn laxonje_free(program: *mut laxonje_program);", "pub fn laxonje_free(program: *mut laxonje_queue);"),
     ];

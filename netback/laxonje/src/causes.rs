@@ -64,6 +64,7 @@ causes! {
     NAME = LAXONJE_L_NAME, "the name of a map";
     HEX = LAXONJE_L_HEX, "a hex text";
     RELOCATION = LAXONJE_L_RELOCATION, "a relocation";
+    ROWS = LAXONJE_L_ROWS, "rows of a map that no list can have";
 }
 
 causes! {

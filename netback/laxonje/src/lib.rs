@@ -83,11 +83,14 @@ mod drive;
 mod guest;
 #[allow(unsafe_code)]
 mod handle;
+mod lists;
 mod program;
 mod queue;
+mod shared;
 
 pub use causes::{Cause, Fault, Halt, Refusal};
 pub use guest::{Entry, Guest, GuestMemory, Op, Page, PAGE_BYTES, PAGE_WORDS};
+pub use lists::{QueueRelistError, RelistError};
 pub use program::{
     build, check, check_version, proved, Action, LoadError, MapSize, Outcome, Packet, Program, Run, VersionError, MOST_BYTES,
 };
@@ -95,3 +98,4 @@ pub use queue::{
     Awaited, DeliverError, Delivery, Extent, Flags, Grant, Indices, MakeError, Queue, ReplaceError, Setup, Stopped, Turn, TurnRun,
     TABLE_FRAMES,
 };
+pub use shared::{Counters, ShareError, MOST_SHARES};

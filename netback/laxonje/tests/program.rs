@@ -118,7 +118,7 @@ fn each_cause_has_a_name() {
     let names: Vec<_> = Cause::ALL.iter().map(|cause| (cause.0, cause.name())).collect();
     assert_eq!((names.len(), names[0]), (18, (1, "no whole slots, none, or more than 4,096")));
     assert_eq!(
-        (Fault::RELOCATION.name(), Fault(8).name(), Cause(18).to_string()),
+        (Fault::RELOCATION.name(), Fault(9).name(), Cause(18).to_string()),
         ("a relocation", "an unknown cause", "an unknown cause".into())
     );
     // the match that a host writes

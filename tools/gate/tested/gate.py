@@ -27,7 +27,7 @@ class Gate:
         self.folder = pathlib.Path(folder, "repository")
         self.beside = pathlib.Path(folder, "bin")
         self.beside.mkdir()
-        for name in (".ci/run", "tools/progress", "tools/proving", "tools/repository.py", "tools/others-enter", "tools/commit"):
+        for name in (".ci/run", "tools/progress", "tools/proving", "tools/laxonje_tools/repository.py", "tools/others-enter", "tools/commit"):
             (self.folder / name).parent.mkdir(parents=True, exist_ok=True)
             shutil.copy(ROOT / name, self.folder / name)
         for name in PARTS:

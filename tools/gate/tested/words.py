@@ -29,6 +29,7 @@ WORDS = {
     "tools/straighten": ["--fast"],
     "tools/statement": ["--fast"],
     "tools/demo": ["ten"],
+    "netback/fuzz": ["ten"],
     "tools/gate/assumed": [],
     "tools/dev/lines-of-proof": ["all"],
     "tools/dev/long-sentences": ["--all"],

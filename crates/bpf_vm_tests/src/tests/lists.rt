@@ -1,6 +1,6 @@
 //! Lookups in lists, and where the values of large maps lie.
 use crate::programs::ready;
-use bpf_lists::{KeyedRows, MapList};
+use bpf_lists::{ConstantBytes, KeyedRows, MapList};
 use bpf_note::{Kind, MapKey, MapShape};
 use bpf_vm::{PacketBuf, Vm, VmWant};
 use std::alloc::Global;
@@ -177,7 +177,8 @@ fn read(alloc: Global, opcode: u8, address: u32, constants: u32, bytes: &[u8]) -
         [0x95, 0, 0, 0, 0, 0, 0, 0], // exit
     ];
     let (program, mut buffer) = ready(alloc, &slots, &[shape])?;
-    let lists = [Some(MapList::Constants(bytes.to_vec(alloc).ok()?))];
+    let bytes = ConstantBytes::make(bytes.to_vec(alloc).ok()?);
+    let lists = [Some(MapList::Constants(bytes))];
     number_at_exit(Vm::start(&program, PacketBuf::empty(&mut buffer), 0, 0, &lists))
 }
 
@@ -208,6 +209,9 @@ fn constants_are_read_by_their_address(rt: HostRuntime) {
 fn constants_that_a_list_lacks_are_0(rt: HostRuntime) {
     let alloc = rt.alloc();
     assert_eq!(rt; read(alloc, 0x69, 0x3800_0008, 12, &CONSTANTS), Some(0x89));
-    assert_eq!(rt; read(alloc, 0x61, 0x3800_0007, 12, &CONSTANTS), Some(0x8988));
+    assert_eq!(rt;
+        read(alloc, 0x61, 0x3800_0007, 12, &CONSTANTS),
+        Some(0x8988)
+    );
     assert_eq!(rt; read(alloc, 0x61, 0x3800_0000, 4, &[]), Some(0));
 }

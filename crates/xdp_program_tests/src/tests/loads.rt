@@ -28,20 +28,20 @@ fn each_counter_has_a_word(rt: HostRuntime) {
     }
 }
 
-const FOUR_MAPS: Source = Source {
+const SIXTEEN_MAPS: Source = Source {
     digits: PASS_DIGITS,
-    maps: &[(1, 1), (1, 1), (1, 1), (1, 1)],
+    maps: &[(1, 1); 16],
 };
 
-const FIVE_MAPS: Source = Source {
+const SEVENTEEN_MAPS: Source = Source {
     digits: PASS_DIGITS,
-    maps: &[(1, 1), (1, 1), (1, 1), (1, 1), (1, 1)],
+    maps: &[(1, 1); 17],
 };
 
 #[test]
-fn there_are_four_maps_at_most(rt: HostRuntime) {
-    assert_eq!(rt; sizes(rt.alloc(), FOUR_MAPS), Some((2, 4)));
-    assert_eq!(rt; fault_of(rt.alloc(), FIVE_MAPS), Some(LoadFault::Maps));
+fn there_are_16_maps_at_most(rt: HostRuntime) {
+    assert_eq!(rt; sizes(rt.alloc(), SIXTEEN_MAPS), Some((2, 16)));
+    assert_eq!(rt; fault_of(rt.alloc(), SEVENTEEN_MAPS), Some(LoadFault::Maps));
 }
 
 /// A program without maps, and the number and the slot of its refusal.
@@ -62,7 +62,7 @@ fn a_refusal_has_its_cause_and_slot(rt: HostRuntime) {
     }
 }
 
-/// Counts each packet, and passes it.
+/// Counts each packet under the key `01 00 00 00`, and passes it.
 const COUNTS: &str = "\
 program = [
   \"620afcff01000000\",

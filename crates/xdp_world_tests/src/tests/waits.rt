@@ -162,7 +162,7 @@ fn holds(alloc: Global, scenario: Scenario) -> Option<bool> {
     let program = accepted(alloc, PASS)?;
     let layout = Layout::make(alloc, 2).ok()?;
     let mut buffers = buffers(alloc, 2).ok()?;
-    let mut world = World::make(alloc, &layout, &program, buffers.as_mut_slice(), 2, 0, 0).ok()?;
+    let mut world = World::make(alloc, &layout, &program, &[], buffers.as_mut_slice(), 2, 0, 0).ok()?;
     scenario.seen(&mut world).ok()
 }
 

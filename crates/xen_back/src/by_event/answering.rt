@@ -4,21 +4,19 @@ ghost use Rattle.std.specs.Prelude.{◌≡◌, ◌+◌, List, ℕ, length, drop}
 ghost use Rattle.xen_steps.specs.Places.{add32};
 ghost use Rattle.xen_back.specs.Rest.{rest_at};
 ghost use Rattle.xen_steps.specs.Steps.{next_by, want_of};
-ghost use Rattle.xen_back.specs.Tree.{answer, answered, notice, respond, responses as responses_spec};
-ghost use Rattle.xen_back.specs.Turned.{Ending, turned};
+ghost use Rattle.xen_turns.specs.Tree.{answer, answered, notice, respond, responses as responses_spec};
+ghost use Rattle.xen_turns.specs.Turned.{Ending, turned};
 ghost use Rattle.xen_ring.specs.Index.{is_due};
-ghost use Rattle.xen_back.specs.declared.state.State.{State as StateView};
-ghost use Rattle.xen_back.specs.declared.wiring.Wiring.{Wiring as WiringView};
+ghost use Rattle.xen_turns.specs.declared.state.State.{State as StateView};
+ghost use Rattle.xen_turns.specs.declared.wiring.Wiring.{Wiring as WiringView};
 
 use crate::by_event::phase::Phase;
-use crate::decisions::{after_answers, response};
-use crate::state::State;
-use crate::turn::Kind;
-use crate::wiring::Wiring;
 use arrayvec::ArrayVec;
 use xen_netif::{Chain, Status};
 use xen_ring::{RSP_PROD, due};
 use xen_steps::{Want, header, tx_entry};
+use xen_turns::decisions::{after_answers, response};
+use xen_turns::{Kind, State, Wiring};
 
 /// The responses to a chain's slots.
 fn responses(status: Status, chain: &Chain) -> ArrayVec<u32, 23>

@@ -9,15 +9,16 @@ ghost use Rattle.xen_netif.specs.declared.status.Status.TheVariants.{Error};
 ghost use Rattle.xen_page.specs.Entry.{entry_of};
 ghost use Rattle.xen_page.specs.Grant.{checked};
 ghost use Rattle.xen_page.specs.declared.entry.Rights.TheVariants.{ReadOnly};
-ghost use Rattle.xen_back.specs.Rest.{fragment_at, rest_at, rest_in};
+ghost use Rattle.xen_turns.specs.Rest.{fragment_at};
+ghost use Rattle.xen_back.specs.Rest.{rest_at, rest_in};
 ghost use Rattle.xen_steps.specs.Pages.{HasRoom};
 ghost use Rattle.xen_steps.specs.Steps.{bind};
 ghost use Rattle.xen_rx_fill.specs.Entries.{entry_at};
-ghost use Rattle.xen_back.specs.Tree.{after_chain, after_copy, copy, entered, respond};
+ghost use Rattle.xen_turns.specs.Tree.{after_chain, after_copy, copy, entered, respond};
 ghost use Rattle.xen_steps.specs.Pages.{copy_words, covered};
-ghost use Rattle.xen_back.specs.Turned.{Refused};
-ghost use Rattle.xen_back.specs.declared.state.State.{State as StateView};
-ghost use Rattle.xen_back.specs.declared.wiring.Wiring.{Wiring as WiringView};
+ghost use Rattle.xen_turns.specs.Turned.{Refused};
+ghost use Rattle.xen_turns.specs.declared.state.State.{State as StateView};
+ghost use Rattle.xen_turns.specs.declared.wiring.Wiring.{Wiring as WiringView};
 ghost use Rattle.xen_back.specs.declared.by_event.stage.Stage.TheVariants as stages;
 
 use crate::by_event::answering::begin_answers;
@@ -26,12 +27,10 @@ use crate::by_event::executing::begin_run;
 use crate::by_event::phase::Phase;
 use crate::by_event::stage::Stage;
 use crate::copy_buf::CopyBuf;
-use crate::state::State;
-use crate::turn::{Kind, Refusal};
-use crate::wiring::Wiring;
 use arrayvec::ArrayVec;
 use xen_netif::{Chain, Fragment, Status};
 use xen_page::{Entry, Place, Rights, check};
+use xen_turns::{Kind, Refusal, State, Wiring};
 
 /// After a whole chain.
 pub(crate) fn begin_copy<'p, 'b>(

@@ -3,17 +3,16 @@
 ghost use Rattle.std.specs.Prelude.{◌≡◌, List, ℕ};
 ghost use Rattle.xen_back.specs.Rest.{at_phase, packet_at, rest_at, rest_in};
 ghost use Rattle.xen_steps.specs.Steps.{done, want_of};
-ghost use Rattle.xen_back.specs.Turned.{turned};
+ghost use Rattle.xen_turns.specs.Turned.{turned};
 ghost use Rattle.xen_back.specs.declared.by_event.phase.Phase.{Phase as PhaseView};
 ghost use Rattle.xen_back.specs.declared.by_event.phase.Phase.TheVariants as phases;
 ghost use Rattle.xen_back.specs.declared.by_event.stage.Stage.TheVariants as stages;
-ghost use Rattle.xen_back.specs.declared.wiring.Wiring.{Wiring as WiringView};
+ghost use Rattle.xen_turns.specs.declared.wiring.Wiring.{Wiring as WiringView};
 
 use crate::by_event::phase::Phase;
 use crate::by_event::stage::Stage;
-use crate::state::State;
-use crate::turn::Kind;
 use xen_steps::Want;
+use xen_turns::{Kind, State};
 
 /// Gives a stage another phase, if it has one.
 fn set_phase(stage: &mut Stage, phase: Phase)

@@ -4,22 +4,20 @@ ghost use Rattle.std.specs.Prelude.{ℕ, List, ◌≡◌, ◌≢◌, ◌+◌, So
 ghost use Rattle.bpf_vm.specs.Course.{left};
 ghost use Rattle.xen_back.specs.Rest.{rest_at, rest_in};
 ghost use Rattle.xen_steps.specs.Steps.{bind, next_by, want_of};
-ghost use Rattle.xen_back.specs.Tree.{after_copy, after_run, program};
-ghost use Rattle.xen_back.specs.declared.state.State.{State as StateView};
-ghost use Rattle.xen_back.specs.declared.wiring.Wiring.{Wiring as WiringView};
+ghost use Rattle.xen_turns.specs.Tree.{after_copy, after_run, program};
+ghost use Rattle.xen_turns.specs.declared.state.State.{State as StateView};
+ghost use Rattle.xen_turns.specs.declared.wiring.Wiring.{Wiring as WiringView};
 
 use crate::by_event::answering::begin_answers;
 use crate::by_event::phase::Phase;
 use crate::by_event::sent::begin_send;
 use crate::by_event::stage::{Executing, Stage};
 use crate::copy_buf::CopyBuf;
-use crate::decisions::status;
-use crate::state::State;
-use crate::turn::Kind;
-use crate::wiring::Wiring;
 use bpf_vm::{Vm, VmWant, XDP_TX};
 use xen_netif::Chain;
 use xen_steps::Want;
+use xen_turns::decisions::status;
+use xen_turns::{Kind, State, Wiring};
 
 /// After the copy.
 pub(crate) fn begin_run<'p, 'b>(

@@ -12,8 +12,7 @@ use crate::by_event::phase::Phase;
 use crate::by_event::sent::sent_fed;
 use crate::by_event::stage::Stage;
 use crate::copy_buf::CopyBuf;
-use crate::state::State;
-use crate::wiring::Wiring;
+use xen_turns::{State, Wiring};
 
 /// The stage after a phase's answer.
 fn phase_fed<'p, 'b>(

@@ -4,22 +4,21 @@ ghost use Rattle.std.specs.Prelude.{◌≡◌, ◌≢◌, ◌+◌, ◌-◌, ◌<
 ghost use Rattle.xen_netif.specs.Standing.{standing};
 ghost use Rattle.xen_netif.specs.declared.chain.ChainState.TheVariants.{Complete};
 ghost use Rattle.xen_steps.specs.Places.{add32, available};
-ghost use Rattle.xen_back.specs.Rest.{rest_at, rest_in, rest_of_slot};
+ghost use Rattle.xen_back.specs.Rest.{rest_at, rest_in};
+ghost use Rattle.xen_turns.specs.Rest.{rest_of_slot};
 ghost use Rattle.xen_steps.specs.Steps.{bind, next_by};
-ghost use Rattle.xen_back.specs.Tree.{after_look, after_scan, halted as halted_spec, judged, read_slots, second, seen, third, whole_turn};
-ghost use Rattle.xen_back.specs.declared.state.State.{State as StateView};
-ghost use Rattle.xen_back.specs.declared.wiring.Wiring.{Wiring as WiringView};
+ghost use Rattle.xen_turns.specs.Tree.{after_look, after_scan, halted as halted_spec, judged, read_slots, second, seen, third, whole_turn};
+ghost use Rattle.xen_turns.specs.declared.state.State.{State as StateView};
+ghost use Rattle.xen_turns.specs.declared.wiring.Wiring.{Wiring as WiringView};
 
 use crate::by_event::copying::begin_copy;
 use crate::by_event::phase::{Phase, Reading};
 use crate::by_event::stage::Stage;
 use crate::copy_buf::CopyBuf;
-use crate::decisions::halted;
-use crate::state::State;
-use crate::turn::{Halt, Kind};
-use crate::wiring::Wiring;
 use xen_netif::{Chain, ChainState};
 use xen_steps::requests_shown;
+use xen_turns::decisions::halted;
+use xen_turns::{Halt, Kind, State, Wiring};
 
 /// The end of a turn that halts.
 pub(crate) fn halt(state: &State, cause: Halt) -> Phase

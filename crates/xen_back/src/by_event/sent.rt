@@ -4,22 +4,21 @@ ghost use Rattle.std.specs.Prelude.{◌≡◌, List, ℕ};
 ghost use Rattle.xen_back.specs.Rest.{rest_at, rest_in};
 ghost use Rattle.xen_rx_fill.specs.Rest.{rest_after, rest_of};
 ghost use Rattle.xen_steps.specs.Steps.{bind, next_by, want_of};
-ghost use Rattle.xen_back.specs.Tree.{after_transmit, send};
+ghost use Rattle.xen_turns.specs.Tree.{after_transmit, send};
 ghost use Rattle.xen_back.specs.declared.by_event.stage.Stage.TheVariants as stages;
-ghost use Rattle.xen_back.specs.declared.state.State.{State as StateView};
-ghost use Rattle.xen_back.specs.declared.wiring.Wiring.{Wiring as WiringView};
+ghost use Rattle.xen_turns.specs.declared.state.State.{State as StateView};
+ghost use Rattle.xen_turns.specs.declared.wiring.Wiring.{Wiring as WiringView};
 
 use crate::by_event::answering::begin_answers;
 use crate::by_event::looking::halt;
 use crate::by_event::phase::Phase;
 use crate::by_event::stage::{Stage, Transmitting};
 use crate::copy_buf::CopyBuf;
-use crate::decisions::{Reply, after_sending};
-use crate::state::State;
-use crate::wiring::Wiring;
 use xen_netif::Chain;
 use xen_rx_fill::{Outcome, Progress, Transmit};
 use xen_steps::Want;
+use xen_turns::decisions::{Reply, after_sending};
+use xen_turns::{State, Wiring};
 
 /// After a run that ended in TX.
 pub(crate) fn begin_send(chain: Chain, ops: u32) -> Transmitting

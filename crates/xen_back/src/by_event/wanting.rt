@@ -9,12 +9,11 @@ use crate::by_event::executing::executing_want;
 use crate::by_event::phase::Phase;
 use crate::by_event::sent::sent_want;
 use crate::by_event::stage::Stage;
-use crate::decisions::slot_index;
-use crate::state::State;
-use crate::wiring::Wiring;
 use xen_page::Place;
 use xen_ring::{REQ_EVENT, REQ_PROD, RSP_EVENT};
 use xen_steps::{Want, header, tx_entry};
+use xen_turns::decisions::slot_index;
+use xen_turns::{State, Wiring};
 
 /// What a phase wants.
 fn phase_want(wiring: &Wiring, state: &State, phase: &Phase) -> Want

@@ -6,17 +6,18 @@ ghost use Rattle.xen_steps.specs.Drive.{IsPageWant};
 ghost use Rattle.xen_steps.specs.Steps.{done, next_by, want_of};
 ghost use Rattle.xen_rx_fill.specs.Wired.{IsWired};
 ghost use Rattle.xen_rx_fill.specs.declared.vif.Vif.{Vif as VifView};
-ghost use Rattle.xen_back.specs.Delivered.{is_frame};
+ghost use Rattle.xen_turns.specs.Delivered.{is_frame};
 ghost use Rattle.xen_back.specs.ByEvent.{IsDeliveryAsked, IsDeliveryFed, frames_of, left_of};
-ghost use Rattle.xen_back.specs.Deliveries.{Arrival, rest_moving, unless_halted, whole_delivery};
+ghost use Rattle.xen_turns.specs.Deliveries.{Arrival, unless_halted, whole_delivery};
+ghost use Rattle.xen_back.specs.Deliveries.{rest_moving};
 
-use crate::delivery::delivering::{Delivery, can_be_delivered, delivered};
 use crate::delivery::moving::{Moving, Sending};
 use crate::delivery::underway::Delivering;
-use crate::state::State;
 use std::mem;
 use xen_rx_fill::{Progress, Transmit, Vif};
 use xen_steps::{Answer, Want};
+use xen_turns::decisions::{can_be_delivered, delivered};
+use xen_turns::{Delivery, State};
 
 /// A delivery of which nothing is done.
 fn begun<'d>(state: &State, packet: &'d [u8]) -> Moving<'d>

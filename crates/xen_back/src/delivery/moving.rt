@@ -2,9 +2,8 @@
 
 ghost use Rattle.std.specs.Prelude.{◌≤◌, length};
 
-use crate::delivery::delivering::Delivery;
-use crate::state::State;
 use xen_rx_fill::Transmit;
+use xen_turns::{Delivery, State};
 
 /// A packet that is being sent.
 #[derive(Drop)]

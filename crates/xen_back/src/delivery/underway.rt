@@ -1,10 +1,11 @@
 //! A delivery that is under way.
 
-ghost use Rattle.xen_back.specs.Deliveries.{Arrives, Arrives-prop, rest_moving};
+ghost use Rattle.xen_turns.specs.Deliveries.{Arrives, Arrives-prop};
+ghost use Rattle.xen_back.specs.Deliveries.{rest_moving};
 
 use crate::delivery::moving::Moving;
-use crate::state::State;
 use xen_rx_fill::Vif;
+use xen_turns::State;
 
 /// A delivery of a packet that is taken one event at a time: [`Queue::begin_delivery`](crate::Queue::begin_delivery) makes
 /// it, and [`Queue::end_delivery`](crate::Queue::end_delivery) ends it. It lends the packet.

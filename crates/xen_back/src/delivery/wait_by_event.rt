@@ -4,14 +4,15 @@ ghost use Rattle.std.specs.Prelude.{◌≡◌, ◌≢◌, ◌<◌, ℕ};
 ghost use Rattle.xen_steps.specs.Answers.{Fits};
 ghost use Rattle.xen_steps.specs.Drive.{IsPageWant};
 ghost use Rattle.xen_steps.specs.Steps.{done, next_by, want_of};
-ghost use Rattle.xen_back.specs.Waits.{Wait, rest_looking, whole_wait};
+ghost use Rattle.xen_turns.specs.Waits.{Wait, whole_wait};
+ghost use Rattle.xen_back.specs.Waits.{rest_looking};
 ghost use Rattle.xen_back.specs.WaitsByEvent.{IsWaitFed, left_of_wait};
 
-use crate::delivery::wait::{Awaited, wait_answer};
 use crate::delivery::wait_stage::{Awaiting, Looking};
-use crate::state::State;
 use xen_ring::{REQ_EVENT, REQ_PROD};
 use xen_steps::{Answer, Want, header, requests_shown};
+use xen_turns::decisions::wait_answer;
+use xen_turns::{Awaited, State};
 
 /// A wait of which nothing is done.
 pub(crate) fn begun(state: &State) -> Looking

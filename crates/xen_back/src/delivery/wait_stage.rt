@@ -1,7 +1,6 @@
 //! A wait that is under way.
 
-use crate::delivery::wait::Awaited;
-use crate::state::State;
+use xen_turns::{Awaited, State};
 
 /// Where a wait is.
 #[derive(Clone, Copy, Debug, PartialEq, Eq)]

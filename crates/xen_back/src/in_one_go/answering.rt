@@ -7,20 +7,19 @@ ghost use Rattle.xen_page.specs.declared.access.Access.TheVariants as accesses;
 ghost use Rattle.xen_steps.specs.Event.{Event};
 ghost use Rattle.xen_steps.specs.Places.{add32, page_word, tx_entry as tx_entry_place};
 ghost use Rattle.xen_steps.specs.Steps.{done};
-ghost use Rattle.xen_back.specs.Drive.{Driven};
+ghost use Rattle.xen_turns.specs.Drive.{Driven};
 ghost use Rattle.xen_back.specs.InOneGo.{IsServed, Serve, ServeOn};
-ghost use Rattle.xen_back.specs.Responses.{response as response_word};
-ghost use Rattle.xen_back.specs.Tree.{answer as answer_from, answered, publish, respond};
-ghost use Rattle.xen_back.specs.Turned.{Ending, Turned};
+ghost use Rattle.xen_turns.specs.Responses.{response as response_word};
+ghost use Rattle.xen_turns.specs.Tree.{answer as answer_from, answered, publish, respond};
+ghost use Rattle.xen_turns.specs.Turned.{Ending, Turned};
 
-use crate::decisions::response;
 use crate::in_one_go::service::Service;
-use crate::state::State;
-use crate::wiring::Wiring;
 use xen_netif::{Status, TxReq};
 use xen_page::Bus;
 use xen_ring::{Ports, RSP_EVENT, RSP_PROD, due};
 use xen_steps::{header, tx_entry};
+use xen_turns::decisions::response;
+use xen_turns::{State, Wiring};
 
 /// Writes the i-th response of a chain.
 fn write_answer<B: Bus>(wiring: &Wiring, bus: &mut B, at: &State, i: usize, word: u32)

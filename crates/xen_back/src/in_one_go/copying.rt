@@ -9,17 +9,17 @@ ghost use Rattle.xen_steps.specs.Event.{Event};
 ghost use Rattle.xen_steps.specs.Steps.{Steps, bind};
 ghost use Rattle.xen_steps.specs.Pages.{HasRoom};
 ghost use Rattle.xen_rx_fill.specs.Wired.{IsWired};
-ghost use Rattle.xen_back.specs.Drive.{Driven};
+ghost use Rattle.xen_turns.specs.Drive.{Driven};
 ghost use Rattle.xen_back.specs.InOneGo.{after_fragment, copied};
-ghost use Rattle.xen_back.specs.Tree.{copy};
-ghost use Rattle.xen_back.specs.Turned.{Ending};
-ghost use Rattle.xen_back.specs.Reads.{AreReadFrom};
+ghost use Rattle.xen_turns.specs.Tree.{copy};
+ghost use Rattle.xen_turns.specs.Turned.{Ending};
+ghost use Rattle.xen_turns.specs.Reads.{AreReadFrom};
 
 use crate::copy_buf::CopyBuf;
-use crate::wiring::Wiring;
 use xen_netif::Fragment;
 use xen_page::{Bus, GrantFault, Place, Rights};
 use xen_rx_fill::read_grant;
+use xen_turns::Wiring;
 
 /// Puts a fragment's bytes in a word of its page after a packet's bytes.
 fn push_part(fragment: &Fragment, place: u32, word: u32, packet: &mut CopyBuf<'_>)

@@ -10,18 +10,16 @@ ghost use Rattle.xen_steps.specs.Event.{Event};
 ghost use Rattle.xen_steps.specs.Places.{page_word, tx_entry as tx_entry_place};
 ghost use Rattle.xen_steps.specs.Steps.{bind};
 ghost use Rattle.xen_rx_fill.specs.Wired.{IsWired};
-ghost use Rattle.xen_back.specs.Drive.{Driven};
+ghost use Rattle.xen_turns.specs.Drive.{Driven};
 ghost use Rattle.xen_back.specs.InOneGo.{after_slot};
-ghost use Rattle.xen_back.specs.Tree.{after_look, after_scan, announce, look as look_spec};
+ghost use Rattle.xen_turns.specs.Tree.{after_look, after_scan, announce, look as look_spec};
 
-use crate::decisions::slot_index;
-use crate::state::State;
-use crate::turn::Halt;
-use crate::wiring::Wiring;
 use xen_netif::{Chain, ChainState, TxReq};
 use xen_page::Bus;
 use xen_ring::{REQ_EVENT, REQ_PROD};
 use xen_steps::{header, requests_shown, tx_entry};
+use xen_turns::decisions::slot_index;
+use xen_turns::{Halt, State, Wiring};
 
 /// Reads the producer.
 fn read_producer<B: Bus>(bus: &mut B, frame: u32) -> u32

@@ -7,19 +7,18 @@ ghost use Rattle.xen_netif.specs.Fragments.{fragment_size, is_in_page};
 ghost use Rattle.xen_netif.specs.declared.status.Status.TheVariants.{Error};
 ghost use Rattle.xen_steps.specs.Steps.{bind};
 ghost use Rattle.xen_back.specs.InOneGo.{IsServed, Serve, ServeOn, ended};
-ghost use Rattle.xen_back.specs.Tree.{after_copy, copy, respond, send};
-ghost use Rattle.xen_back.specs.Turned.{Refused};
+ghost use Rattle.xen_turns.specs.Tree.{after_copy, copy, respond, send};
+ghost use Rattle.xen_turns.specs.Turned.{Refused};
 
 use crate::copy_buf::{CopyBuf, Ended};
-use crate::decisions::{after_answers, after_sending, halted, status};
 use crate::in_one_go::copying::copy_fragments;
 use crate::in_one_go::service::Service;
-use crate::state::State;
-use crate::turn::{Kind, Refusal};
 use bpf_vm::XDP_TX;
 use xen_netif::{Fragment, Status, TxReq};
 use xen_page::Bus;
 use xen_rx_fill::send_packet;
+use xen_turns::decisions::{after_answers, after_sending, halted, status};
+use xen_turns::{Kind, Refusal, State};
 
 impl<'a, 'c, 'p, B: Bus> Service<'a, 'c, 'p, B> {
     /// Sends a packet back, and answers its slots. It isn't inlined, so that its frame isn't cleared if nothing is sent.

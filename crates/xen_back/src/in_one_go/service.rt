@@ -1,9 +1,9 @@
 //! What serves a turn.
 
-use crate::wiring::Wiring;
 use bpf_maps::{CounterSeat, Counters};
 use xen_page::Bus;
 use xen_ring::Ports;
+use xen_turns::Wiring;
 
 /// What serves a turn from its first slot on: what its queue is wired to, and the caller's bus, counters with a seat, and ports.
 /// The packet isn't in it: a `&mut` to a value that borrows can't be a field here. What isn't lent anew where the struct is made

@@ -3,20 +3,18 @@
 ghost use Rattle.std.specs.Prelude.{◌≡◌, ◌<◌, List, ℕ, suc, [], ◌∷◌, Some};
 ghost use Rattle.xen_netif.specs.Fragments.{fragments_of};
 ghost use Rattle.xen_steps.specs.Event.{Event};
-ghost use Rattle.xen_back.specs.Drive.{Driven};
+ghost use Rattle.xen_turns.specs.Drive.{Driven};
 ghost use Rattle.xen_back.specs.InOneGo.{IsServed, Serve, ServeOn, after_begin, after_slot, ended};
-ghost use Rattle.xen_back.specs.Tree.{after_chain, after_look, whole_turn};
-ghost use Rattle.xen_back.specs.declared.wiring.Wiring.{Wiring as WiringView};
+ghost use Rattle.xen_turns.specs.Tree.{after_chain, after_look, whole_turn};
+ghost use Rattle.xen_turns.specs.declared.wiring.Wiring.{Wiring as WiringView};
 
 use crate::copy_buf::CopyBuf;
-use crate::decisions::halted;
 use crate::in_one_go::looking::{SingleSlot, look, read_chain, read_slot};
 use crate::in_one_go::service::Service;
-use crate::state::State;
-use crate::turn::{Halt, Kind, Refusal};
-use crate::wiring::Wiring;
 use xen_netif::{TxReq, is_alone, only_fragment};
 use xen_page::Bus;
+use xen_turns::decisions::halted;
+use xen_turns::{Halt, Kind, Refusal, State, Wiring};
 
 /// How many of the requests shown are after the first, or how the turn ends without one. `None` is more than a ring has.
 fn behind_first(state: &mut State, shown: Option<u32>) -> Result<u32, Kind>

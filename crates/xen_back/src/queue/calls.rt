@@ -9,28 +9,28 @@ ghost use Rattle.bpf_maps.specs.Seats.{IsSeatOf};
 ghost use Rattle.xen_steps.specs.Answers.{Fits};
 ghost use Rattle.xen_steps.specs.Event.{Event};
 ghost use Rattle.xen_steps.specs.Steps.{done, want_of};
-ghost use Rattle.xen_back.specs.Drive.{Driven, IsTurnOver};
+ghost use Rattle.xen_turns.specs.Drive.{Driven};
+ghost use Rattle.xen_back.specs.Drive.{IsTurnOver};
 ghost use Rattle.xen_back.specs.InOneGo.{ended_in};
 ghost use Rattle.xen_back.specs.Queues.{HasRest, IsAsked, IsFed, IsOver, IsReady, IsSameWiring, rest, rx_ring_of, state_of, tx_ring_of, wiring_of};
-ghost use Rattle.xen_back.specs.Tree.{after_look, whole_turn};
-ghost use Rattle.xen_back.specs.Turned.{Ending};
-ghost use Rattle.xen_back.specs.Within.{may_want};
+ghost use Rattle.xen_turns.specs.Tree.{after_look, whole_turn};
+ghost use Rattle.xen_turns.specs.Turned.{Ending};
+ghost use Rattle.xen_turns.specs.Within.{may_want};
 ghost use Rattle.xen_back.specs.contracts.queue.Queue.{the_row};
 
 use crate::by_event::ending::over;
 use crate::by_event::feeding::stage_fed;
 use crate::by_event::stage::Stage;
 use crate::by_event::wanting::stage_want;
-use crate::decisions::shown;
 use crate::in_one_go::service::Service;
 use crate::in_one_go::turning::begin;
 use crate::queue::Queue;
-use crate::state::State;
-use crate::turn::{Kind, Turn};
+use crate::shown::shown;
 use bpf_maps::{CounterSeat, Counters};
 use xen_page::{Bus, Mapped};
 use xen_ring::Ports;
 use xen_steps::{Answer, Want};
+use xen_turns::{Kind, State, Turn};
 
 impl<'p, 'b> Queue<'p, 'b> {
     /// What the queue wants next.

@@ -7,12 +7,13 @@ ghost use Rattle.xen_back.specs.Delivered.{IsDelivered};
 ghost use Rattle.xen_back.specs.Queues.{IsReady, wiring_of};
 
 use crate::delivery::by_event::{outcome_of, underway};
-use crate::delivery::delivering::{Delivery, sent_out};
+use crate::delivery::delivering::sent_out;
 use crate::delivery::underway::Delivering;
 use crate::queue::Queue;
 use xen_page::Bus;
 use xen_ring::Ports;
 use xen_steps::Want;
+use xen_turns::Delivery;
 
 impl<'p, 'b> Queue<'p, 'b> {
     /// Delivers a packet of the host's own to the frontend: it is copied into the buffers of posted rx slots, which are

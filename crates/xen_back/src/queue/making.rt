@@ -11,19 +11,18 @@ use crate::by_event::stage::Stage;
 use crate::copy_buf::CopyBuf;
 use crate::desc::QueueDesc;
 use crate::queue::Queue;
-use crate::state::State;
-use crate::wiring::Wiring;
-use bpf_lists::KeyedRows;
+use bpf_lists::MapList;
 use bpf_verify::Verified;
 use bpf_vm::Buffer;
 use xen_rx_fill::Vif;
+use xen_turns::{State, Wiring};
 
 impl<'p, 'b> Queue<'p, 'b> {
     /// A queue between turns, which keeps its packets in the buffer. The lists are those of the program's maps, by the maps'
     /// numbers.
     pub fn make(
         program: &'p Verified,
-        lists: &'p [Option<KeyedRows>],
+        lists: &'p [Option<MapList>],
         desc: QueueDesc<'p>,
         buffer: &'b mut Buffer,
     ) -> Queue<'p, 'b>
@@ -45,7 +44,7 @@ impl<'p, 'b> Queue<'p, 'b> {
     /// [`Queue::state`] was between turns. The description's `start` isn't looked at; a queue that had halted stays halted.
     pub fn resume(
         program: &'p Verified,
-        lists: &'p [Option<KeyedRows>],
+        lists: &'p [Option<MapList>],
         desc: QueueDesc<'p>,
         state: State,
         buffer: &'b mut Buffer,

@@ -6,12 +6,13 @@ ghost use Rattle.xen_back.specs.Awaited.{HasAwaited};
 ghost use Rattle.xen_back.specs.Queues.{IsReady, wiring_of};
 ghost use Rattle.xen_back.specs.WaitsByEvent.{IsWaitBegun, IsWaitOf, IsWaitOver, left_of_wait};
 
-use crate::delivery::wait::{Awaited, looked_for};
+use crate::delivery::wait::looked_for;
 use crate::delivery::wait_by_event::begun;
 use crate::delivery::wait_stage::{Awaiting, Looking};
 use crate::queue::Queue;
 use xen_page::Bus;
 use xen_steps::Want;
+use xen_turns::Awaited;
 
 impl<'p, 'b> Queue<'p, 'b> {
     /// Asks the frontend for a notice as soon as it has posted `pages` rx slots, and looks whether it has by now: after

@@ -3,7 +3,7 @@
 ghost use Rattle.std.specs.Prelude.{◌≡◌, IsSome, Some, length, slice_get};
 ghost use Rattle.bpf_note.specs.declared.key.MapKey.TheVariants.{Index};
 ghost use Rattle.bpf_maps.specs.Seats.{IsSeatOf};
-ghost use Rattle.xen_host.specs.Queues.{resting};
+ghost use Rattle.xen_host.specs.Queues.{resting, wired_to};
 
 use super::turns::{COUNTS, FOURTEEN};
 use crate::bench::{page, shipped};
@@ -14,10 +14,10 @@ use xen_back_tests::bench::seated;
 use xen_host::{Op, Queue};
 
 /// What a packet of fourteen bytes is read by: its slot, its grant's entry, its page, and the event index.
-const READS: [[u32; 3]; 4] = [[2, 0, FOURTEEN], [1, 19, 0], [0, 0, 0], [0, 0, 0]];
+pub const READS: [[u32; 3]; 4] = [[2, 0, FOURTEEN], [1, 19, 0], [0, 0, 0], [0, 0, 0]];
 
 /// No op.
-const NONE: Op = Op {
+pub const NONE: Op = Op {
     kind: 0,
     frame: 0,
     word: 0,
@@ -44,10 +44,10 @@ fn step(
     seat: &mut CounterSeat,
     front: [u32; 3],
 ) -> Op
-    requires shapes { counters.now.shapes ≡ queue.old.engine.wires.program.shapes }
+    requires shapes { counters.now.shapes ≡ (wired_to queue.old).program.shapes }
     requires seat { IsSeatOf counters.now seat.old }
     ensures words { length words.new ≡ length words.old }
-    ensures shapes { counters.now.shapes ≡ queue.new.engine.wires.program.shapes }
+    ensures shapes { counters.now.shapes ≡ (wired_to queue.new).program.shapes }
     ensures seat { IsSeatOf counters.now seat.new }
 {
     for (word, read) in words.iter_mut().zip(front) {
@@ -67,7 +67,7 @@ fn whole_turn(
 ) -> Op
     requires rests { IsSome (resting queue.old) }
     requires page { length words.old ≡ 1024 }
-    requires shapes { counters.now.shapes ≡ queue.old.engine.wires.program.shapes }
+    requires shapes { counters.now.shapes ≡ (wired_to queue.old).program.shapes }
     requires seat { IsSeatOf counters.now seat.old }
     ensures words { length words.new ≡ 1024 }
     ensures seat { IsSeatOf counters.now seat.new }

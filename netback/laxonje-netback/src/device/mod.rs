@@ -278,7 +278,11 @@ impl Device {
         if !filter.counts_as(&self.filter) {
             self.counted = filter.program.new_counters();
         }
+        let lists_alone = filter.lists_of == self.filter.number;
         self.filter = filter;
+        if lists_alone {
+            return format!("the lists are now those of {}", self.filter.path.display());
+        }
         format!("the filter is now {}, {} instructions", self.filter.path.display(), self.filter.program.instructions())
     }
 }

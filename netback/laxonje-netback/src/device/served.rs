@@ -72,6 +72,7 @@ impl Device {
             program: self.filter.number,
             fresh,
             notifies: front.notifies,
+            scatters: front.scatters,
             queues: keys,
         };
         let descriptors: Vec<RawFd> = open.iter().flat_map(|(tap, events)| [tap.fd(), events.fd()]).collect();

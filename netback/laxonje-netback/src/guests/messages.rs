@@ -17,8 +17,8 @@ const MOST_QUEUES: usize = 64;
 pub enum Order {
     /// A part of a settings text.
     Text(Vec<u8>),
-    /// The text is whole: verify it, and keep the program under this number.
-    Program { number: u64 },
+    /// The text is whole: verify it, and keep the program under this number. It differs from that of `lists_of` in rows alone, if that is known.
+    Program { number: u64, lists_of: u64 },
     /// No device has that program any longer.
     Forget { number: u64 },
     /// Serve a device. For each queue two descriptors come along: of the TAP and of the event channel.
@@ -41,6 +41,8 @@ pub struct Connect {
     /// The rings begin at 0; else they are gone on with where they stand.
     pub fresh: bool,
     pub notifies: bool,
+    /// The guest takes packets of more than a page.
+    pub scatters: bool,
     /// The references of the rings, and the port that is bound.
     pub queues: Vec<QueueKeys>,
 }
@@ -133,7 +135,7 @@ impl Order {
     pub fn encode(&self) -> Vec<u8> {
         match self {
             Order::Text(part) => Writer::of(0).bytes(part),
-            Order::Program { number } => Writer::of(1).long(*number),
+            Order::Program { number, lists_of } => Writer::of(1).long(*number).long(*lists_of),
             Order::Forget { number } => Writer::of(2).long(*number),
             Order::Connect(connect) => connect.write(Writer::of(3)),
             Order::Replace { device, number } => Writer::of(4).number(*device).long(*number),
@@ -147,7 +149,7 @@ impl Order {
         let mut from = Reader::of(message);
         let order = match from.kind()? {
             0 => Order::Text(from.bytes(TEXT_PART)?.to_vec()),
-            1 => Order::Program { number: from.long()? },
+            1 => Order::Program { number: from.long()?, lists_of: from.long()? },
             2 => Order::Forget { number: from.long()? },
             3 => Order::Connect(Connect::read(&mut from)?),
             4 => Order::Replace { device: from.number()?, number: from.long()? },
@@ -161,9 +163,9 @@ impl Order {
 
 impl Connect {
     fn write(&self, to: Writer) -> Writer {
-        let Connect { device, connection, ifindex, program, fresh, notifies, queues } = self;
+        let Connect { device, connection, ifindex, program, fresh, notifies, scatters, queues } = self;
         let to = to.number(*device).long(*connection).number(*ifindex).long(*program).flag(*fresh).flag(*notifies);
-        let to = to.number(queues.len() as u32);
+        let to = to.flag(*scatters).number(queues.len() as u32);
         queues.iter().fold(to, |to, keys| to.number(keys.tx).number(keys.rx).number(keys.event))
     }
 
@@ -175,6 +177,7 @@ impl Connect {
             program: from.long()?,
             fresh: from.flag()?,
             notifies: from.flag()?,
+            scatters: from.flag()?,
             queues: Connect::queues(from)?,
         })
     }

@@ -122,7 +122,7 @@ impl Process {
             for part in filter.text.chunks(TEXT_PART) {
                 self.order(&Order::Text(part.to_vec()))?;
             }
-            self.order(&Order::Program { number: filter.number })?;
+            self.order(&Order::Program { number: filter.number, lists_of: filter.lists_of })?;
         }
         Ok(())
     }
@@ -360,9 +360,18 @@ mod tests {
         let filter = |number| {
             let text = include_bytes!("../../../../examples/count-protocols/settings.toml").to_vec();
             let program = laxonje::Program::from_settings(&text).unwrap();
-            Filter { path: "f.toml".into(), program, text, number }
+            Filter { path: "f.toml".into(), program, text, number, lists_of: 0 }
         };
-        let connect = |device| Connect { device, connection: 1, ifindex: 1, program: 0, fresh: true, notifies: true, queues: Vec::new() };
+        let connect = |device| Connect {
+            device,
+            connection: 1,
+            ifindex: 1,
+            program: 0,
+            fresh: true,
+            notifies: true,
+            scatters: true,
+            queues: Vec::new(),
+        };
         let (first, second) = (filter(1), filter(2));
         let said = || {
             let mut room = [0; MOST_MESSAGE];
@@ -371,12 +380,12 @@ mod tests {
         };
         process.connect(&first, connect(0), &[]).unwrap();
         process.connect(&first, connect(1), &[]).unwrap();
-        assert_eq!(said(), [Order::Program { number: 1 }, Order::Connect(connect(0)), Order::Connect(connect(1))]);
+        assert_eq!(said(), [Order::Program { number: 1, lists_of: 0 }, Order::Connect(connect(0)), Order::Connect(connect(1))]);
         process.replace(0, &second).unwrap();
-        assert_eq!(said(), [Order::Program { number: 2 }, Order::Replace { device: 0, number: 2 }]);
+        assert_eq!(said(), [Order::Program { number: 2, lists_of: 0 }, Order::Replace { device: 0, number: 2 }]);
         process.replace(1, &second).unwrap();
         assert_eq!(said(), [Order::Replace { device: 1, number: 2 }, Order::Forget { number: 1 }]);
         process.replace(1, &first).unwrap();
-        assert_eq!(said(), [Order::Program { number: 1 }, Order::Replace { device: 1, number: 1 }]);
+        assert_eq!(said(), [Order::Program { number: 1, lists_of: 0 }, Order::Replace { device: 1, number: 1 }]);
     }
 }

@@ -1,15 +1,17 @@
 //! The process of a guest: it takes the main process's orders, and serves the guest's devices by threads. It has no capability.
 use super::messages::{Cause, Connect, Order, Report, MOST_MESSAGE, WORDS_PART};
+use crate::filters::relisted;
 use crate::keys::QueueKeys;
 use crate::log::{self, Log, Logs};
 use crate::options::Options;
 use crate::os::{
-    end_by_faults, keep_capabilities, restrict_to_guest, set_name, set_priority, wait, Keeps, Signals, Socket, Tap, Wanted, FROM_USERS,
+    end_by_faults, keep_capabilities, limit_memory, look_for_memory, restrict_to_guest, set_name, set_priority, wait, Keeps, Signals,
+    Socket, Tap, Wanted, FROM_USERS,
 };
-use crate::serve::{self, make_queue, Ended, Handle, Place, Reports, Told, Way, Worker, XenGuest};
+use crate::serve::{self, make_queue, Ended, Handle, Place, Reports, Told, Way, Worker, XenGuest, QUEUE_BYTES};
 use crate::stats::Totals;
 use crate::xen::{Events, Grants};
-use laxonje::Program;
+use laxonje::{Counters, Program, MOST_SHARES};
 use std::collections::BTreeMap;
 use std::io::{self, Read};
 use std::os::unix::io::{AsRawFd, OwnedFd};
@@ -23,6 +25,9 @@ use std::time::{Duration, Instant};
 const PATIENCE: Duration = Duration::from_secs(1);
 /// A longer text of settings is cut off: `Program::from_settings` refuses it then.
 const MOST_TEXT: usize = (1 << 20) + 1;
+/// The memory that is to be left beside queues: to verify another filter, and for messages.
+const SPARE_BYTES: usize = 8 << 20;
+const MEGABYTE: u64 = 1 << 20;
 
 struct Serving {
     domain: u16,
@@ -44,6 +49,31 @@ struct Serving {
 struct Served {
     queues: Vec<Handle>,
     totals: Vec<Arc<Totals>>,
+    /// What its queues count by, if they share counters.
+    counters: Option<Counters>,
+}
+
+impl Served {
+    /// What the program counted in the counters that the queues share stands with what the first of them counted.
+    fn add_shared(&mut self, told: &mut [Option<Told>]) {
+        if let (Some(counters), Some(first)) = (&mut self.counters, told.iter_mut().flatten().next()) {
+            for (sum, count) in first.counters.iter_mut().zip(counters.all()) {
+                *sum = sum.wrapping_add(count);
+            }
+        }
+    }
+}
+
+/// Counters that the queues of a device share, if there are several. A queue that can't share them has its own.
+fn shared(program: &Program, workers: &mut [Worker]) -> Option<Counters> {
+    if workers.len() < 2 {
+        return None;
+    }
+    let mut counters = Counters::new(program, workers.len().min(MOST_SHARES)).ok()?;
+    for worker in workers {
+        let _ = worker.queue.share(&mut counters);
+    }
+    Some(counters)
 }
 
 /// Serves a guest's devices until the main process closes its end. `own`: the number of this domain.
@@ -51,6 +81,7 @@ pub fn serve_guest(domain: u16, own: u16, options: &Options) -> io::Result<()> {
     let _from_users = Signals::block(&FROM_USERS)?;
     end_by_faults();
     set_name("laxonje-guest")?;
+    limit_memory(u64::from(options.memory) * MEGABYTE)?;
     let main = Arc::new(Socket::of_input()?);
     send_lines(Arc::clone(&main));
     let log = Log::of("guest");
@@ -109,7 +140,7 @@ impl Serving {
     fn obey(&mut self, order: Order, descriptors: Vec<OwnedFd>) -> io::Result<()> {
         match order {
             Order::Text(part) => self.text.extend(part.iter().take(MOST_TEXT.saturating_sub(self.text.len()))),
-            Order::Program { number } => self.verify(number),
+            Order::Program { number, lists_of } => self.verify(number, lists_of),
             Order::Forget { number } => drop(self.programs.remove(&number)),
             Order::Connect(connect) => {
                 let (device, connection) = (connect.device, connect.connection);
@@ -126,16 +157,19 @@ impl Serving {
         Ok(())
     }
 
-    /// The main process has verified the text too.
-    fn verify(&mut self, number: u64) {
-        match Program::from_settings(&std::mem::take(&mut self.text)) {
+    /// The main process has verified the text too. A program that differs in its lists alone isn't verified.
+    fn verify(&mut self, number: u64, lists_of: u64) {
+        let text = std::mem::take(&mut self.text);
+        let known = self.programs.get(&lists_of).and_then(|program| relisted(program, &text));
+        match known.map_or_else(|| Program::from_settings(&text), Ok) {
             Ok(program) => drop(self.programs.insert(number, program)),
             Err(error) => self.log.line(&format!("a filter isn't accepted: {error}")),
         }
     }
 
     fn connect(&mut self, connect: &Connect, descriptors: Vec<OwnedFd>) -> Result<(), String> {
-        let program = self.programs.get(&connect.program).ok_or("its filter isn't accepted")?;
+        let (program, count) = (self.programs.get(&connect.program).ok_or("its filter isn't accepted")?, connect.queues.len());
+        look_for_memory(SPARE_BYTES + count * QUEUE_BYTES).map_err(|error| format!("{count} queues: {error}: see --memory"))?;
         let (stalled, log) = (Arc::new(AtomicUsize::new(0)), self.logs.of(connect.device));
         let mut descriptors = descriptors.into_iter();
         let mut workers = Vec::new();
@@ -147,9 +181,11 @@ impl Serving {
             let queue = make_queue(program, &guest, self.domain, connect.ifindex, number).map_err(|error| error.to_string())?;
             let place = Place { domain: self.domain, device: connect.device, queue: number, connection: connect.connection };
             let (stalled, log) = (Arc::clone(&stalled), log.clone());
-            workers.push(Worker { place, guest, events, queue, tap: Tap::of(tap), totals, stalled, log, notifies: connect.notifies });
+            let (notifies, scatters) = (connect.notifies, connect.scatters);
+            workers.push(Worker { place, guest, events, queue, tap: Tap::of(tap), totals, stalled, log, notifies, scatters });
         }
-        self.start(connect.device, workers)
+        let counters = shared(program, &mut workers);
+        self.start(connect.device, workers, counters)
     }
 
     /// Maps a queue's rings.
@@ -164,8 +200,8 @@ impl Serving {
         Ok(guest)
     }
 
-    fn start(&mut self, device: u32, workers: Vec<Worker>) -> Result<(), String> {
-        let (mut served, mut started) = (Served::default(), Ok(()));
+    fn start(&mut self, device: u32, workers: Vec<Worker>, counters: Option<Counters>) -> Result<(), String> {
+        let (mut served, mut started) = (Served { counters, ..Served::default() }, Ok(()));
         for worker in workers {
             let totals = Arc::clone(&worker.totals);
             match worker.start(self.reports.clone()) {
@@ -188,6 +224,7 @@ impl Serving {
             (Some(program), Some(served)) => (program, served),
             _ => return,
         };
+        served.counters = served.counters.take().filter(|counters| counters.fit(program));
         for queue in &mut served.queues {
             match program.try_clone() {
                 Ok(program) => drop(queue.order(serve::Order::Replace(program))),
@@ -208,7 +245,8 @@ impl Serving {
         let asked: Vec<_> = served.queues.iter_mut().map(ask).collect();
         let until = Instant::now() + PATIENCE;
         let wait = |told: Receiver<Told>| told.recv_timeout(until.saturating_duration_since(Instant::now())).ok();
-        let told: Vec<_> = asked.into_iter().map(|asked| asked.and_then(wait)).collect();
+        let mut told: Vec<_> = asked.into_iter().map(|asked| asked.and_then(wait)).collect();
+        served.add_shared(&mut told);
         send_counts(&self.main, (device, question), served, &told)
     }
 
@@ -218,7 +256,8 @@ impl Serving {
             None => return self.main.send(&Report::Done { device, question }.encode()),
         };
         let stop = |queue: Handle| Some(Told { counters: queue.stop(), rings: None });
-        let told: Vec<_> = std::mem::take(&mut served.queues).into_iter().map(stop).collect();
+        let mut told: Vec<_> = std::mem::take(&mut served.queues).into_iter().map(stop).collect();
+        served.add_shared(&mut told);
         for totals in &served.totals {
             Totals::set(&totals.shared_pages, 0);
         }

@@ -32,13 +32,17 @@ fn program() -> PathBuf {
 }
 
 fn bench() -> Option<Bench> {
+    bench_by("0 --grants copy --nice 0")
+}
+
+fn bench_by(words: &str) -> Option<Bench> {
     let alone = ALONE.lock().unwrap_or_else(PoisonError::into_inner);
     if Path::new("/dev/xen/gntdev").exists() {
         return None;
     }
     let path = std::env::temp_dir().join(format!("laxonje-guests-{}.lock", std::process::id()));
     let held = lock(&path, LONG).unwrap();
-    let words: Vec<_> = "0 --grants copy --nice 0".split(' ').map(str::to_owned).collect();
+    let words: Vec<_> = words.split(' ').map(str::to_owned).collect();
     let guests = Guests::of_program(&program(), &words, &held).unwrap();
     let starter = until_some(|| of_words(std::process::id(), "start-guests").pop());
     Some(Bench { guests: Some(guests), starter, came: VecDeque::new(), path, _alone: alone })
@@ -96,6 +100,7 @@ fn filter(text: &[u8]) -> Filter {
         program: laxonje::Program::from_settings(count).unwrap(),
         text: text.to_vec(),
         number: text.len() as u64,
+        lists_of: 0,
     }
 }
 
@@ -110,9 +115,14 @@ impl Bench {
 
     /// Has the domain's process serve a device by this filter; descriptors are any. Returns the number of the process.
     fn connect_by(&mut self, domain: u16, device: u32, filter: &Filter) -> u64 {
+        self.connect_queues(domain, device, filter, 1)
+    }
+
+    fn connect_queues(&mut self, domain: u16, device: u32, filter: &Filter, count: usize) -> u64 {
         let (first, second) = Socket::pair().unwrap();
-        let queues = vec![QueueKeys { tx: 8, rx: 9, event: 3 }];
-        let connect = Connect { device, connection: 1, ifindex: 1, program: filter.number, fresh: true, notifies: true, queues };
+        let queues = vec![QueueKeys { tx: 8, rx: 9, event: 3 }; count];
+        let connect =
+            Connect { device, connection: 1, ifindex: 1, program: filter.number, fresh: true, notifies: true, scatters: true, queues };
         self.guests().connect(domain, filter, connect, &[first.fd(), second.fd()]).unwrap()
     }
 
@@ -211,6 +221,23 @@ fn one_has_no_capability_a_list_of_system_calls_and_few_descriptors() {
     open.retain(|name| !name.starts_with("socket:") && !name.contains("signalfd"));
     open.sort();
     assert_eq!((descriptors(process).len(), open), (7, vec!["/dev/null".to_owned(), bench.path.display().to_string()]));
+}
+
+#[test]
+fn memory_that_runs_out_is_told_and_the_process_goes_on() {
+    let mut bench = match bench_by("0 --grants copy --nice 0 --memory 64") {
+        Some(bench) => bench,
+        None => return,
+    };
+    let filter = filter(include_bytes!("../../../../examples/count-protocols/settings.toml"));
+    let number = bench.connect_queues(1, 0, &filter, 12);
+    assert_eq!(bench.refused(1), "12 queues: Cannot allocate memory (os error 12): see --memory");
+    let limits = std::fs::read_to_string(format!("/proc/{}/limits", bench.process(1))).unwrap();
+    let limit = limits.lines().find_map(|line| line.strip_prefix("Max address space ")).unwrap().split_whitespace();
+    assert_eq!(limit.collect::<Vec<_>>(), ["67108864", "67108864", "bytes"]);
+    assert_eq!(bench.connect_queues(1, 0, &filter, 4), number);
+    let refused = bench.refused(1);
+    assert!(refused.contains("/dev/xen/gntdev: "), "{refused}");
 }
 
 #[test]

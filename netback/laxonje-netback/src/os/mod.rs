@@ -1,12 +1,14 @@
 //! What the program asks of Linux beyond std: waiting, signals, sockets, TAP devices, and giving up privileges.
 mod batch;
 mod lock;
+mod memory;
 mod privileges;
 mod socket;
 mod tap;
 mod wait;
 
 pub use lock::lock;
+pub use memory::{limit_memory, look_for_memory};
 pub use privileges::{
     allow_priority, close_inherited, keep_capabilities, restrict_to_guest, restrict_to_packets, restrict_to_service, set_name,
     set_priority, Keeps,

@@ -11,6 +11,9 @@ const ROOMS: usize = 32;
 const LEAST_READS: usize = 2;
 const SHORTEST: usize = 14;
 const OUT_BYTES: usize = 4 * (HEADER_BYTES + MOST_BYTES);
+const ARENA_BYTES: usize = ROOMS * ROOM_PAGES * PAGE_BYTES;
+/// The memory for packets of a queue, both ways.
+pub const PACKETS_BYTES: usize = ARENA_BYTES + OUT_BYTES;
 
 /// A packet that is to be delivered.
 #[derive(Clone, Copy, Debug, PartialEq, Eq)]
@@ -35,7 +38,7 @@ pub struct Arena {
 
 impl Arena {
     pub fn new() -> Arena {
-        Arena { bytes: vec![0; ROOMS * ROOM_PAGES * PAGE_BYTES], packets: VecDeque::new(), reads: LEAST_READS }
+        Arena { bytes: vec![0; ARENA_BYTES], packets: VecDeque::new(), reads: LEAST_READS }
     }
 
     pub fn packets(&self) -> impl Iterator<Item = Packet> + '_ {
@@ -49,6 +52,13 @@ impl Arena {
     /// The first packet is done with.
     pub fn leave(&mut self) {
         self.packets.pop_front();
+    }
+
+    /// Takes away the packets of more than a page. Returns how many there were.
+    pub fn leave_long(&mut self) -> usize {
+        let before = self.packets.len();
+        self.packets.retain(|packet| packet.pages() == 1);
+        before - self.packets.len()
     }
 
     /// The first byte of the packet of a room.
@@ -174,8 +184,10 @@ mod tests {
         assert_eq!(arena.page(packets[0], 0)[59..], [7, 7, 0, 0, 0]);
         assert_eq!((arena.page(packets[1], 0).len(), arena.page(packets[1], 1).len()), (4096, 904));
         assert_eq!((arena.bytes(packets[1]).len(), arena.page(packets[3], 15).len()), (5000, 4096));
-        (0..4).for_each(|_| arena.leave());
-        assert_eq!(arena.first(), None);
+        assert_eq!(arena.leave_long(), 2);
+        assert_eq!(arena.packets().map(|packet| packet.length).collect::<Vec<_>>(), [61, 60]);
+        (0..2).for_each(|_| arena.leave());
+        assert_eq!((arena.first(), arena.leave_long()), (None, 0));
     }
 
     #[test]

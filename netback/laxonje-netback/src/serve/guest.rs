@@ -35,6 +35,8 @@ pub const OWN_DOMAIN: u16 = 0x7ff0;
 const PAGES_AHEAD: usize = 32;
 /// The pages that a turn can ask for one by one, and more.
 const PAGES_ASKED: usize = 64;
+/// The memory for the pages of a queue that are copied: each of its three rooms may take a page more.
+pub const COPIES_BYTES: usize = (2 * PAGES_AHEAD + PAGES_ASKED + 3) * PAGE_BYTES;
 const MORE_DATA: u32 = 4 << 16;
 const PERMIT_ACCESS: u32 = 1;
 const READONLY: u32 = 4;

@@ -7,4 +7,4 @@ mod stall;
 mod worker;
 
 pub use guest::{Way, XenGuest};
-pub use worker::{make_queue, Ended, Handle, Order, Place, Report, Reports, Told, Worker};
+pub use worker::{make_queue, Ended, Handle, Order, Place, Report, Reports, Told, Worker, QUEUE_BYTES};

@@ -13,30 +13,41 @@ const NAP: Duration = Duration::from_micros(20);
 /// A nap that took so long: others had the processor, and may want it still.
 const LONG_NAP: Duration = Duration::from_micros(200);
 const MOST_NAPS: usize = 4;
+/// If more than half of the packets were dropped or refused: nobody waits for those, and other guests' are to go first.
+const MOST_NAPS_OF_A_FLOOD: usize = 16;
 
-/// How many packets there were since the last rest.
+/// How many packets there were since the last rest, and how many of them were dropped or refused.
 #[derive(Debug, Default)]
-pub struct Rests(usize);
+pub struct Rests {
+    packets: usize,
+    dropped: usize,
+}
 
 impl Rests {
     pub fn note_packet(&mut self) {
-        self.0 += 1;
+        self.packets += 1;
+    }
+
+    /// A packet that was dropped or refused.
+    pub fn note_dropped(&mut self) {
+        self.packets += 1;
+        self.dropped += 1;
     }
 
     /// Rests, if there were enough packets: until nobody else takes the processor, or for the most naps.
     pub fn rest(&mut self) {
-        if self.take_due() {
-            repeat_with(nap).take(MOST_NAPS).find(|took| *took < LONG_NAP);
+        if let Some(most) = self.take_due() {
+            repeat_with(nap).take(most).find(|took| *took < LONG_NAP);
         }
     }
 
-    /// Whether a rest is due. After that it isn't.
-    fn take_due(&mut self) -> bool {
-        let due = self.0 >= PACKETS;
-        if due {
-            self.0 = 0;
+    /// The most naps, if a rest is due. After that it isn't.
+    fn take_due(&mut self) -> Option<usize> {
+        if self.packets < PACKETS {
+            return None;
         }
-        due
+        let Rests { packets, dropped } = std::mem::take(self);
+        Some(if dropped > packets / 2 { MOST_NAPS_OF_A_FLOOD } else { MOST_NAPS })
     }
 }
 
@@ -56,10 +67,21 @@ mod tests {
         let mut rests = Rests::default();
         for _ in 0..2 {
             (1..PACKETS).for_each(|_| rests.note_packet());
-            assert!(!rests.take_due());
+            assert_eq!(rests.take_due(), None);
             rests.note_packet();
-            assert!(rests.take_due() && !rests.take_due());
+            assert_eq!((rests.take_due(), rests.take_due()), (Some(MOST_NAPS), None));
         }
         assert!(nap() >= NAP);
+    }
+
+    #[test]
+    fn one_who_floods_rests_longer() {
+        for (dropped, most) in [(PACKETS / 2, MOST_NAPS), (PACKETS / 2 + 1, MOST_NAPS_OF_A_FLOOD), (PACKETS, MOST_NAPS_OF_A_FLOOD)] {
+            let mut rests = Rests::default();
+            (0..dropped).for_each(|_| rests.note_dropped());
+            (dropped..PACKETS).for_each(|_| rests.note_packet());
+            assert_eq!(rests.take_due(), Some(most), "{dropped}");
+            assert_eq!(rests.take_due(), None);
+        }
     }
 }

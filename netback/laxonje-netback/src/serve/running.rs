@@ -245,8 +245,10 @@ impl Running {
 
     fn after_turn(&mut self, turn: Turn) -> Result<(), Ended> {
         let totals = &self.worker.totals;
-        if turn != Turn::Idle {
-            self.rests.note_packet();
+        match turn {
+            Turn::Idle => {}
+            Turn::Ran(run) if matches!(run.action, Action::Pass | Action::Tx) => self.rests.note_packet(),
+            _ => self.rests.note_dropped(),
         }
         match turn {
             Turn::Idle => {}
@@ -309,6 +311,9 @@ impl Running {
         let wants = !self.waiting && self.arena.first().is_none() && (self.tap_ready || !self.out.is_empty());
         if wants || !self.out.is_empty() {
             self.exchange(wants);
+        }
+        if !self.worker.scatters {
+            Totals::add(&self.worker.totals.undelivered, self.arena.leave_long() as u64);
         }
         if self.waiting || self.arena.first().is_none() {
             return Ok(false);

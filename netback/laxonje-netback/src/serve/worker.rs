@@ -1,5 +1,6 @@
 //! The thread of a queue, as the first thread of its guest's process has it: it is started, gets orders, and reports why it ended.
-use super::guest::{XenGuest, OWN_DOMAIN, RX_RING, TABLE_FRAMES, TX_RING};
+use super::arena::PACKETS_BYTES;
+use super::guest::{XenGuest, COPIES_BYTES, OWN_DOMAIN, RX_RING, TABLE_FRAMES, TX_RING};
 use super::running::Running;
 use crate::log::Log;
 use crate::os::{restrict_to_packets, Tap};
@@ -13,6 +14,14 @@ use std::sync::atomic::AtomicUsize;
 use std::sync::mpsc::{channel, Sender};
 use std::sync::{Arc, Once};
 use std::thread::{self, JoinHandle};
+
+/// The stack of a queue's thread.
+const STACK_BYTES: usize = 2 << 20;
+/// What the library keeps of a queue, its counters among it.
+const LIBRARY_BYTES: usize = 1 << 20;
+/// The most memory that a queue takes.
+pub const QUEUE_BYTES: usize = 6 << 20;
+const _: () = assert!(PACKETS_BYTES + COPIES_BYTES + STACK_BYTES + LIBRARY_BYTES <= QUEUE_BYTES);
 
 /// What the first thread wants of a queue's.
 pub enum Order {
@@ -115,6 +124,8 @@ pub struct Worker {
     pub stalled: Arc<AtomicUsize>,
     pub log: Log,
     pub notifies: bool,
+    /// The guest takes packets of more than a page.
+    pub scatters: bool,
 }
 
 /// Makes the library's queue for a guest's rings.
@@ -157,7 +168,7 @@ impl Worker {
             counters
         };
         let name = format!("{PACKET_THREAD}{}.{}-{}", place.domain, place.device, place.queue);
-        Ok(Handle { orders, wake, thread: thread::Builder::new().name(name).spawn(body)? })
+        Ok(Handle { orders, wake, thread: thread::Builder::new().name(name).stack_size(STACK_BYTES).spawn(body)? })
     }
 
     fn open_batch(&mut self) {

@@ -6,11 +6,11 @@ import subprocess
 import tempfile
 import tomllib
 
-import programs
-from straight.command import Refused, Wanted, straightened
-from straight.settings import text_beside
-from straight.shown import question
-from straight.verifier import called
+from tests.straight import programs
+from laxonje_tools.straight.command import Refused, Wanted, straightened
+from laxonje_tools.straight.settings import text_beside
+from laxonje_tools.straight.shown import question
+from laxonje_tools.straight.verifier import called
 
 TOOLS = pathlib.Path(__file__).resolve().parents[3]
 EXAMPLES = TOOLS.parent / "examples/straightened"

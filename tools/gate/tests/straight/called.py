@@ -5,12 +5,12 @@ import subprocess
 import tempfile
 import tomllib
 
-import machine
-from from_c import elf, program
-from from_c.memory import memory_of
-from objects import object_of
-from straight.instructions import CALL, EXIT, FRAME_POINTER, MASK_32, MASK_64
-from straight.settings import instructions_of
+from tests.straight import machine
+from laxonje_tools.from_c import elf, program
+from laxonje_tools.from_c.memory import memory_of
+from tests.straight.objects import object_of
+from laxonje_tools.straight.instructions import CALL, EXIT, FRAME_POINTER, MASK_32, MASK_64
+from laxonje_tools.straight.settings import instructions_of
 
 TOOLS = pathlib.Path(__file__).resolve().parents[3]
 SOURCE = TOOLS / "gate/tests/straight/calls.c"

@@ -2,7 +2,7 @@
 answers."""
 import struct
 
-from packets import (
+from tests.straight.packets import (
     ACK,
     ARP,
     DROP,

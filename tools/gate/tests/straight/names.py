@@ -5,8 +5,8 @@ import subprocess
 import tempfile
 import tomllib
 
-import programs
-from straight.settings import text_of
+from tests.straight import programs
+from laxonje_tools.straight.settings import text_of
 
 TOOLS = pathlib.Path(__file__).resolve().parents[3]
 # names of maps, the last of which would be a map more if it stood in a text as it is

@@ -24,10 +24,9 @@ CHANGED, SEED, MOST_BYTES = 240, 7, 1 << 30
 # reads changed objects one after another, each of which ends by a line or is read; `-` in front of what isn't as it should be
 READER = """
 import contextlib, io, resource, sys
-sys.path.insert(0, sys.argv[1])
-resource.setrlimit(resource.RLIMIT_AS, (int(sys.argv[2]), int(sys.argv[2])))
-from from_c import program
-for path in sys.argv[3:]:
+resource.setrlimit(resource.RLIMIT_AS, (int(sys.argv[1]), int(sys.argv[1])))
+from laxonje_tools.from_c import program
+for path in sys.argv[2:]:
     said = io.StringIO()
     try:
         with contextlib.redirect_stderr(said):
@@ -77,8 +76,8 @@ def changed_tests(clang, folder):
     parts = [paths[at :: 4] for at in range(4)]
 
     def read(part):
-        words = [sys.executable, "-c", READER, TOOLS, str(MOST_BYTES), *part]
-        return subprocess.run(words, capture_output=True, text=True, check=False, timeout=300)
+        words = [sys.executable, "-B", "-c", READER, str(MOST_BYTES), *part]
+        return subprocess.run(words, cwd=TOOLS, capture_output=True, text=True, check=False, timeout=300)
 
     with concurrent.futures.ThreadPoolExecutor() as pool:
         runs = list(pool.map(read, parts))

@@ -11,17 +11,17 @@ import tempfile
 import tomllib
 from typing import NamedTuple
 
-import machine
-from programs import ADD_CONSTANT, ATOMIC_DOUBLE, CALL, EXIT, IF_ABOVE_CONSTANT, IF_ABOVE_REGISTER, IF_EQUAL_CONSTANT
-from programs import LOAD_DOUBLE, LOAD_WORD, LSH_CONSTANT, MOVE_CONSTANT, MOVE_REGISTER, PASS, R0, R1, R2, R3, R6, R10
-from programs import BOTH_HALVES, RSH_CONSTANT, START, STORE_DOUBLE, STORE_WORD, WIDE_LOAD, lookup, settings
-from from_c import program
-from same.check import Check
-from same.state import Differs
-from straight.instructions import BY_REGISTER, JLE, JMP
-from straight.parts import Part, with_counters
-from straight.settings import text_of
-from straight.verifier import verdict
+from tests.straight import machine
+from tests.straight.programs import ADD_CONSTANT, ATOMIC_DOUBLE, CALL, EXIT, IF_ABOVE_CONSTANT, IF_ABOVE_REGISTER, IF_EQUAL_CONSTANT
+from tests.straight.programs import LOAD_DOUBLE, LOAD_WORD, LSH_CONSTANT, MOVE_CONSTANT, MOVE_REGISTER, PASS, R0, R1, R2, R3, R6, R10
+from tests.straight.programs import BOTH_HALVES, RSH_CONSTANT, START, STORE_DOUBLE, STORE_WORD, WIDE_LOAD, lookup, settings
+from laxonje_tools.from_c import program
+from laxonje_tools.same.check import Check
+from laxonje_tools.same.state import Differs
+from laxonje_tools.straight.instructions import BY_REGISTER, JLE, JMP
+from laxonje_tools.straight.parts import Part, with_counters
+from laxonje_tools.straight.settings import text_of
+from laxonje_tools.straight.verifier import verdict
 
 TOOLS = pathlib.Path(__file__).resolve().parents[3]
 HEADERS = "#include <linux/bpf.h>\n#include <bpf/bpf_helpers.h>\n"

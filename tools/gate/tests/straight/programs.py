@@ -1,5 +1,5 @@
 """The smallest programs that need one transformation each, as settings."""
-from straight.instructions import (
+from laxonje_tools.straight.instructions import (
     ADD_CONSTANT,
     ADD_REGISTER,
     AND,

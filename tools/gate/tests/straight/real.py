@@ -10,7 +10,7 @@ import struct
 import subprocess
 import tempfile
 
-from from_c import elf
+from laxonje_tools.from_c import elf
 
 TOOLS = pathlib.Path(__file__).resolve().parents[3]
 # objects, and programs that have objects in them: of libxdp1, suricata, xdp-tools and knot

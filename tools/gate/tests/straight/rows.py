@@ -1,8 +1,8 @@
 """The packets of a filter in C, with what it has to make of each."""
 from typing import NamedTuple, Optional
 
-import more_packets
-import packets
+from tests.straight import more_packets
+from tests.straight import packets
 
 
 class Row(NamedTuple):
@@ -14,6 +14,17 @@ class Row(NamedTuple):
 
     def is_run(self, action, left):
         return action == self.action and (self.left is None or action not in ("PASS", "TX") or left == self.left)
+
+
+def lists_of(path):
+    """The lists of a filter's maps, as (name, file): those of files beside it that are called NAME.MAP.list."""
+    found = sorted(path.parent.glob(f"{path.stem}.*.list"))
+    return [(file.name[len(path.stem) + 1 : -len(".list")], str(file)) for file in found]
+
+
+def words_of(path):
+    """The words that give a filter its lists."""
+    return [word for name, file in lists_of(path) for word in ("--list", f"{name}={file}")]
 
 
 def packets_of(path):

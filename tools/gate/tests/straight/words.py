@@ -16,14 +16,26 @@ NOT_HERE = {
     "a device map": (
         MAP.format("DEVMAP", 8, "__u32", "__u32", "m"),
         LOOKUP,
-        "BPF_MAP_TYPE_DEVMAP, and there are arrays alone (ARRAY, PERCPU_ARRAY): there is no other device here: XDP_PASS gives",
+        "BPF_MAP_TYPE_DEVMAP, and there are ARRAY, HASH, PERCPU_ARRAY, PERCPU_HASH and LPM_TRIE: there is no other device here: XDP_PASS gives",
     ),
-    "a prefix map": (MAP.format("LPM_TRIE", 8, "__u64", "__u64", "m"), LOOKUP, "a `switch` of the address, shifted by each length of prefix"),
-    "a large map": (MAP.format("ARRAY", 65536, "__u32", "__u64", "m"), LOOKUP, "65536 entries: 1 to 1024"),
-    "five maps": (
-        "".join(MAP.format("ARRAY", 1, "__u32", "__u64", name) for name in "mnopq"),
+    "a map that packets change": (MAP.format("LRU_HASH", 8, "__u32", "__u64", "m"), LOOKUP, "BPF_MAP_TYPE_LRU_HASH, and there are ARRAY"),
+    "a large map": (MAP.format("ARRAY", 65537, "__u32", "__u64", "m"), LOOKUP, "65537 entries: 1 to 65536; --entries m=N"),
+    "seventeen maps": (
+        "".join(MAP.format("ARRAY", 1, "__u32", "__u64", name) for name in "mnopqrstuvwxyzabc"),
         LOOKUP,
-        "5 maps: at most 4",
+        "17 maps: at most 16",
+    ),
+    "a long key": (MAP.format("HASH", 8, "struct { char c[65]; }", "__u64", "m"), LOOKUP, "keys of the map m have 65 bytes: a key has 1 to 64"),
+    "a prefix without data": (MAP.format("LPM_TRIE", 8, "__u32", "__u64", "m"), LOOKUP, "a key has the prefix's length, a __u32, and 1 to 64 behind it"),
+    "a row that is added": (
+        MAP.format("HASH", 8, "__u32", "__u64", "m"),
+        "__u32 k = 0; __u64 v = 1; bpf_map_update_elem(&m, &k, &v, BPF_ANY); return XDP_PASS;",
+        "bpf_map_update_elem, which isn't here",
+    ),
+    "a row that is taken away": (
+        MAP.format("HASH", 8, "__u32", "__u64", "m"),
+        "__u32 k = 0; bpf_map_delete_elem(&m, &k); return XDP_PASS;",
+        "bpf_map_delete_elem, which isn't here: a program adds no row and takes none away",
     ),
     "nine counters": (MAP.format("ARRAY", 1, "__u32", "struct { __u64 n[9]; }", "m"), LOOKUP, "have 72 bytes: a value has 1 to 64"),
     "a map that is none": ('int m SEC(".maps");', "return m;", 'm stands in section ".maps", and is no struct'),

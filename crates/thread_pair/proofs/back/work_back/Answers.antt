@@ -3,8 +3,8 @@ use Rattle.bpf_note.specs.declared.op.Op.{Op}
 use Rattle.bpf_maps.specs.Seats.{SeatView}
 use Rattle.xdp_world.specs.Core.{started_at}
 use Rattle.xen_back.specs.Queues.{wiring_of}
-use Rattle.xen_back.specs.declared.state.State.{State}
-use Rattle.xen_back.specs.declared.wiring.Wiring.{Wiring}
+use Rattle.xen_turns.specs.declared.state.State.{State}
+use Rattle.xen_turns.specs.declared.wiring.Wiring.{Wiring}
 use Rattle.xen_page.specs.declared.access.Access.{Access}
 use Rattle.xen_page.proofs.AccessLemmas.{performs_none, performs_then}
 use Rattle.xen_steps.specs.Drive.{accesses}

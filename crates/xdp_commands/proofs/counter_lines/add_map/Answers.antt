@@ -1,4 +1,4 @@
-use Rattle.std.proofs.Common.{◌≡◌, ◌<◌, append_assoc, arith}
+use Rattle.std.proofs.Common.{◌<◌, append_assoc, arith}
 use Rattle.xdp_commands.proofs.CounterLineLemmas.{map_more}
 use Rattle.xdp_commands.proofs.counter_lines.add_map.Goals as goal
 

@@ -1,5 +1,5 @@
-use Rattle.std.proofs.Common.{◌≡◌, ◌∙◌, ◌<◌, ◌++◌, List, ℕ, ap, append_assoc, arith, string_bytes, sym}
-use Rattle.xdp_commands.specs.CounterLines.{counter_text, value_text}
+use Rattle.std.proofs.Common.{◌∙◌, ◌<◌, ℕ, ap, append_assoc, arith}
+use Rattle.xdp_commands.specs.CounterLines.{counter_text}
 use Rattle.xdp_commands.proofs.CounterLineLemmas.{value_more}
 use Rattle.xdp_commands.proofs.counter_lines.add_value.Goals as goal
 

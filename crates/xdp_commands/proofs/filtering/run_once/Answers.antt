@@ -17,4 +17,4 @@ returns-clause-goes c =
     let printed = c.in_ok-push_str.ensures.bytes ∙ ap (λ (xs : List ℕ). string_bytes a.filtered.now.lines ++ xs) c.as_str.ensures.value in
     let words = ended.new.counters in
     let whole = all_written words (drop (length words) a.filtered.now.words.items) a.filtered.now.words.len (ended.ensures.words ∙ c.as_mut_slice-words.ensures.len) in
-    rw whole (goes_once a.program.now a.ifindex (packet_view a.packet.now) a.filtered.now.words.items (string_bytes a.filtered.now.lines) words _ left line number ended.result.instructions ran is printed)
+    rw whole (goes_once a.program.now a.lists.now a.ifindex (packet_view a.packet.now) a.filtered.now.words.items (string_bytes a.filtered.now.lines) words _ left line number ended.result.instructions ran is printed)

@@ -7,6 +7,6 @@ abbrev pub invariant-loop-time : goal.invariant-loop-time
 invariant-loop-time l = record {
   width : vec_len l.filtered.words ≡ vec_len l.fn.filtered.words;
   goes : (words lines : List ℕ)
-      → Goes l.program l.ifindex (replicate (l.packet.times - l._time) (packet_view l.packet)) l.filtered.words.items (string_bytes l.filtered.lines) words lines
-      → Goes l.program l.ifindex (replicate l.packet.times (packet_view l.packet)) l.fn.filtered.words.items (string_bytes l.fn.filtered.lines) words lines;
+      → Goes l.program l.lists l.ifindex (replicate (l.packet.times - l._time) (packet_view l.packet)) l.filtered.words.items (string_bytes l.filtered.lines) words lines
+      → Goes l.program l.lists l.ifindex (replicate l.packet.times (packet_view l.packet)) l.fn.filtered.words.items (string_bytes l.fn.filtered.lines) words lines;
 }

@@ -1,6 +1,5 @@
-use Rattle.std.proofs.Common.{◌<◌, ◌∙◌, length, refl, ap, arith}
+use Rattle.std.proofs.Common.{◌<◌, ◌∙◌, length, refl, arith}
 use Rattle.xdp_host.specs.Batch.{Shared, none}
-use Rattle.xdp_host.specs.declared.loaded_program.LoadedProgram.{LoadedProgram}
 use Rattle.xdp_host.proofs.BatchLemmas.{one_more_ran, one_less_left}
 use Rattle.xdp_host.proofs.batch.run_each.Goals as goal
 
@@ -17,9 +16,8 @@ loop-number-preserved c =
     let kept = l.auto.results in
     let here : l.number < length c.args.packets.now = omega (arith, c.loop-number-test.true, fewest) in
     let room : l.number < length l.results = omega (arith, c.loop-number-test.true, fewest, kept) in
-    let same = ap (λ (h : LoadedProgram). h.program) l.invariant.kept in
     record {
       kept = c.run_one.ensures.kept ∙ l.invariant.kept;
-      ran = one_more_ran c.args.held.now.program l.held.program c.args.ifindex c.args.queue first before after c.args.packets.now l.results l.number _ c.run_one.result same here room l.invariant.ran c.run_one.ensures.ran;
+      ran = one_more_ran c.args.held.now l.held c.args.ifindex c.args.queue first before after c.args.packets.now l.results l.number _ c.run_one.result l.invariant.kept here room l.invariant.ran c.run_one.ensures.ran;
       rest = one_less_left l.results c.args.results.now l.number c.run_one.result l.invariant.rest;
     }

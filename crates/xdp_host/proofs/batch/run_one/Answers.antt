@@ -10,4 +10,4 @@ returns-clause-ran c =
     let bytes : List ℕ = c.args.bytes.now in
     let inside : end_of x ≤ length bytes = omega (arith, c.if-length-bytes.false, c.if-start-bytes.false) in
     let long : length c.run.new.packet ≡ end_of x - x.start = c.run.auto.packet ∙ mid_len x.start (end_of x) bytes inside in
-    rw c.from.ensures (runs_one c.args.held.now.program c.args.ifindex c.args.queue x c.run.result bytes c.args.counters.now c.run.new.packet c.run.new.counters inside long c.run.ensures.made c.run.ensures.unmade)
+    rw c.from.ensures (runs_one c.args.held.now.program c.args.held.now.lists c.args.ifindex c.args.queue x c.run.result bytes c.args.counters.now c.run.new.packet c.run.new.counters inside long c.run.ensures.made c.run.ensures.unmade)

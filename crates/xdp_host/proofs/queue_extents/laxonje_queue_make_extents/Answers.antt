@@ -14,6 +14,8 @@ returns-in-Some-clause-made c =
     let m = c.boxed_of_extents-made in
     let old = c.args.out.now.slot.held in
     let new = c.set.new.self.slot.held in
-    let made = subst (λ (h : LoadedProgram). IfOk m.result (λ b. IsMadeOf h.program g b.value)) c.deref.ensures m.ensures.made in
-    let all = makes_or c.in-Some.held.value.program g old new c.set.result m.result made m.ensures.fault c.set.ensures.ok c.set.ensures.err in
-    subst (λ (o : Option LoadedProgram). IfSome o (λ h. MakesOr h.program g old new c.set.result)) c.in-Some.ensures.gone all
+    let lists = c.deref-in-Some.result.now.lists in
+    let of_program = subst (λ (h : LoadedProgram). IfOk m.result (λ b. IsMadeOf h.program lists g b.value)) c.deref.ensures m.ensures.made in
+    let made = subst (λ (h : LoadedProgram). IfOk m.result (λ b. IsMadeOf c.in-Some.held.value.program h.lists g b.value)) c.deref-in-Some.ensures of_program in
+    let all = makes_or c.in-Some.held.value.program c.in-Some.held.value.lists g old new c.set.result m.result made m.ensures.fault c.set.ensures.ok c.set.ensures.err in
+    subst (λ (o : Option LoadedProgram). IfSome o (λ h. MakesOr h.program h.lists g old new c.set.result)) c.in-Some.ensures.gone all

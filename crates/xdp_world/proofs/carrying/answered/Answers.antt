@@ -3,7 +3,7 @@ use Rattle.xen_steps.specs.Event.{Read, Write, Notify}
 use Rattle.xen_steps.specs.Steps.{Steps, next, want_of}
 use Rattle.xen_steps.proofs.DriveLemmas.{occurs_notify, occurs_read, occurs_write}
 use Rattle.xen_back.specs.ByEvent.{left_of}
-use Rattle.xen_back.specs.Deliveries.{Arrival}
+use Rattle.xen_turns.specs.Deliveries.{Arrival}
 use Rattle.xdp_world.proofs.carrying.answered.Goals as goal
 
 pub returns-in-Read-clause-event : goal.returns-in-Read-clause-event

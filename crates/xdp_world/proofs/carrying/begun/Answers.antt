@@ -1,6 +1,6 @@
 use Rattle.std.proofs.Common.{subst}
 use Rattle.xen_steps.specs.Steps.{Steps}
-use Rattle.xen_back.specs.Deliveries.{Arrival}
+use Rattle.xen_turns.specs.Deliveries.{Arrival}
 use Rattle.xdp_world.specs.Carries.{Lands}
 use Rattle.xdp_world.proofs.carrying.begun.Goals as goal
 

@@ -2,7 +2,7 @@ use Rattle.std.proofs.Common.{◌≡◌, refl, sym, ◌∙◌, ap}
 use Rattle.xen_steps.specs.Event.{Read, Write, Instr, Load, Add, Notify}
 use Rattle.xen_back.specs.Queues.{rest}
 use Rattle.xen_steps.specs.Steps.{Steps, next, want_of}
-use Rattle.xen_back.specs.Turned.{Ending}
+use Rattle.xen_turns.specs.Turned.{Ending}
 use Rattle.xen_steps.proofs.DriveLemmas.{occurs_read, occurs_write, occurs_instr, occurs_load, occurs_add, occurs_notify}
 use Rattle.xdp_world.proofs.event.event.Goals as goal
 

@@ -4,10 +4,10 @@ use Rattle.xen_steps.specs.declared.want.Want.TheVariants as want
 use Rattle.xen_steps.specs.Drive.{LedBy}
 use Rattle.xen_steps.specs.Event.{Event}
 use Rattle.xen_steps.specs.Steps.{Steps, Runs, done, ask, never, want_of}
-use Rattle.xen_back.specs.Tree.{whole_turn}
+use Rattle.xen_turns.specs.Tree.{whole_turn}
 use Rattle.xen_steps.proofs.DriveLemmas.{runs_alone, runs_more}
-use Rattle.xen_back.proofs.TurnParts.{turn_parts}
-use Rattle.xen_back.proofs.TurnRuns.{runs_turn}
+use Rattle.xen_turns.proofs.TurnParts.{turn_parts}
+use Rattle.xen_turns.proofs.TurnRuns.{runs_turn}
 use Rattle.xdp_world.proofs.laws.unfinished_turns.Goals as goal
 
 runs_behind : {A : Type 0} (s m : Steps A) (t u : List Event) (r : A) → LedBy s t m → Runs m u r → Runs s (t ++ u) r

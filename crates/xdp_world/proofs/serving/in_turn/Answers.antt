@@ -1,6 +1,6 @@
 use Rattle.std.proofs.Common.{Option, Some, None, refl, sym, ◌∙◌, subst}
-use Rattle.xen_back.specs.declared.delivery.wait.Awaited.{Awaited}
-use Rattle.xen_back.specs.declared.delivery.delivering.Delivery.{Delivery}
+use Rattle.xen_turns.specs.declared.delivery.wait.Awaited.{Awaited}
+use Rattle.xen_turns.specs.declared.delivery.delivering.Delivery.{Delivery}
 use Rattle.xdp_world.specs.Carries.{Moves, rests, turns}
 use Rattle.xdp_world.proofs.serving.in_turn.Goals as goal
 

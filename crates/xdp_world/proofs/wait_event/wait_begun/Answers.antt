@@ -1,6 +1,6 @@
 use Rattle.std.proofs.Common.{subst}
 use Rattle.xen_steps.specs.Steps.{Steps}
-use Rattle.xen_back.specs.Waits.{Wait}
+use Rattle.xen_turns.specs.Waits.{Wait}
 use Rattle.xdp_world.specs.Carries.{Resumes}
 use Rattle.xdp_world.proofs.wait_event.wait_begun.Goals as goal
 

@@ -2,7 +2,7 @@ use Rattle.std.proofs.Common.{◌≡◌, ◌++◌, List, ℕ, length, sym, ◌�
 use Rattle.bpf_vm.specs.Packet.{Packet}
 use Rattle.xen_netif.specs.Copy.{bytes_of}
 use Rattle.xen_netif.proofs.CopyLemmas.{length-bytes_of}
-use Rattle.xen_back.proofs.RunLemmas.{bytes_of-run, run_read}
+use Rattle.xen_turns.proofs.RunLemmas.{bytes_of-run, run_read}
 use Rattle.xen_back.proofs.copy_buf.push_words.Goals as goal
 
 abbrev bytes_in : Packet → List ℕ

@@ -8,10 +8,10 @@ use Rattle.bpf_vm.specs.Course.{Course, after, left}
 use Rattle.bpf_vm.specs.Stands.{now}
 use Rattle.xen_steps.specs.Event.{Instr, Load, Add}
 use Rattle.xen_steps.specs.Steps.{bind, done}
-use Rattle.xen_back.specs.Ran.{HasRunTo}
-use Rattle.xen_back.specs.Tree.{program, run_of}
+use Rattle.xen_turns.specs.Ran.{HasRunTo}
+use Rattle.xen_turns.specs.Tree.{program, run_of}
 use Rattle.xen_back.proofs.InOneGoLemmas.{add_number, goes_add, goes_exit, goes_load, load_number, run_plain, run_event}
-use Rattle.xen_back.proofs.DriveLemmas.{ops_none}
+use Rattle.xen_turns.proofs.DriveLemmas.{ops_none}
 use Rattle.xen_back.proofs.copy_buf.run_on.Goals as goal
 
 abbrev ops_of : SeatView → List Op

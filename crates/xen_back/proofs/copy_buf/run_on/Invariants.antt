@@ -1,8 +1,8 @@
 use Rattle.std.proofs.Common.{◌≡◌, ◌≤◌, ◌-◌}
 use Rattle.bpf_verify.specs.Consistent.{instructions}
 use Rattle.bpf_vm.specs.Course.{left}
-use Rattle.xen_back.specs.Ran.{HasRunTo}
-use Rattle.xen_back.specs.Tree.{program, run_of}
+use Rattle.xen_turns.specs.Ran.{HasRunTo}
+use Rattle.xen_turns.specs.Tree.{program, run_of}
 use Rattle.xen_back.proofs.copy_buf.run_on.Given as goal
 
 abbrev pub invariant-loop-m : goal.invariant-loop-m

@@ -1,3 +1,4 @@
+use Rattle.xen_host.specs.Queues.{wired_to}
 use Rattle.std.proofs.Common.{◌≡◌, suc, ◌+◌, sym, ap, ◌∙◌, subst, arith}
 use Rattle.bpf_maps.specs.Layout.{total}
 use Rattle.xen_host.specs.declared.wires.OwnedWiring.{OwnedWiring}
@@ -18,7 +19,7 @@ step-requires-clause-counts g c =
     let h = c.requires.goes in
     let i = c.loop-round.invariant in
     let d = i.gone h.task h.state h.bus h.before h.gone in
-    let k : total c.loop-round.queue.engine.wires.program.shapes ≡ total c.args.queue.now.engine.wires.program.shapes = ap (λ (v : OwnedWiring). total v.program.shapes) d.wires in
+    let k : total (wired_to c.loop-round.queue).program.shapes ≡ total (wired_to c.args.queue.now).program.shapes = ap (λ (v : OwnedWiring). total v.program.shapes) d.wires in
     omega (arith, k, c.requires.counts, i.counts)
 
 pub loop-round-preserved : goal.loop-round-preserved
@@ -27,7 +28,7 @@ loop-round-preserved g c =
     let gives = g.B.Bus.access_gives in
     let size = g.B.Bus.size in
     let i = c.loop-round.invariant in
-    let w = c.args.queue.now.engine.wires in
+    let w = wired_to c.args.queue.now in
     let n = c.loop-round.round in
     let e : suc n ≡ n + 1 = omega arith in
     let goes_on = sym c.over.ensures ∙ c.in_default.is in

@@ -1,3 +1,4 @@
+use Rattle.xen_host.specs.Queues.{wired_to}
 use Rattle.xen_drive.specs.Driving.{delivery}
 use Rattle.xen_drive.proofs.BoundLemmas.{delivery_begins, delivery_ends}
 use Rattle.xen_drive.proofs.StepLemmas.{carried_by}
@@ -7,4 +8,4 @@ pub returns : goal.returns
 returns g c old packet bus bus' before h h' n b d o p =
     let log = g.B.Bus.log in
     let gives = g.B.Bus.access_gives in
-    delivery_ends log gives old packet bus bus' before n h' (carried_by log gives (delivery packet) old.engine.state old.engine.wires bus before n h h' (delivery_begins log gives old packet bus before h b) d) o p
+    delivery_ends log gives old packet bus bus' before n h' (carried_by log gives (delivery packet) old.engine.state (wired_to old) bus before n h h' (delivery_begins log gives old packet bus before h b) d) o p

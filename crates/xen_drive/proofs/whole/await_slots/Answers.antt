@@ -1,6 +1,6 @@
 use Rattle.std.proofs.Common.{sym, ap, ◌∙◌, subst, arith}
 use Rattle.xen_host.specs.Asks.{op_of}
-use Rattle.xen_host.specs.Queues.{packet_of}
+use Rattle.xen_host.specs.Queues.{packet_of, wired_to}
 use Rattle.xen_drive.specs.Driven.{HasAwaited}
 use Rattle.xen_drive.specs.Driving.{wait}
 use Rattle.xen_drive.proofs.GoneLemmas.{going, gone_then, is_wait_begun, wait_begun, wait_over}
@@ -13,7 +13,7 @@ go_on-requires-clause-goes g c =
     let size = g.B.Bus.size in
     let old = c.args.queue.now in
     let s = old.engine.state in
-    let w = old.engine.wires in
+    let w = wired_to old in
     let bus = c.args.bus.now in
     let before = c.args.counters.now in
     let made = c.new-host.result in
@@ -35,7 +35,7 @@ returns-clause-size g c =
     let size = g.B.Bus.size in
     let old = c.args.queue.now in
     let s = old.engine.state in
-    let w = old.engine.wires in
+    let w = wired_to old in
     let bus = c.args.bus.now in
     let before = c.args.counters.now in
     let made = c.new-host.result in
@@ -60,7 +60,7 @@ returns-clause-awaited g c =
     let size = g.B.Bus.size in
     let old = c.args.queue.now in
     let s = old.engine.state in
-    let w = old.engine.wires in
+    let w = wired_to old in
     let bus = c.args.bus.now in
     let before = c.args.counters.now in
     let made = c.new-host.result in

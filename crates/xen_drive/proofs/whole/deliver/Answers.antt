@@ -6,10 +6,10 @@ use Rattle.xen_steps.specs.Drive.{accesses}
 use Rattle.xen_steps.specs.Event as event
 use Rattle.xen_steps.specs.Places.{page_word}
 use Rattle.xen_rx_fill.specs.Places.{rx_word}
-use Rattle.xen_back.specs.Delivered.{no_frame}
-use Rattle.xen_back.specs.declared.delivery.delivering.Delivery.TheVariants as outcome
+use Rattle.xen_turns.specs.Delivered.{no_frame}
+use Rattle.xen_turns.specs.declared.delivery.delivering.Delivery.TheVariants as outcome
 use Rattle.xen_host.specs.Asks.{op_of}
-use Rattle.xen_host.specs.Queues.{first_read, wiring}
+use Rattle.xen_host.specs.Queues.{first_read, wiring, wired_to}
 use Rattle.xen_drive.specs.Driven.{HasDelivered}
 use Rattle.xen_drive.specs.Driving.{delivery}
 use Rattle.xen_drive.proofs.GoneLemmas.{delivery_begun, delivery_over, going, gone_then, is_begun}
@@ -34,7 +34,7 @@ returns-then-not-can_be_delivered-clause-delivered g c =
 
 pub look-producer-requires-clause-frame : goal.look-producer-requires-clause-frame
 look-producer-requires-clause-frame g c =
-    let w = c.args.queue.now.engine.wires in
+    let w = wired_to c.args.queue.now in
     let k = slice_get_within w.owners w.rx w.granter c.args.queue.now.wired.rx in
     omega (arith, c.requires.rx, c.requires.size, k)
 
@@ -45,7 +45,7 @@ go_on-requires-clause-goes g c =
     let size = g.B.Bus.size in
     let old = c.args.queue.now in
     let s = old.engine.state in
-    let w = old.engine.wires in
+    let w = wired_to old in
     let bus = c.args.bus.now in
     let before = c.args.counters.now in
     let made = c.new-host.result in
@@ -69,7 +69,7 @@ returns-clause-size g c =
     let size = g.B.Bus.size in
     let old = c.args.queue.now in
     let s = old.engine.state in
-    let w = old.engine.wires in
+    let w = wired_to old in
     let bus = c.args.bus.now in
     let before = c.args.counters.now in
     let made = c.new-host.result in
@@ -96,7 +96,7 @@ returns-clause-delivered g c =
     let size = g.B.Bus.size in
     let old = c.args.queue.now in
     let s = old.engine.state in
-    let w = old.engine.wires in
+    let w = wired_to old in
     let bus = c.args.bus.now in
     let before = c.args.counters.now in
     let made = c.new-host.result in

@@ -5,7 +5,7 @@ use Rattle.xen_steps.specs.Event as event
 use Rattle.xen_steps.specs.Places.{page_word}
 use Rattle.xen_rx_fill.specs.Places.{tx_word}
 use Rattle.xen_host.specs.Asks.{op_of}
-use Rattle.xen_host.specs.Queues.{first_read, wiring}
+use Rattle.xen_host.specs.Queues.{first_read, wiring, wired_to}
 use Rattle.xen_drive.specs.Driven.{HasTurned}
 use Rattle.xen_drive.specs.Driving.{turn}
 use Rattle.xen_drive.proofs.GoneLemmas.{going, gone_then, turn_begun, turn_over}
@@ -18,7 +18,7 @@ go_on-requires-clause-goes g c =
     let size = g.B.Bus.size in
     let old = c.args.queue.now in
     let s = old.engine.state in
-    let w = old.engine.wires in
+    let w = wired_to old in
     let bus = c.args.bus.now in
     let before = c.args.counters.now in
     let made = c.new-host.result in
@@ -37,7 +37,7 @@ returns-clause-size g c =
     let size = g.B.Bus.size in
     let old = c.args.queue.now in
     let s = old.engine.state in
-    let w = old.engine.wires in
+    let w = wired_to old in
     let bus = c.args.bus.now in
     let before = c.args.counters.now in
     let made = c.new-host.result in
@@ -59,7 +59,7 @@ returns-clause-turned g c =
     let size = g.B.Bus.size in
     let old = c.args.queue.now in
     let s = old.engine.state in
-    let w = old.engine.wires in
+    let w = wired_to old in
     let bus = c.args.bus.now in
     let before = c.args.counters.now in
     let made = c.new-host.result in

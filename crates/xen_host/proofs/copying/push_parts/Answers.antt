@@ -3,7 +3,7 @@ use Rattle.std.proofs.lemmas.List.{length-take, take_more}
 use Rattle.xen_netif.specs.Copy.{Covers, bytes_from, bytes_in}
 use Rattle.xen_steps.specs.Pages.{HasRoom}
 use Rattle.xen_steps.proofs.CopyLemmas.{bytes_short, room_at_end, room_goes_on}
-use Rattle.xen_back.proofs.ReadLemmas.{bytes_from-append}
+use Rattle.xen_turns.proofs.ReadLemmas.{bytes_from-append}
 use Rattle.xen_host.proofs.copying.push_parts.Goals as goal
 
 pub push_all-requires : goal.push_all-requires

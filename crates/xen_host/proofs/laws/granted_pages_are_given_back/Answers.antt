@@ -8,16 +8,16 @@ use Rattle.xen_rx_fill.specs.Sending as sending
 use Rattle.xen_rx_fill.specs.declared.by_event.phase.Outcome.TheVariants as outcome
 use Rattle.xen_rx_fill.specs.declared.vif.Vif.{Vif}
 use Rattle.xen_rx_fill.specs.declared.target.Grants.TheVariants.{Passed, Refused}
-use Rattle.xen_back.specs.Delivered.{IsDelivery}
-use Rattle.xen_back.specs.Delivered as delivered
-use Rattle.xen_back.specs.Parts.{HasRead}
-use Rattle.xen_back.specs.Responses.{status_of}
-use Rattle.xen_back.specs.Turned.{Turned}
-use Rattle.xen_back.specs.Turns.{IsTurn}
-use Rattle.xen_back.specs.Turns as turns
-use Rattle.xen_back.specs.declared.delivery.delivering.Delivery.{Delivery}
-use Rattle.xen_back.specs.declared.state.State.{State}
-use Rattle.xen_back.specs.declared.wiring.Wiring.{Wiring}
+use Rattle.xen_turns.specs.Delivered.{IsDelivery}
+use Rattle.xen_turns.specs.Delivered as delivered
+use Rattle.xen_turns.specs.Parts.{HasRead}
+use Rattle.xen_turns.specs.Responses.{status_of}
+use Rattle.xen_turns.specs.Turned.{Turned}
+use Rattle.xen_turns.specs.Turns.{IsTurn}
+use Rattle.xen_turns.specs.Turns as turns
+use Rattle.xen_turns.specs.declared.delivery.delivering.Delivery.{Delivery}
+use Rattle.xen_turns.specs.declared.state.State.{State}
+use Rattle.xen_turns.specs.declared.wiring.Wiring.{Wiring}
 use Rattle.xen_netif.specs.Chain.{Slot}
 use Rattle.xen_netif.specs.declared.status.Status.TheVariants.{Error, Okay}
 use Rattle.xen_host.specs.GivesBack.{GivesBack, HasPushed, IsAnswered, IsAnsweredRx}

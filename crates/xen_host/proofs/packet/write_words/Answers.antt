@@ -3,7 +3,7 @@ use Rattle.std.proofs.lemmas.List.{take_more}
 use Rattle.std.proofs.lemmas.Slice.{take-put_mid}
 use Rattle.std.specs.Int.{w32, to_le_bytes}
 use Rattle.xen_netif.specs.Copy.{bytes_of}
-use Rattle.xen_back.proofs.ReadLemmas.{bytes_of-append}
+use Rattle.xen_turns.proofs.ReadLemmas.{bytes_of-append}
 use Rattle.xen_host.proofs.PageLemmas.{length-put_mid}
 use Rattle.xen_host.proofs.packet.write_words.Goals as goal
 

@@ -3,11 +3,19 @@ use super::*;
 
 fn orders() -> Vec<Order> {
     let keys = |number| QueueKeys { tx: number, rx: number + 1, event: number + 2 };
-    let connect =
-        Connect { device: 1, connection: 1 << 40, ifindex: 7, program: 9, fresh: true, notifies: false, queues: vec![keys(8), keys(300)] };
+    let connect = Connect {
+        device: 1,
+        connection: 1 << 40,
+        ifindex: 7,
+        program: 9,
+        fresh: true,
+        notifies: false,
+        scatters: true,
+        queues: vec![keys(8), keys(300)],
+    };
     vec![
         Order::Text(b"program".to_vec()),
-        Order::Program { number: 1 },
+        Order::Program { number: 1, lists_of: 2 },
         Order::Forget { number: 1 },
         Order::Connect(connect),
         Order::Replace { device: 3, number: 2 },
@@ -58,7 +66,7 @@ fn the_largest_messages_fit() {
     let counters = Report::Counters { device, question: 0, queue, from: 0, words: vec![0; WORDS_PART] };
     let keys = QueueKeys { tx: 0, rx: 0, event: 0 };
     let queues = vec![keys; MOST_QUEUES];
-    let connect = Connect { device, connection, ifindex: 0, program: 0, fresh: true, notifies: true, queues };
+    let connect = Connect { device, connection, ifindex: 0, program: 0, fresh: true, notifies: true, scatters: false, queues };
     for message in [counters.encode(), Order::Connect(connect).encode(), Order::Text(vec![0; TEXT_PART]).encode()] {
         assert!(message.len() <= MOST_MESSAGE, "{}", message.len());
     }

@@ -1,4 +1,6 @@
 //! A guest and Xen in memory: grants that are given and ended, and a guest that changes its slots.
+#[cfg(feature = "fuzz")]
+mod fuzz;
 mod ways;
 
 use super::ring::SLOTS;
@@ -484,15 +486,20 @@ struct Came {
 fn whatever_a_guest_writes_nothing_ungranted_is_touched() {
     let mut came = Came::default();
     for seed in 1..300u32 {
-        let mut any = Any(seed);
-        let mut bench = Bench::new(if seed % 3 == 0 { Way::Map } else { Way::Copy }, 2 + (seed % 2) as u8);
-        (20..36).for_each(|reference| bench.memory.grant(reference, reference % 3 > 0));
-        let mut arena = arena(&[60, 9000, 61]);
-        while !one_round(&mut bench, &mut any, &mut arena, &mut came) {}
-        assert_eq!(bench.count(|totals| &totals.strange), 0, "seed {seed}");
-        came.asked += bench.count(|totals| &totals.asked_pages);
+        let way = if seed % 3 == 0 { Way::Map } else { Way::Copy };
+        until_it_halts(way, 2 + (seed % 2) as u8, Any::Seed(seed), usize::MAX, &mut came);
     }
     assert!(came.ran > 300 && came.refused > 300 && came.sent > 300 && came.halts == 299 && came.asked > 300, "{came:?}");
+}
+
+/// A guest of these numbers, for so many rounds at most.
+fn until_it_halts(way: Way, answer: u8, mut any: Any, rounds: usize, came: &mut Came) {
+    let mut bench = Bench::new(way, answer);
+    (20..36).for_each(|reference| bench.memory.grant(reference, reference % 3 > 0));
+    let mut arena = arena(&[60, 9000, 61]);
+    let _ = (0..rounds).find(|_| one_round(&mut bench, &mut any, &mut arena, came));
+    assert_eq!(bench.count(|totals| &totals.strange), 0, "{any:?}");
+    came.asked += bench.count(|totals| &totals.asked_pages);
 }
 
 /// A turn and a delivery, with changes before, between and after the copies. Whether the queue halted.
@@ -519,12 +526,24 @@ fn one_round(bench: &mut Bench, any: &mut Any, arena: &mut Arena, came: &mut Cam
     halted
 }
 
-struct Any(u32);
+/// Numbers: those of a seed, or of bytes, and then zeros.
+#[derive(Clone, Debug, PartialEq)]
+enum Any {
+    Seed(u32),
+    #[cfg(feature = "fuzz")]
+    Bytes(Vec<u8>),
+}
 
 impl Any {
     fn below(&mut self, most: u32) -> u32 {
-        self.0 = self.0.wrapping_mul(1_664_525).wrapping_add(1_013_904_223);
-        (self.0 >> 8) % most
+        match self {
+            Any::Seed(seed) => {
+                *seed = seed.wrapping_mul(1_664_525).wrapping_add(1_013_904_223);
+                (*seed >> 8) % most
+            }
+            #[cfg(feature = "fuzz")]
+            Any::Bytes(bytes) => fuzz::below(bytes, most),
+        }
     }
 
     fn reference(&mut self) -> u32 {

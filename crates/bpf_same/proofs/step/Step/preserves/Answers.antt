@@ -1,8 +1,8 @@
 use Rattle.std.proofs.Common.{rules, ◌≡◌, ℕ, Some, inl, inr, true, sym, subst, arith}
 use Rattle.std.proofs.lemmas.Bool.{cases_lt}
 use Rattle.bpf_note.specs.Parts.{facts}
-use Rattle.bpf_same.specs.LinearForms.{old_of, new_of, room_of}
-use Rattle.bpf_same.specs.Stepped.{PreservesOld, PreservesNew}
+use Rattle.bpf_same.specs.LinearForms.{old_of, new_of, room_of, bound_of, shifted_of}
+use Rattle.bpf_same.specs.Stepped.{PreservesOld, PreservesNew, PreservesBound, PreservesShifted}
 use Rattle.bpf_same.proofs.step.Step.preserves.Goals as goal
 
 pub loop-register-preserved : goal.loop-register-preserved
@@ -50,10 +50,52 @@ loop-number-preserved c = (
       ],
 )
 
+pub loop-index-init : goal.loop-index-init
+loop-index-init c = (c.loop-number.invariant.0, c.loop-number.invariant.1, λ r small room e. c.loop-number.invariant.2 r (omega (arith, small, c.loop-number-test.false)) room e, λ r low b e. absurd (omega (arith, low)))
+
+pub loop-index-preserved : goal.loop-index-preserved
+loop-index-preserved c = (
+  c.loop-index.invariant.0,
+  c.loop-index.invariant.1,
+  c.loop-index.invariant.2,
+  λ k low r e.
+      let t = c.args.self.now in
+      elim (cases_lt k c.loop-index.index) [
+        | inl old ↦ c.loop-index.invariant.3 k old r e
+        | inr high ↦
+            let this : c.loop-index.index ≡ k = omega (arith, low, high) in
+            let holds : c.preserves_bound.result ≡ true = search rules in
+            subst (λ (k : ℕ). PreservesBound t.insn t.stutters t.low (facts t.after.now) t.before.now k r) this (c.preserves_bound.ensures holds r (subst (λ (k : ℕ). bound_of c.args.next.now k ≡ Some r) (sym this) e))
+      ],
+)
+
+pub loop-shifted-init : goal.loop-shifted-init
+loop-shifted-init c =
+    (c.loop-index.invariant.0, c.loop-index.invariant.1, c.loop-index.invariant.2, λ r small b e. c.loop-index.invariant.3 r (omega (arith, small, c.loop-index-test.false)) b e, λ k low s e. absurd (omega (arith, low)))
+
+pub loop-shifted-preserved : goal.loop-shifted-preserved
+loop-shifted-preserved c = (
+  c.loop-shifted.invariant.0,
+  c.loop-shifted.invariant.1,
+  c.loop-shifted.invariant.2,
+  c.loop-shifted.invariant.3,
+  λ k low s e.
+      let t = c.args.self.now in
+      elim (cases_lt k c.loop-shifted.shifted) [
+        | inl old ↦ c.loop-shifted.invariant.4 k old s e
+        | inr high ↦
+            let this : c.loop-shifted.shifted ≡ k = omega (arith, low, high) in
+            let holds : c.preserves_shifted.result ≡ true = search rules in
+            subst (λ (k : ℕ). PreservesShifted t.insn t.stutters t.low (facts t.after.now) t.before.now k s) this (c.preserves_shifted.ensures holds s (subst (λ (k : ℕ). shifted_of c.args.next.now k ≡ Some s) (sym this) e))
+      ],
+)
+
 pub returns : goal.returns
 returns c = λ r f g f' g' t h. record {
-  olds = λ k s small e. c.loop-number.invariant.0 k small s e f g f' g' t h;
-  news = λ n s small e. c.loop-number.invariant.1 n small s e f g f' g' t h;
-  rooms = λ k room small e. c.loop-number.invariant.2 k (omega (arith, small, c.loop-number-test.false)) room e f g f' g' t h;
+  olds = λ k s small e. c.loop-shifted.invariant.0 k small s e f g f' g' t h;
+  news = λ n s small e. c.loop-shifted.invariant.1 n small s e f g f' g' t h;
+  rooms = λ k room small e. c.loop-shifted.invariant.2 k small room e f g f' g' t h;
+  bounds = λ k b small e. c.loop-shifted.invariant.3 k small b e f g f' g' t h;
+  shifted = λ k s small e. c.loop-shifted.invariant.4 k (omega (arith, small, c.loop-shifted-test.false)) s e f g f' g' t h;
   words = t.fits;
 }

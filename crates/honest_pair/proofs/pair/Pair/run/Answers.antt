@@ -1,5 +1,5 @@
 use Rattle.std.proofs.Common.{◌≡◌, ◌<◌, ◌∙◌, ℕ, List, ap, length, refl, arith}
-use Rattle.xen_back.specs.declared.wiring.Wiring.{Wiring}
+use Rattle.xen_turns.specs.declared.wiring.Wiring.{Wiring}
 use Rattle.xdp_world.specs.Frames.{owners_of}
 use Rattle.xdp_world.specs.declared.doing.Doing.TheVariants as doing
 use Rattle.honest_pair.specs.Events.{events_in}

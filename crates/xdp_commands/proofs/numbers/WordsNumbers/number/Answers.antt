@@ -1,4 +1,4 @@
-use Rattle.std.proofs.Common.{◌∙◌, arith}
+use Rattle.std.proofs.Common.{arith}
 use Rattle.bpf_maps.proofs.PlaceLemmas.{place_within}
 use Rattle.xdp_commands.proofs.numbers.WordsNumbers.number.Goals as goal
 

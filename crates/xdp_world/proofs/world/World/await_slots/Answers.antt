@@ -3,7 +3,7 @@ use Rattle.std.proofs.lemmas.List.{get_or_read}
 use Rattle.std.specs.Global.{Vec}
 use Rattle.xen_back.specs.Queues.{wiring_of}
 use Rattle.xen_back.specs.declared.queue.Queue.{Queue}
-use Rattle.xen_back.specs.declared.wiring.Wiring.{Wiring}
+use Rattle.xen_turns.specs.declared.wiring.Wiring.{Wiring}
 use Rattle.xdp_world.specs.Carries.{waited_list}
 use Rattle.xdp_world.specs.Doings.{Fits, is_between}
 use Rattle.xdp_world.specs.Stands.{delivered_in, delivered_of, kept_in, kept_of, waited_in, waited_of}

@@ -4,7 +4,7 @@ use Rattle.std.specs.Global.{Vec}
 use Rattle.xen_steps.specs.Event.{Event}
 use Rattle.xen_back.specs.Queues.{wiring_of}
 use Rattle.xen_back.specs.declared.queue.Queue.{Queue}
-use Rattle.xen_back.specs.declared.wiring.Wiring.{Wiring}
+use Rattle.xen_turns.specs.declared.wiring.Wiring.{Wiring}
 use Rattle.xdp_world.specs.Calls.{Call, Stepped, all_stepped}
 use Rattle.xdp_world.specs.Carries.{Moves, delivered_list, doing_after, waited_list}
 use Rattle.xdp_world.specs.Doings.{is_call}

@@ -5,7 +5,7 @@ use Rattle.xen_steps.specs.Drive.{IsPageWant}
 use Rattle.xen_rx_fill.specs.declared.vif.Vif.{Vif}
 use Rattle.xen_steps.specs.Steps.{want_of}
 use Rattle.xen_back.specs.Queues.{rest, wiring_of}
-use Rattle.xen_back.specs.Within.{may_want}
+use Rattle.xen_turns.specs.Within.{may_want}
 use Rattle.xen_back.specs.declared.queue.Queue.{Queue}
 use Rattle.xdp_world.specs.Doings.{Fits, is_call, want_at}
 use Rattle.xdp_world.specs.declared.doing.Doing.{Doing}

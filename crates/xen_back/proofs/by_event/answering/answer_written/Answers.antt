@@ -1,8 +1,8 @@
 use Rattle.std.proofs.Common.{◌<◌, ap, sym, length, arith}
 use Rattle.xen_steps.specs.Steps.{next_by}
-use Rattle.xen_back.specs.Tree.{answered}
-use Rattle.xen_back.specs.Turned.{turned}
-use Rattle.xen_back.proofs.RestLemmas.{answer_at}
+use Rattle.xen_turns.specs.Tree.{answered}
+use Rattle.xen_turns.specs.Turned.{turned}
+use Rattle.xen_turns.proofs.RestLemmas.{answer_at}
 use Rattle.xen_back.proofs.by_event.answering.answer_written.Goals as goal
 
 pub returns-then-i-len : goal.returns-then-i-len

@@ -1,5 +1,5 @@
 use Rattle.std.proofs.Common.{◌≡◌, take, map}
-use Rattle.xen_back.specs.Tree.{response}
+use Rattle.xen_turns.specs.Tree.{response}
 use Rattle.xen_back.proofs.by_event.answering.responses.Given as goal
 
 abbrev pub invariant-loop-request : goal.invariant-loop-request

@@ -1,7 +1,7 @@
 use Rattle.std.proofs.Common.{◌<◌, ◌+◌, ◌-◌, ◌++◌, suc, ap, ◌∙◌, arith, drop}
 use Rattle.xen_netif.specs.Copy.{bytes_in}
 use Rattle.xen_steps.specs.Steps.{bind}
-use Rattle.xen_back.specs.Tree.{after_copy, copy}
+use Rattle.xen_turns.specs.Tree.{after_copy, copy}
 use Rattle.xen_steps.specs.Pages.{copy_words}
 use Rattle.xen_steps.proofs.PageLemmas.{copy_words_more}
 use Rattle.xen_back.proofs.by_event.copying.after_page.Goals as goal

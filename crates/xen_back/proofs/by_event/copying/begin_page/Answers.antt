@@ -1,6 +1,6 @@
 use Rattle.std.proofs.Common.{◌≡◌, ◌<◌, ◌-◌, ◌/◌, suc, ap, sym, ◌∙◌, arith, drop}
 use Rattle.xen_steps.specs.Steps.{bind}
-use Rattle.xen_back.specs.Tree.{after_copy, copy}
+use Rattle.xen_turns.specs.Tree.{after_copy, copy}
 use Rattle.xen_steps.specs.Pages.{copy_words, covered}
 use Rattle.xen_steps.proofs.CopyLemmas.{covered_end}
 use Rattle.xen_back.proofs.by_event.copying.begin_page.Goals as goal

@@ -1,9 +1,9 @@
 use Rattle.std.proofs.Common.{◌<◌, ap, sym, ◌∙◌, length, arith, drop, ◌+◌}
-use Rattle.xen_back.specs.Rest.{fragment_at}
+use Rattle.xen_turns.specs.Rest.{fragment_at}
 use Rattle.xen_steps.specs.Steps.{bind}
 use Rattle.xen_rx_fill.specs.Entries.{entry_at}
-use Rattle.xen_back.specs.Tree.{after_copy, copy, entered}
-use Rattle.xen_back.proofs.RestLemmas.{copy_at}
+use Rattle.xen_turns.specs.Tree.{after_copy, copy, entered}
+use Rattle.xen_turns.proofs.RestLemmas.{copy_at}
 use Rattle.xen_back.proofs.by_event.copying.next_fragment.Goals as goal
 use Rattle.xen_page.specs.declared.entry.Rights.TheVariants.{ReadOnly}
 

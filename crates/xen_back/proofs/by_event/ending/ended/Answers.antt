@@ -2,10 +2,11 @@ use Rattle.std.proofs.Common.{◌≡◌, subst}
 use Rattle.bpf_vm.specs.Course.{left}
 use Rattle.xen_back.specs.Rest.{rest_in}
 use Rattle.xen_steps.specs.Steps.{want_of}
-use Rattle.xen_back.specs.Tree.{after_run}
+use Rattle.xen_turns.specs.Tree.{after_run}
 use Rattle.xen_back.specs.declared.by_event.stage.Stage.{Stage}
 use Rattle.xen_steps.specs.declared.want.Want.TheVariants as want
-use Rattle.xen_back.proofs.FeedLemmas.{program_asks, stage_asks}
+use Rattle.xen_turns.proofs.FeedLemmas.{program_asks}
+use Rattle.xen_back.proofs.FeedLemmas.{stage_asks}
 use Rattle.xen_back.proofs.by_event.ending.ended.Goals as goal
 
 pub unreachable-requires : goal.unreachable-requires

@@ -1,10 +1,10 @@
 use Rattle.std.proofs.Common.{◌≡◌, ◌%◌, ◌^◌, ℕ, List, ap, sym, ◌∙◌}
 use Rattle.bpf_vm.specs.Course.{Course, Exiting}
 use Rattle.xen_steps.specs.Steps.{bind, next_by}
-use Rattle.xen_back.specs.Tree.{after_run, program}
+use Rattle.xen_turns.specs.Tree.{after_run, program}
 use Rattle.xen_back.specs.declared.by_event.stage.Executing.{Executing}
-use Rattle.xen_back.specs.declared.state.State.{State}
-use Rattle.xen_back.specs.declared.wiring.Wiring.{Wiring}
+use Rattle.xen_turns.specs.declared.state.State.{State}
+use Rattle.xen_turns.specs.declared.wiring.Wiring.{Wiring}
 use Rattle.xen_back.proofs.by_event.executing.executed.Goals as goal
 
 -- an exit's instruction leaves what follows a run that ended so

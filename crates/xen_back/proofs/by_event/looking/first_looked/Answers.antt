@@ -1,7 +1,7 @@
 use Rattle.std.proofs.Common.{◌<◌, ap, sym, ◌∙◌, arith}
 use Rattle.xen_steps.specs.Steps.{bind}
-use Rattle.xen_back.specs.Tree.{after_look, seen}
-use Rattle.xen_back.proofs.RestLemmas.{seen_some}
+use Rattle.xen_turns.specs.Tree.{after_look, seen}
+use Rattle.xen_turns.proofs.RestLemmas.{seen_some}
 use Rattle.xen_back.proofs.by_event.looking.first_looked.Goals as goal
 
 pub returns-else-n-eq0 : goal.returns-else-n-eq0

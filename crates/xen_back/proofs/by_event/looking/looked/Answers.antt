@@ -1,7 +1,7 @@
 use Rattle.std.proofs.Common.{◌<◌, ap, sym, ◌∙◌, arith, ◌-◌, suc}
 use Rattle.xen_steps.specs.Steps.{bind}
-use Rattle.xen_back.specs.Tree.{after_look, after_scan, read_slots}
-use Rattle.xen_back.proofs.RestLemmas.{after_look_some}
+use Rattle.xen_turns.specs.Tree.{after_look, after_scan, read_slots}
+use Rattle.xen_turns.proofs.RestLemmas.{after_look_some}
 use Rattle.xen_back.proofs.by_event.looking.looked.Goals as goal
 
 pub returns-else-n-eq0 : goal.returns-else-n-eq0

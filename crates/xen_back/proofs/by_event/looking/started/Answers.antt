@@ -1,6 +1,6 @@
 use Rattle.std.proofs.Common.{ap, sym, ◌∙◌}
 use Rattle.xen_steps.specs.Steps.{bind, next_by}
-use Rattle.xen_back.specs.Tree.{after_look, seen, unless_halted}
+use Rattle.xen_turns.specs.Tree.{after_look, seen, unless_halted}
 use Rattle.xen_back.proofs.by_event.looking.started.Goals as goal
 
 pub returns-in-None : goal.returns-in-None

@@ -2,7 +2,7 @@ use Rattle.std.proofs.Common.{◌≡◌, List, ℕ, IsTrue, ap, subst, ◌∙◌
 use Rattle.xen_steps.specs.Steps.{asks, bind, next_by}
 use Rattle.xen_steps.proofs.BindLemmas.{next_bind}
 use Rattle.xen_rx_fill.specs.Rest.{rest_after, rest_of}
-use Rattle.xen_back.specs.Tree.{after_transmit}
+use Rattle.xen_turns.specs.Tree.{after_transmit}
 use Rattle.xen_back.proofs.by_event.sent.sent_fed.Goals as goal
 
 pub returns : goal.returns

@@ -1,5 +1,5 @@
 use Rattle.std.proofs.Common.{ap, sym, ◌∙◌}
-use Rattle.xen_back.specs.Deliveries.{if_frame}
+use Rattle.xen_turns.specs.Deliveries.{if_frame}
 use Rattle.xen_back.proofs.delivery.by_event.begun.Goals as goal
 
 pub returns-then-can_be_delivered : goal.returns-then-can_be_delivered

@@ -1,6 +1,6 @@
 use Rattle.std.proofs.Common.{ap, sym, ◌∙◌}
 use Rattle.xen_steps.specs.Steps.{bind}
-use Rattle.xen_back.specs.Deliveries.{arrived, unless_halted}
+use Rattle.xen_turns.specs.Deliveries.{arrived, unless_halted}
 use Rattle.xen_back.proofs.delivery.by_event.begun_frame.Goals as goal
 
 pub returns-in-Some : goal.returns-in-Some

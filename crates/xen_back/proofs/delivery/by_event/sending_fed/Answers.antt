@@ -3,7 +3,7 @@ use Rattle.xen_steps.specs.Steps.{bind, done}
 use Rattle.xen_steps.proofs.BindLemmas.{next_bind}
 use Rattle.xen_rx_fill.specs.Rest.{rest_after, rest_of}
 use Rattle.xen_rx_fill.specs.declared.transmit.Progress.{Progress}
-use Rattle.xen_back.specs.Deliveries.{arrived}
+use Rattle.xen_turns.specs.Deliveries.{arrived}
 use Rattle.xen_back.proofs.delivery.by_event.sending_fed.Goals as goal
 
 pub returns-in-On : goal.returns-in-On

@@ -1,7 +1,7 @@
 use Rattle.std.proofs.Common.{◌∙◌, sym}
 use Rattle.xen_steps.proofs.BindLemmas.{asks_on, want_bind}
 use Rattle.xen_rx_fill.specs.Rest.{rest_of}
-use Rattle.xen_back.specs.Deliveries.{arrived}
+use Rattle.xen_turns.specs.Deliveries.{arrived}
 use Rattle.xen_back.proofs.delivery.by_event.sending_want.Goals as goal
 
 pub returns : goal.returns

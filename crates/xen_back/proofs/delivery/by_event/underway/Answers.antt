@@ -1,8 +1,9 @@
 use Rattle.std.proofs.Common.{sym, subst}
 use Rattle.xen_steps.specs.Steps.{Steps}
 use Rattle.xen_rx_fill.specs.declared.vif.Vif.{Vif}
-use Rattle.xen_back.specs.Deliveries.{Arrival, Arrives, rest_moving}
-use Rattle.xen_back.proofs.ArriveLemmas.{arrives}
+use Rattle.xen_turns.specs.Deliveries.{Arrival, Arrives}
+use Rattle.xen_back.specs.Deliveries.{rest_moving}
+use Rattle.xen_turns.proofs.ArriveLemmas.{arrives}
 use Rattle.xen_back.proofs.delivery.by_event.underway.Goals as goal
 
 pub invariant_of-result : goal.invariant_of-result

@@ -1,6 +1,6 @@
 use Rattle.std.proofs.Common.{[], sym, ◌∙◌}
 use Rattle.xen_page.proofs.AccessLemmas.{performs_none}
-use Rattle.xen_back.specs.Delivered.{no_frame}
+use Rattle.xen_turns.specs.Delivered.{no_frame}
 use Rattle.xen_back.proofs.delivery.delivering.sent_out.Goals as goal
 
 pub returns-else-can_be_delivered-clause-delivered : goal.returns-else-can_be_delivered-clause-delivered

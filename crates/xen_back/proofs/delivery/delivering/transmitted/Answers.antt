@@ -3,7 +3,7 @@ use Rattle.xen_page.proofs.AccessLemmas.{performs_none}
 use Rattle.xen_steps.specs.Steps.{done}
 use Rattle.xen_steps.proofs.DriveLemmas.{runs_of_gone}
 use Rattle.xen_rx_fill.specs.Transmit.{transmit}
-use Rattle.xen_back.specs.Delivered.{still_halted}
+use Rattle.xen_turns.specs.Delivered.{still_halted}
 use Rattle.xen_back.proofs.delivery.delivering.transmitted.Goals as goal
 
 pub returns-in-Some-clause-delivered : goal.returns-in-Some-clause-delivered

@@ -1,8 +1,8 @@
 use Rattle.std.proofs.Common.{[], ap, sym, subst, ◌∙◌}
 use Rattle.xen_page.proofs.AccessLemmas.{performs_none}
-use Rattle.xen_back.specs.Awaited.{IsAwaiting, last_look, still_halted}
-use Rattle.xen_back.specs.Waits.{Wait, wait_end}
-use Rattle.xen_back.proofs.WaitLemmas.{wait_row}
+use Rattle.xen_turns.specs.Awaited.{IsAwaiting, last_look, still_halted}
+use Rattle.xen_turns.specs.Waits.{Wait, wait_end}
+use Rattle.xen_turns.proofs.WaitLemmas.{wait_row}
 use Rattle.xen_back.proofs.delivery.wait.looked_for.Goals as goal
 
 pub returns-in-Some-clause-awaited : goal.returns-in-Some-clause-awaited

@@ -4,10 +4,10 @@ use Rattle.xen_page.specs.Access.{Performs}
 use Rattle.xen_page.specs.declared.access.Access.TheVariants as access
 use Rattle.xen_steps.specs.Places.{add32}
 use Rattle.xen_rx_fill.specs.Places.{tx_slot}
-use Rattle.xen_back.specs.Drive.{Driven}
-use Rattle.xen_back.specs.Responses.{response}
-use Rattle.xen_back.specs.Tree.{answer}
-use Rattle.xen_back.proofs.BulkLemmas.{answer_on}
+use Rattle.xen_turns.specs.Drive.{Driven}
+use Rattle.xen_turns.specs.Responses.{response}
+use Rattle.xen_turns.specs.Tree.{answer}
+use Rattle.xen_turns.proofs.BulkLemmas.{answer_on}
 use Rattle.xen_back.proofs.in_one_go.answering.write_answers.Goals as goal
 
 pub loop-i-preserved : goal.loop-i-preserved

@@ -1,9 +1,9 @@
 use Rattle.std.proofs.Common.{◌≡◌, List, [], drop, length, map}
 use Rattle.xen_steps.specs.Event.{Event}
-use Rattle.xen_back.specs.Drive.{Driven}
-use Rattle.xen_back.specs.Responses.{response}
-use Rattle.xen_back.specs.Tree.{answer}
-use Rattle.xen_back.specs.Turned.{Ending}
+use Rattle.xen_turns.specs.Drive.{Driven}
+use Rattle.xen_turns.specs.Responses.{response}
+use Rattle.xen_turns.specs.Tree.{answer}
+use Rattle.xen_turns.specs.Turned.{Ending}
 use Rattle.xen_back.proofs.in_one_go.answering.write_answers.Given as goal
 
 abbrev pub invariant-loop-i : goal.invariant-loop-i

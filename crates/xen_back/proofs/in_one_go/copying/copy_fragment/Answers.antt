@@ -1,7 +1,7 @@
 use Rattle.std.proofs.Common.{◌/◌, ◌%◌, drop, length, length-append, length-take, refl, ap, arith}
 use Rattle.xen_netif.specs.Copy.{bytes_from, bytes_of}
 use Rattle.xen_netif.proofs.CopyLemmas.{bytes_from-covered}
-use Rattle.xen_back.proofs.BulkLemmas.{copied_driven, refused_driven}
+use Rattle.xen_turns.proofs.BulkLemmas.{copied_driven, refused_driven}
 use Rattle.xen_back.proofs.in_one_go.copying.copy_fragment.Goals as goal
 
 pub returns-in-Err-clause-driven : goal.returns-in-Err-clause-driven

@@ -7,12 +7,12 @@ use Rattle.xen_netif.specs.Fragments.{fragment_size, is_in_page}
 use Rattle.xen_netif.specs.declared.fragment.Fragment.{Fragment}
 use Rattle.xen_page.specs.declared.fault.GrantFault.{GrantFault}
 use Rattle.xen_steps.specs.Steps.{Steps, bind}
-use Rattle.xen_back.specs.Drive.{Driven}
+use Rattle.xen_turns.specs.Drive.{Driven}
 use Rattle.xen_back.specs.InOneGo.{after_fragment, copied}
-use Rattle.xen_back.specs.Rest.{fragment_at}
-use Rattle.xen_back.specs.Tree.{copy}
-use Rattle.xen_back.specs.Turned.{Ending}
-use Rattle.xen_back.proofs.DriveLemmas.{driven_append}
+use Rattle.xen_turns.specs.Rest.{fragment_at}
+use Rattle.xen_turns.specs.Tree.{copy}
+use Rattle.xen_turns.specs.Turned.{Ending}
+use Rattle.xen_turns.proofs.DriveLemmas.{driven_append}
 use Rattle.xen_back.proofs.in_one_go.copying.copy_fragments.Goals as goal
 
 next : (fs : List Fragment) (i : ℕ) → i < length fs → drop i fs ≡ fragment_at fs i ∷ drop (i + 1) fs

@@ -3,9 +3,9 @@ use Rattle.std.specs.List.{list_all}
 use Rattle.xen_netif.specs.Fragments.{fragment_size, is_in_page}
 use Rattle.xen_steps.specs.Event.{Event}
 use Rattle.xen_steps.specs.Steps.{Steps, bind}
-use Rattle.xen_back.specs.Drive.{Driven}
-use Rattle.xen_back.specs.Tree.{copy}
-use Rattle.xen_back.specs.Turned.{Ending}
+use Rattle.xen_turns.specs.Drive.{Driven}
+use Rattle.xen_turns.specs.Tree.{copy}
+use Rattle.xen_turns.specs.Turned.{Ending}
 use Rattle.xen_back.proofs.in_one_go.copying.copy_fragments.Given as goal
 
 abbrev pub invariant-loop-fragment : goal.invariant-loop-fragment

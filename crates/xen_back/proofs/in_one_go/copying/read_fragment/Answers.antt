@@ -2,8 +2,8 @@ use Rattle.std.proofs.Common.{◌≡◌, ◌+◌, ◌-◌, ◌*◌, ◌/◌, ◌
 use Rattle.xen_netif.specs.Copy.{bytes_from, bytes_of}
 use Rattle.xen_netif.proofs.CopyLemmas.{length-bytes_of}
 use Rattle.xen_steps.specs.Pages.{HasRoom}
-use Rattle.xen_back.proofs.ReadLemmas.{bytes_from-append, read_then, room_after_whole, whole_bytes, whole_room}
-use Rattle.xen_back.specs.Reads.{AreReadFrom}
+use Rattle.xen_turns.proofs.ReadLemmas.{bytes_from-append, read_then, room_after_whole, whole_bytes, whole_room}
+use Rattle.xen_turns.specs.Reads.{AreReadFrom}
 use Rattle.xen_back.proofs.in_one_go.copying.read_fragment.Goals as goal
 
 pub read_parts-requires-clause-within : goal.read_parts-requires-clause-within

@@ -5,7 +5,7 @@ use Rattle.xen_page.proofs.AccessLemmas.{performs_one}
 use Rattle.xen_steps.specs.Pages.{HasRoom}
 use Rattle.xen_steps.specs.Places.{page_word}
 use Rattle.xen_steps.proofs.CopyLemmas.{bytes_short, room_at_end, room_goes_on}
-use Rattle.xen_back.proofs.ReadLemmas.{bytes_from-append, read_one, read_then}
+use Rattle.xen_turns.proofs.ReadLemmas.{bytes_from-append, read_one, read_then}
 use Rattle.xen_back.proofs.in_one_go.copying.read_parts.Goals as goal
 
 pub push_part-requires-clause-room : goal.push_part-requires-clause-room

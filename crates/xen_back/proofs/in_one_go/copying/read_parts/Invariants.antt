@@ -1,7 +1,7 @@
 use Rattle.std.proofs.Common.{◌≡◌, ◌≤◌, ◌-◌, ◌++◌, List, ℕ, length}
 use Rattle.xen_netif.specs.Copy.{bytes_from}
 use Rattle.xen_steps.specs.Pages.{HasRoom}
-use Rattle.xen_back.specs.Reads.{AreReadFrom}
+use Rattle.xen_turns.specs.Reads.{AreReadFrom}
 use Rattle.xen_back.proofs.in_one_go.copying.read_parts.Given as goal
 
 abbrev pub invariant-loop-place : goal.invariant-loop-place

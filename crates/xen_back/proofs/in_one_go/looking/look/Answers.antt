@@ -2,10 +2,10 @@ use Rattle.std.proofs.Common.{◌≡◌, ◌++◌, ℕ, List, [], ◌∷◌, Opt
 use Rattle.xen_steps.specs.Event.{Event, Read}
 use Rattle.xen_steps.specs.Steps.{bind}
 use Rattle.xen_rx_fill.specs.Places.{tx_word}
-use Rattle.xen_back.specs.Drive.{Driven}
-use Rattle.xen_back.specs.Tree.{after_look, announce, look, seen}
+use Rattle.xen_turns.specs.Drive.{Driven}
+use Rattle.xen_turns.specs.Tree.{after_look, announce, look, seen}
 use Rattle.xen_back.proofs.InOneGoLemmas.{look_read, looked_at}
-use Rattle.xen_back.proofs.DriveLemmas.{driven_append}
+use Rattle.xen_turns.proofs.DriveLemmas.{driven_append}
 use Rattle.xen_back.proofs.in_one_go.looking.look.Goals as goal
 
 pub returns-in-None-clause-driven : goal.returns-in-None-clause-driven

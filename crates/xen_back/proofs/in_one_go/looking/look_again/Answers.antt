@@ -3,8 +3,8 @@ use Rattle.xen_steps.specs.Event.{Event, Read, Write}
 use Rattle.xen_steps.specs.Places.{add32}
 use Rattle.xen_steps.specs.Steps.{bind}
 use Rattle.xen_rx_fill.specs.Places.{tx_word}
-use Rattle.xen_back.specs.Drive.{Driven}
-use Rattle.xen_back.specs.Tree.{after_look, announce}
+use Rattle.xen_turns.specs.Drive.{Driven}
+use Rattle.xen_turns.specs.Tree.{after_look, announce}
 use Rattle.xen_back.proofs.InOneGoLemmas.{look_again_read}
 use Rattle.xen_back.proofs.in_one_go.looking.look_again.Goals as goal
 

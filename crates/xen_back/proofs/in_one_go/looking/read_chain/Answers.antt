@@ -5,12 +5,12 @@ use Rattle.xen_netif.specs.declared.chain.ChainState.TheVariants as wanted
 use Rattle.xen_netif.specs.declared.fault.ChainFault.{ChainFault}
 use Rattle.xen_steps.specs.Places.{add32}
 use Rattle.xen_steps.specs.Steps.{Steps, bind}
-use Rattle.xen_back.specs.Drive.{Driven}
+use Rattle.xen_turns.specs.Drive.{Driven}
 use Rattle.xen_back.specs.InOneGo.{after_slot}
-use Rattle.xen_back.specs.Rest.{rest_of_slot}
-use Rattle.xen_back.specs.Tree.{after_scan, judged, read_slot, read_slots}
-use Rattle.xen_back.specs.Turned.{Ending}
-use Rattle.xen_back.proofs.BulkLemmas.{IsSlotRead, judged_more, none_left, one_left, slot_on}
+use Rattle.xen_turns.specs.Rest.{rest_of_slot}
+use Rattle.xen_turns.specs.Tree.{after_scan, judged, read_slot, read_slots}
+use Rattle.xen_turns.specs.Turned.{Ending}
+use Rattle.xen_turns.proofs.BulkLemmas.{IsSlotRead, judged_more, none_left, one_left, slot_on}
 use Rattle.xen_back.proofs.in_one_go.looking.read_chain.Goals as goal
 
 pub returns-in-Err-clause-driven : goal.returns-in-Err-clause-driven

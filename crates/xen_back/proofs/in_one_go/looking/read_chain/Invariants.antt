@@ -2,7 +2,7 @@ use Rattle.std.proofs.Common.{◌≡◌, ◌≢◌, List, [], Some, Ok}
 use Rattle.xen_netif.specs.Standing.{standing}
 use Rattle.xen_netif.specs.declared.chain.ChainState.TheVariants.{Complete}
 use Rattle.xen_steps.specs.Event.{Event}
-use Rattle.xen_back.specs.Drive.{Driven}
+use Rattle.xen_turns.specs.Drive.{Driven}
 use Rattle.xen_back.specs.InOneGo.{after_slot}
 use Rattle.xen_back.proofs.in_one_go.looking.read_chain.Given as goal
 

@@ -1,11 +1,11 @@
 use Rattle.std.proofs.Common.{[], Option, sym, subst}
 use Rattle.xen_steps.specs.Steps.{Steps, bind, done}
-use Rattle.xen_back.specs.Drive.{Driven}
+use Rattle.xen_turns.specs.Drive.{Driven}
 use Rattle.xen_back.specs.InOneGo.{after_begin}
-use Rattle.xen_back.specs.Tree.{after_look, look, unless_halted}
-use Rattle.xen_back.specs.Turned.{Ending, Halted}
-use Rattle.xen_back.specs.declared.turn.Halt.{Halt}
-use Rattle.xen_back.proofs.DriveLemmas.{driven_none}
+use Rattle.xen_turns.specs.Tree.{after_look, look, unless_halted}
+use Rattle.xen_turns.specs.Turned.{Ending, Halted}
+use Rattle.xen_turns.specs.declared.turn.Halt.{Halt}
+use Rattle.xen_turns.proofs.DriveLemmas.{driven_none}
 use Rattle.xen_back.proofs.in_one_go.turning.begin.Goals as goal
 
 pub returns-in-Some-clause-driven : goal.returns-in-Some-clause-driven

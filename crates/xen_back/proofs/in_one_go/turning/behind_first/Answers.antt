@@ -1,9 +1,9 @@
 use Rattle.std.proofs.Common.{ℕ, Some, sym, ◌∙◌, ap}
 use Rattle.xen_steps.specs.Steps.{done}
-use Rattle.xen_back.specs.Tree.{after_look}
-use Rattle.xen_back.specs.Turned.{Halted}
-use Rattle.xen_back.specs.declared.state.State.{State}
-use Rattle.xen_back.specs.declared.turn.Halt.TheVariants as halts
+use Rattle.xen_turns.specs.Tree.{after_look}
+use Rattle.xen_turns.specs.Turned.{Halted}
+use Rattle.xen_turns.specs.declared.state.State.{State}
+use Rattle.xen_turns.specs.declared.turn.Halt.TheVariants as halts
 use Rattle.xen_back.proofs.InOneGoLemmas.{looked_some}
 use Rattle.xen_back.proofs.in_one_go.turning.behind_first.Goals as goal
 

@@ -1,6 +1,6 @@
 use Rattle.std.proofs.Common.{Option, subst, sym}
 use Rattle.xen_back.specs.Rest.{rest_of_stage}
-use Rattle.xen_back.specs.Within.{Completes}
+use Rattle.xen_turns.specs.Within.{Completes}
 use Rattle.xen_back.specs.declared.by_event.stage.Stage.{Stage}
 use Rattle.xen_back.proofs.queue.Queue.deliver.Goals as goal
 

@@ -1,12 +1,12 @@
 use Rattle.std.proofs.Common.{Option, refl, sym, subst}
 use Rattle.xen_back.specs.Queues.{state_of, wiring_of}
 use Rattle.xen_back.specs.Rest.{packet_of_stage}
-use Rattle.xen_back.specs.Tree.{whole_turn}
-use Rattle.xen_back.specs.Turned.{Shows, turned}
+use Rattle.xen_turns.specs.Tree.{whole_turn}
+use Rattle.xen_turns.specs.Turned.{Shows, turned}
 use Rattle.xen_back.specs.declared.by_event.stage.Stage.{Stage}
 use Rattle.xen_steps.specs.Steps.{done}
 use Rattle.xen_steps.proofs.DriveLemmas.{runs_of_gone}
-use Rattle.xen_back.proofs.TurnParts.{turn_parts}
+use Rattle.xen_turns.proofs.TurnParts.{turn_parts}
 use Rattle.xen_back.proofs.queue.Queue.drive_turn.Goals as goal
 
 pub returns : goal.returns

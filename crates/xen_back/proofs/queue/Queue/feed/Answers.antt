@@ -5,7 +5,7 @@ use Rattle.xen_steps.proofs.AnswerLemmas.{answered_event, fed_by}
 use Rattle.xen_steps.proofs.FinishLemmas.{finishes_next}
 use Rattle.xen_back.specs.Queues.{rest}
 use Rattle.xen_back.specs.Rest.{rest_in, rest_of_stage}
-use Rattle.xen_back.specs.Within.{may_want}
+use Rattle.xen_turns.specs.Within.{may_want}
 use Rattle.xen_back.specs.declared.by_event.stage.Stage.{Stage}
 use Rattle.xen_back.specs.declared.queue.Queue.{Queue}
 use Rattle.xen_steps.specs.declared.want.Answer.{Answer}

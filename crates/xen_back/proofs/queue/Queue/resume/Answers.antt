@@ -4,12 +4,12 @@ use Rattle.xen_steps.specs.Drive.{Any}
 use Rattle.xen_steps.proofs.FinishLemmas.{finishes}
 use Rattle.xen_rx_fill.specs.Wired.{IsWired}
 use Rattle.xen_rx_fill.specs.declared.vif.Vif.{Vif}
-use Rattle.xen_back.specs.Tree.{whole_turn}
-use Rattle.xen_back.specs.Within.{Completes, may_want}
-use Rattle.xen_back.specs.declared.state.State.{State}
-use Rattle.xen_back.specs.declared.wiring.Wiring.{Wiring}
-use Rattle.xen_back.proofs.Bounds.{bounded_turn}
-use Rattle.xen_back.proofs.EndLemmas.{ends_turn, run_whole}
+use Rattle.xen_turns.specs.Tree.{whole_turn}
+use Rattle.xen_turns.specs.Within.{Completes, may_want}
+use Rattle.xen_turns.specs.declared.state.State.{State}
+use Rattle.xen_turns.specs.declared.wiring.Wiring.{Wiring}
+use Rattle.xen_turns.proofs.Bounds.{bounded_turn}
+use Rattle.xen_turns.proofs.EndLemmas.{ends_turn, run_whole}
 use Rattle.xen_back.proofs.queue.Queue.resume.Goals as goal
 
 pub invariant_of-result : goal.invariant_of-result

@@ -1,14 +1,14 @@
 use Rattle.std.proofs.Common.{[], ◌++◌, ℕ, Option, Result, Some, arith, suc, sym, subst}
-use Rattle.xen_back.specs.Drive.{Driven}
+use Rattle.xen_turns.specs.Drive.{Driven}
 use Rattle.xen_back.specs.InOneGo.{after_begin, ended_in}
 use Rattle.xen_back.specs.Queues.{state_of, wiring_of}
 use Rattle.xen_back.specs.Rest.{packet_of_stage, rest_of_stage}
-use Rattle.xen_back.specs.Tree.{after_look, whole_turn}
-use Rattle.xen_back.specs.Within.{Completes}
+use Rattle.xen_turns.specs.Tree.{after_look, whole_turn}
+use Rattle.xen_turns.specs.Within.{Completes}
 use Rattle.xen_back.specs.declared.by_event.stage.Stage.{Stage}
-use Rattle.xen_back.specs.declared.turn.Kind.{Kind}
-use Rattle.xen_back.proofs.BulkLemmas.{tx_within}
-use Rattle.xen_back.proofs.DriveLemmas.{driven_append, driven_silent}
+use Rattle.xen_turns.specs.declared.turn.Kind.{Kind}
+use Rattle.xen_turns.proofs.BulkLemmas.{tx_within}
+use Rattle.xen_turns.proofs.DriveLemmas.{driven_append, driven_silent}
 use Rattle.xen_back.proofs.queue.Queue.take_turn.Goals as goal
 
 pub begin-requires : goal.begin-requires

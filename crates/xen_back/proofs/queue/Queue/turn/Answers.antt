@@ -1,8 +1,8 @@
 use Rattle.std.proofs.Common.{Option, Some, refl, sym, subst, ap, ◌∙◌}
 use Rattle.xen_back.specs.Rest.{packet_at, packet_of_stage, rest_in, rest_of_stage}
-use Rattle.xen_back.specs.Turned.{Shows, turned}
+use Rattle.xen_turns.specs.Turned.{Shows, turned}
 use Rattle.xen_back.specs.declared.by_event.stage.Stage.{Stage}
-use Rattle.xen_back.specs.Within.{Completes}
+use Rattle.xen_turns.specs.Within.{Completes}
 use Rattle.xen_back.proofs.queue.Queue.turn.Goals as goal
 
 pub invariant_of-self : goal.invariant_of-self

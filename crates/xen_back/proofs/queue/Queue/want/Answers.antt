@@ -1,6 +1,6 @@
 use Rattle.xen_steps.proofs.FinishLemmas.{some_run}
 use Rattle.xen_back.specs.Queues.{rest, wiring_of}
-use Rattle.xen_back.specs.Within.{may_want}
+use Rattle.xen_turns.specs.Within.{may_want}
 use Rattle.xen_back.proofs.queue.Queue.want.Goals as goal
 
 pub returns-clause-rests : goal.returns-clause-rests

@@ -1,14 +1,14 @@
 use Rattle.std.proofs.Common.{List, ℕ, drop, ap}
 use Rattle.xen_steps.specs.Steps.{bind}
-use Rattle.xen_host.specs.Wired.{wiring_of}
 use Rattle.xen_host.proofs.RanLedLemmas.{ran_from_same}
-use Rattle.xen_back.specs.Tree.{after_copy, copy}
+use Rattle.xen_turns.specs.Tree.{after_copy, copy}
+use Rattle.xen_host.specs.EngineAt.{engine_at}
 use Rattle.xen_host.proofs.engine.Engine.after_page.Goals as goal
 
 pub returns : goal.returns
 returns g c =
-    let q = c.args.self.now in
-    let w = wiring_of q.wires in
+    let q = engine_at (g.W.Wires.wiring c.args.wires.now) c.args.packet.now c.args.self.now in
+    let w = q.wires in
     let b = q.work in
     let p = c.page.ensures.given in
     record {
@@ -18,6 +18,6 @@ returns g c =
         all = p.all;
         below = p.below;
         given = p.given;
-        led = ran_from_same _ _ _ _ _ _ _ _ _ _ (ap (λ (l : List ℕ). bind (copy w (drop c.args.i b.fragments.items) l) (after_copy w q.state b.chain)) p.read) c.next_fragment.ensures.led;
+        led = ran_from_same _ _ _ _ _ _ _ _ _ (ap (λ (l : List ℕ). bind (copy w (drop c.args.i b.fragments) l) (after_copy w q.state b.chain)) p.read) c.next_fragment.ensures.led;
       };
     }

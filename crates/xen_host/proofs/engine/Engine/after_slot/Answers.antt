@@ -3,37 +3,37 @@ use Rattle.std.specs.Prelude.{Option, Some, Result, Ok}
 use Rattle.xen_steps.specs.Steps.{bind}
 use Rattle.xdp_program.specs.Tallies.{Went}
 use Rattle.xen_host.specs.HostLed.{TurnRanLeads}
-use Rattle.xen_host.specs.Wired.{wiring_of}
 use Rattle.xen_host.proofs.RanLedLemmas.{ran_from_same, ran_led}
 use Rattle.xen_netif.specs.Chain.{Slot}
 use Rattle.xen_netif.specs.Fragments.{fragments_of}
-use Rattle.xen_back.specs.Tree.{after_chain, after_scan, judged, read_slots}
+use Rattle.xen_turns.specs.Tree.{after_chain, after_scan, judged, read_slots}
 use Rattle.xen_netif.specs.Standing.{standing}
 use Rattle.xen_netif.specs.declared.chain.ChainState.{ChainState}
 use Rattle.xen_netif.specs.declared.fault.ChainFault.{ChainFault}
 use Rattle.xen_netif.specs.declared.flags.TxFlags.{TxFlags}
 use Rattle.xen_netif.specs.declared.chain.ChainState.TheVariants as wanted
+use Rattle.xen_host.specs.EngineAt.{engine_at}
 use Rattle.xen_host.proofs.engine.Engine.after_slot.Goals as goal
 
 pub returns-in-Err : goal.returns-in-Err
 returns-in-Err g c =
-    let q = c.args.self.now in
-    let w = wiring_of q.wires in
+    let q = engine_at (g.W.Wires.wiring c.args.wires.now) c.args.packet.now c.args.self.now in
+    let w = q.wires in
     let l = q.work.chain ++ c.args.slot ∷ [] in
     let rest = read_slots w q.state.tx_index c.args.left l in
     let from = bind (judged l (standing l) rest) (after_scan w q.state) in
     let same = ap (λ (o : Option (Result ChainState ChainFault)). bind (judged l o rest) (after_scan w q.state)) (c.push.ensures.standing ∙ ap (λ (r : Result ChainState ChainFault). Some r) c.in-Err.is) in
     let n = c.args.counters.now in
-    let did = g.T.Tallies.did q.wires.program.shapes in
+    let did = g.T.Tallies.did q.wires.program.now.shapes in
     record {
-      led = subst (λ (f : TxFlags). TurnRanLeads g.H.Host.was_asked g.H.Host.is_full q.wires f from c.halt.new.self (Went did n n) c.args.host.now c.halt.new.host) c.flags_behind-flags.ensures
-          (ran_led _ _ _ _ _ _ _ (Went (g.T.Tallies.did c.args.self.now.wires.program.shapes) c.args.counters.now c.args.counters.now) _ _ refl (sym same) c.halt.ensures.led);
+      led = subst (λ (f : TxFlags). TurnRanLeads g.H.Host.was_asked g.H.Host.is_full f from (engine_at q.wires c.halt.new.packet c.halt.new.self) (Went did n n) c.args.host.now c.halt.new.host) c.flags_behind-flags.ensures
+          (ran_led _ _ _ _ _ _ (Went (g.T.Tallies.did q.wires.program.now.shapes) c.args.counters.now c.args.counters.now) _ _ refl (sym same) (c.halt.ensures.led q.wires));
     }
 
 pub returns-in-Ok-Complete : goal.returns-in-Ok-Complete
 returns-in-Ok-Complete g c =
-    let q = c.args.self.now in
-    let w = wiring_of q.wires in
+    let q = engine_at (g.W.Wires.wiring c.args.wires.now) c.args.packet.now c.args.self.now in
+    let w = q.wires in
     let l = q.work.chain ++ c.args.slot ∷ [] in
     let rest = read_slots w q.state.tx_index c.args.left l in
     let from = bind (judged l (standing l) rest) (after_scan w q.state) in
@@ -41,14 +41,14 @@ returns-in-Ok-Complete g c =
     let same = ap (λ (o : Option (Result ChainState ChainFault)). bind (judged l o rest) (after_scan w q.state)) is in
     let whole = ap (λ (x : List Slot). after_chain w q.state x (fragments_of x)) c.in-Ok-Complete.ensures.ok in
     record {
-      led = subst (λ (f : TxFlags). TurnRanLeads g.H.Host.was_asked g.H.Host.is_full q.wires f from c.begin_copy.new.self (Went (g.T.Tallies.did q.wires.program.shapes) c.args.counters.now c.begin_copy.new.counters) c.args.host.now c.begin_copy.new.host) c.flags_behind-flags.ensures
-          (ran_from_same _ _ _ _ _ _ _ _ _ _ (whole ∙ sym same) c.begin_copy.ensures.led);
+      led = subst (λ (f : TxFlags). TurnRanLeads g.H.Host.was_asked g.H.Host.is_full f from (engine_at q.wires c.begin_copy.new.packet c.begin_copy.new.self) (Went (g.T.Tallies.did q.wires.program.now.shapes) c.args.counters.now c.begin_copy.new.counters) c.args.host.now c.begin_copy.new.host) c.flags_behind-flags.ensures
+          (ran_from_same _ _ _ _ _ _ _ _ _ (whole ∙ sym same) c.begin_copy.ensures.led);
     }
 
 pub returns-in-Ok-Data : goal.returns-in-Ok-Data
 returns-in-Ok-Data g c =
-    let q = c.args.self.now in
-    let w = wiring_of q.wires in
+    let q = engine_at (g.W.Wires.wiring c.args.wires.now) c.args.packet.now c.args.self.now in
+    let w = q.wires in
     let l = q.work.chain ++ c.args.slot ∷ [] in
     let rest = read_slots w q.state.tx_index c.args.left l in
     let from = bind (judged l (standing l) rest) (after_scan w q.state) in
@@ -56,16 +56,16 @@ returns-in-Ok-Data g c =
     let same = ap (λ (o : Option (Result ChainState ChainFault)). bind (judged l o rest) (after_scan w q.state)) is in
     let more = ap (λ (x : List Slot). bind (read_slots w q.state.tx_index c.args.left x) (after_scan w q.state)) c.in-Ok-Data.ensures.ok in
     let n = c.args.counters.now in
-    let did = g.T.Tallies.did q.wires.program.shapes in
+    let did = g.T.Tallies.did q.wires.program.now.shapes in
     record {
-      led = subst (λ (f : TxFlags). TurnRanLeads g.H.Host.was_asked g.H.Host.is_full q.wires f from c.more_slots.new.self (Went did n n) c.args.host.now c.more_slots.new.host) c.flags_behind-flags.ensures
-          (ran_led _ _ _ _ _ _ _ (Went (g.T.Tallies.did c.args.self.now.wires.program.shapes) c.args.counters.now c.args.counters.now) _ _ refl (more ∙ sym same) c.more_slots.ensures.led);
+      led = subst (λ (f : TxFlags). TurnRanLeads g.H.Host.was_asked g.H.Host.is_full f from (engine_at q.wires c.more_slots.new.packet c.more_slots.new.self) (Went did n n) c.args.host.now c.more_slots.new.host) c.flags_behind-flags.ensures
+          (ran_led _ _ _ _ _ _ (Went (g.T.Tallies.did q.wires.program.now.shapes) c.args.counters.now c.args.counters.now) _ _ refl (more ∙ sym same) c.more_slots.ensures.led);
     }
 
 pub returns-in-Ok-Extra : goal.returns-in-Ok-Extra
 returns-in-Ok-Extra g c =
-    let q = c.args.self.now in
-    let w = wiring_of q.wires in
+    let q = engine_at (g.W.Wires.wiring c.args.wires.now) c.args.packet.now c.args.self.now in
+    let w = q.wires in
     let l = q.work.chain ++ c.args.slot ∷ [] in
     let rest = read_slots w q.state.tx_index c.args.left l in
     let from = bind (judged l (standing l) rest) (after_scan w q.state) in
@@ -73,9 +73,9 @@ returns-in-Ok-Extra g c =
     let same = ap (λ (o : Option (Result ChainState ChainFault)). bind (judged l o rest) (after_scan w q.state)) is in
     let more = ap (λ (x : List Slot). bind (read_slots w q.state.tx_index c.args.left x) (after_scan w q.state)) c.in-Ok-Extra.ensures.ok in
     let n = c.args.counters.now in
-    let did = g.T.Tallies.did q.wires.program.shapes in
+    let did = g.T.Tallies.did q.wires.program.now.shapes in
     let m = c.more_slots-in-Ok-Extra in
     record {
-      led = subst (λ (f : TxFlags). TurnRanLeads g.H.Host.was_asked g.H.Host.is_full q.wires f from m.new.self (Went did n n) c.args.host.now m.new.host) c.flags_behind-flags.ensures
-          (ran_led _ _ _ _ _ _ _ (Went (g.T.Tallies.did c.args.self.now.wires.program.shapes) c.args.counters.now c.args.counters.now) _ _ refl (more ∙ sym same) m.ensures.led);
+      led = subst (λ (f : TxFlags). TurnRanLeads g.H.Host.was_asked g.H.Host.is_full f from (engine_at q.wires m.new.packet m.new.self) (Went did n n) c.args.host.now m.new.host) c.flags_behind-flags.ensures
+          (ran_led _ _ _ _ _ _ (Went (g.T.Tallies.did q.wires.program.now.shapes) c.args.counters.now c.args.counters.now) _ _ refl (more ∙ sym same) m.ensures.led);
     }

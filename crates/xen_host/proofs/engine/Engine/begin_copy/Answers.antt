@@ -2,33 +2,33 @@ use Rattle.std.proofs.Common.{ℕ, List, [], length, sym, ap, ◌∙◌, refl}
 use Rattle.std.specs.Prelude.{Result}
 use Rattle.xen_steps.specs.Steps.{bind}
 use Rattle.xdp_program.specs.Tallies.{Went}
-use Rattle.xen_host.specs.Wired.{wiring_of}
 use Rattle.xen_host.proofs.RanLedLemmas.{ran_from_same, ran_led}
 use Rattle.xen_netif.specs.Chain.{Slot}
 use Rattle.xen_netif.specs.declared.fault.SizeFault.{SizeFault}
 use Rattle.xen_netif.specs.declared.fragment.Fragment.{Fragment}
 use Rattle.xen_netif.specs.declared.status.Status.TheVariants.{Error}
-use Rattle.xen_back.specs.Tree.{after_chain, after_copy, copy, respond}
-use Rattle.xen_back.specs.Turned.{Refused}
-use Rattle.xen_back.specs.declared.turn.Refusal.TheVariants as refusal
+use Rattle.xen_turns.specs.Tree.{after_chain, after_copy, copy, respond}
+use Rattle.xen_turns.specs.Turned.{Refused}
+use Rattle.xen_turns.specs.declared.turn.Refusal.TheVariants as refusal
+use Rattle.xen_host.specs.EngineAt.{engine_at}
 use Rattle.xen_host.proofs.engine.Engine.begin_copy.Goals as goal
 
 pub returns-in-Err : goal.returns-in-Err
 returns-in-Err g c =
-    let q = c.args.self.now in
-    let w = wiring_of q.wires in
+    let q = engine_at (g.W.Wires.wiring c.args.wires.now) c.args.packet.now c.args.self.now in
+    let w = q.wires in
     let chain = q.work.chain in
     let fault = c.in-Err.fault in
     let kept = ap (λ (l : List Slot). respond w q.state l Error (Refused (refusal.Size fault) 0 (length l))) c.place_fragments.ensures.chain in
-    record { led = ran_led _ _ _ _ _ _ _ (Went (g.T.Tallies.did c.args.self.now.wires.program.shapes) c.args.counters.now c.args.counters.now) _ _ refl (kept ∙ sym (ap (λ (r : Result (List Fragment) SizeFault). after_chain w q.state chain r) c.in-Err.ensures.answer)) c.refuse.ensures.led }
+    record { led = ran_led _ _ _ _ _ _ (Went (g.T.Tallies.did q.wires.program.now.shapes) c.args.counters.now c.args.counters.now) _ _ refl (kept ∙ sym (ap (λ (r : Result (List Fragment) SizeFault). after_chain w q.state chain r) c.in-Err.ensures.answer)) (c.refuse.ensures.led q.work.packet) }
 
 pub returns-in-Ok : goal.returns-in-Ok
 returns-in-Ok g c =
-    let q = c.args.self.now in
-    let w = wiring_of q.wires in
+    let q = engine_at (g.W.Wires.wiring c.args.wires.now) c.args.packet.now c.args.self.now in
+    let w = q.wires in
     let chain = q.work.chain in
     let new = c.place_fragments.new.self in
     let fs = new.fragments.items in
     let none = ap (λ (l : List ℕ). bind (copy w fs l) (after_copy w q.state new.chain)) c.clear.ensures in
     let kept = ap (λ (l : List Slot). bind (copy w fs []) (after_copy w q.state l)) c.place_fragments.ensures.chain in
-    record { led = ran_from_same _ _ _ _ _ _ _ _ _ _ (none ∙ kept ∙ sym (ap (λ (r : Result (List Fragment) SizeFault). after_chain w q.state chain r) c.in-Ok.ensures.answer)) c.next_fragment.ensures.led }
+    record { led = ran_from_same _ _ _ _ _ _ _ _ _ (none ∙ kept ∙ sym (ap (λ (r : Result (List Fragment) SizeFault). after_chain w q.state chain r) c.in-Ok.ensures.answer)) c.next_fragment.ensures.led }

@@ -2,30 +2,30 @@ use Rattle.std.proofs.Common.{◌≡◌, ◌≤◌, ◌-◌, ◌/◌, drop, refl
 use Rattle.xen_steps.specs.Steps.{bind}
 use Rattle.xdp_program.specs.Tallies.{Went}
 use Rattle.xen_host.specs.Asks as ask
-use Rattle.xen_host.specs.Wired.{wiring_of}
 use Rattle.xen_host.proofs.HostLedLemmas.{asks_one}
 use Rattle.xen_host.proofs.RanLedLemmas.{ran_from_same, ran_none}
 use Rattle.xen_steps.specs.Pages.{copy_words, covered}
 use Rattle.xen_steps.specs.Places.{page_word}
-use Rattle.xen_back.specs.Tree.{after_copy, copy}
+use Rattle.xen_turns.specs.Tree.{after_copy, copy}
 use Rattle.xen_host.proofs.AskLemmas.{asks_words, page_short}
+use Rattle.xen_host.specs.EngineAt.{engine_at}
 use Rattle.xen_host.proofs.engine.Engine.begin_page.Goals as goal
 
 pub returns-then-words : goal.returns-then-words
 returns-then-words g c =
-    let q = c.args.self.now in
-    let w = wiring_of q.wires in
+    let q = engine_at (g.W.Wires.wiring c.args.wires.now) c.args.packet.now c.args.self.now in
+    let w = q.wires in
     let b = q.work in
     let f = c.args.fragment in
     let r = c.covered_words-words.result in
     let none : covered f ≡ 0 = omega (arith, c.covered_words-words.ensures.count, c.if-words.true) in
-    let same = ap (λ n. bind (bind (copy_words f c.args.frame (f.offset / 4) n b.packet) (copy w (drop c.args.i b.fragments.items))) (after_copy w q.state b.chain)) none in
-    record { led = ran_from_same _ _ _ _ _ _ _ _ _ _ (sym same) c.after_empty.ensures.led }
+    let same = ap (λ n. bind (bind (copy_words f c.args.frame (f.offset / 4) n b.packet) (copy w (drop c.args.i b.fragments))) (after_copy w q.state b.chain)) none in
+    record { led = ran_from_same _ _ _ _ _ _ _ _ _ (sym same) c.after_empty.ensures.led }
 
 pub returns : goal.returns
 returns g c =
-    let q = c.args.self.now in
-    let w = wiring_of q.wires in
+    let q = engine_at (g.W.Wires.wiring c.args.wires.now) c.args.packet.now c.args.self.now in
+    let w = q.wires in
     let b = q.work in
     let f = c.args.fragment in
     let frame = c.args.frame in
@@ -34,10 +34,10 @@ returns g c =
     let n : covered f ≡ r.end - r.start = omega (arith, e.count) in
     let some : 1 ≤ covered f = omega (arith, n, e.count, c.if-words.false) in
     let at = page_word frame (f.offset / 4) in
-    let left = bind (bind (copy_words f frame (f.offset / 4) (covered f) b.packet) (copy w (drop c.args.i b.fragments.items))) (after_copy w q.state b.chain) in
+    let left = bind (bind (copy_words f frame (f.offset / 4) (covered f) b.packet) (copy w (drop c.args.i b.fragments))) (after_copy w q.state b.chain) in
     let is = ap (λ k. ask.Read (page_word frame k) (r.end - r.start)) e.start ∙ ap (λ m. ask.Read at m) (sym n) in
     record {
-      led = ran_none _ _ _ _ _ _ (Went (g.T.Tallies.did c.args.self.now.wires.program.shapes) c.args.counters.now c.args.counters.now) _ _ refl (asks_one _ _ _ _ _ _ left _ _ _ (ask.Read at (covered f)) _ c.read.ensures is refl (some, page_short f c.requires.in_page) refl
-          (record { is_rest = refl; waits = (refl, asks_words f frame (f.offset / 4) (covered f) b.packet (copy w (drop c.args.i b.fragments.items)) (after_copy w q.state b.chain)); is_here = refl; told = tt }) refl refl
+      led = ran_none _ _ _ _ _ (Went (g.T.Tallies.did q.wires.program.now.shapes) c.args.counters.now c.args.counters.now) _ _ refl (asks_one _ _ _ _ _ left _ _ _ (ask.Read at (covered f)) _ c.read.ensures is refl (some, page_short f c.requires.in_page) refl
+          (record { is_rest = refl; waits = (refl, asks_words f frame (f.offset / 4) (covered f) b.packet (copy w (drop c.args.i b.fragments)) (after_copy w q.state b.chain)); is_here = refl; told = tt }) refl
           (record { within = c.requires.copies.within; in_page = c.requires.copies.in_page; here = c.requires.in_page; some = some; room = c.requires.more }));
     }

@@ -1,14 +1,14 @@
 use Rattle.std.proofs.Common.{◌≡◌, List, ℕ, [], refl, sym, ap, ◌∙◌}
 use Rattle.std.specs.Prelude.{false}
 use Rattle.xen_steps.specs.Steps.{done}
-use Rattle.xen_back.specs.Turned.{Turned, turned}
-use Rattle.xen_back.specs.declared.turn.Kind.{Kind}
-use Rattle.xen_back.specs.declared.turn.Kind.TheVariants as kind
+use Rattle.xen_turns.specs.Turned.{Turned, turned}
+use Rattle.xen_turns.specs.declared.turn.Kind.{Kind}
+use Rattle.xen_turns.specs.declared.turn.Kind.TheVariants as kind
 use Rattle.xen_host.specs.Asks as ask
 use Rattle.xen_host.specs.Led.{packet_after}
 use Rattle.xen_host.specs.Said.{has_run}
-use Rattle.xen_host.specs.declared.engine.Engine.{Engine}
 use Rattle.xen_host.proofs.HostLedLemmas.{asks_one}
+use Rattle.xen_host.specs.EngineAt.{engine_at}
 use Rattle.xen_host.proofs.engine.Engine.end.Goals as goal
 
 turned_after : (k : Kind) (packet : List ℕ) → turned k packet ≡ turned k (packet_after k packet)
@@ -25,12 +25,12 @@ none_after (kind.Halted cause) packet h = refl
 
 pub returns : goal.returns
 returns g c =
-    let q = c.args.self.now in
-    let k = c.args.kind in
-    let e = c.keep_packet.ensures in
-    let p : c.keep_packet.new.self.work.packet ≡ packet_after k q.work.packet = ap (λ (x : Engine). x.work.packet) e in
-    let over = ap (λ (u : Turned). done (c.args.after, u)) (turned_after k q.work.packet ∙ ap (λ l. turned k l) (sym p)) in
     record {
-      led = asks_one _ _ _ _ _ _ _ _ _ _ (ask.TurnOver k) _ c.done.ensures refl refl tt refl
-          (record { over = over; ready = refl; packet = λ h. p ∙ none_after k q.work.packet h }) (ap (λ (x : Engine). x.wires) e) (ap (λ (x : Engine). x.flags) e) tt;
+      led = λ w.
+          let q = engine_at w c.args.packet.now c.args.self.now in
+          let k = c.args.kind in
+          let p : c.keep_packet.new.packet ≡ packet_after k q.work.packet = c.keep_packet.ensures in
+          let over = ap (λ (u : Turned). done (c.args.after, u)) (turned_after k q.work.packet ∙ ap (λ l. turned k l) (sym p)) in
+          asks_one _ _ _ _ _ _ _ _ _ (ask.TurnOver k) _ c.done.ensures refl refl tt refl
+          (record { over = over; ready = refl; packet = λ h. p ∙ none_after k q.work.packet h }) refl tt;
     }

@@ -2,12 +2,14 @@ use Rattle.std.proofs.Common.{refl}
 use Rattle.xen_steps.specs.Steps.{done}
 use Rattle.xen_host.specs.Asks as ask
 use Rattle.xen_host.proofs.HostLedLemmas.{asks_one}
+use Rattle.xen_host.specs.EngineAt.{engine_at}
 use Rattle.xen_host.proofs.engine.Engine.end_wait.Goals as goal
 
 pub returns : goal.returns
 returns g c =
-    let q = c.args.self.now in
     record {
-      led = asks_one _ _ _ _ _ _ (done (c.args.after, c.args.awaited)) _ _ _ (ask.WaitOver c.args.awaited) _ c.awaited.ensures refl refl tt refl
-          (refl, refl, refl) refl refl tt;
+      led = λ w packet.
+          let q = engine_at w packet c.args.self.now in
+          asks_one _ _ _ _ _ (done (c.args.after, c.args.awaited)) _ _ _ (ask.WaitOver c.args.awaited) _ c.awaited.ensures refl refl tt refl
+          (refl, refl, refl) refl tt;
     }

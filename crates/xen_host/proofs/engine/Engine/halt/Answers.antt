@@ -1,9 +1,9 @@
 use Rattle.std.proofs.Common.{ap}
 use Rattle.xen_steps.specs.Steps.{done}
-use Rattle.xen_back.specs.declared.state.State.{State}
+use Rattle.xen_turns.specs.declared.state.State.{State}
 use Rattle.xen_host.proofs.HostLedLemmas.{asked_from}
-use Rattle.xen_back.specs.Turned.{Halted}
+use Rattle.xen_turns.specs.Turned.{Halted}
 use Rattle.xen_host.proofs.engine.Engine.halt.Goals as goal
 
 pub returns : goal.returns
-returns g c = record { led = asked_from _ _ _ _ _ _ _ _ _ _ (ap (λ (s : State). done (s, Halted c.args.cause)) c.halted-after.ensures) c.end.ensures.led }
+returns g c = record { led = λ w. asked_from _ _ _ _ _ _ _ _ _ (ap (λ (s : State). done (s, Halted c.args.cause)) c.halted-after.ensures) (c.end.ensures.led w) }

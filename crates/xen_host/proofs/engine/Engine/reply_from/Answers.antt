@@ -6,18 +6,18 @@ use Rattle.xen_host.specs.Asks.{did_all}
 use Rattle.xen_host.specs.Chained.{replies, reply}
 use Rattle.xen_host.specs.HostLed.{HasReplied}
 use Rattle.xen_host.specs.Led.{beside}
-use Rattle.xen_host.specs.Wired.{vif_of}
 use Rattle.xen_host.specs.declared.stage.Fill.TheVariants as fill
 use Rattle.xen_host.proofs.ChainLemmas.{replies_chained, replies_gone}
 use Rattle.xen_host.proofs.FillLemmas.{IsFillOn, fill_all, fill_same, lift_fill, waits_none}
 use Rattle.xen_host.proofs.HostLedLemmas.{asks_full}
 use Rattle.xen_host.proofs.ToldLemmas.{other_none}
+use Rattle.xen_host.specs.EngineAt.{engine_at}
 use Rattle.xen_host.proofs.engine.Engine.reply_from.Goals as goal
 
 pub returns-in-Some : goal.returns-in-Some
 returns-in-Some g c =
-    let q = c.args.self.now in
-    let w = vif_of q.wires in
+    let q = engine_at (g.W.Wires.wiring c.args.wires.now) c.args.packet.now c.args.self.now in
+    let w = q.wires.vif in
     let x = q.state.rx_index in
     let p = q.work.packet in
     let ts = q.work.targets in
@@ -33,14 +33,14 @@ returns-in-Some g c =
     let gone = subst (λ k. LedBy (rx_answer w x p grants (length ts) from (drop from ts)) (did_all (replies w x p grants ts from (suc n)) []) (rx_answer w x p grants (length ts) k (drop k ts))) s.1 (replies_gone w x p grants ts from (suc n) [] inside) in
     record {
       led = lift_fill _ _ c.args.purpose q ts f _ _ _
-          (asks_full _ _ (IsFillOn q ts f) _ _ _ left _ (reply w x p grants ts from) (replies w x p grants ts (from + 1) n) _ _ s.3 (replies_chained w x p grants ts from (suc n)) s.4 gone
-          (λ a h. (refl, other_none a h, waits_none a left h)) refl refl s.2);
+          (asks_full _ _ (IsFillOn q ts f) _ _ left _ (reply w x p grants ts from) (replies w x p grants ts (from + 1) n) _ _ s.3 (replies_chained w x p grants ts from (suc n)) s.4 gone
+          (λ a h. (refl, other_none a h, waits_none a left h)) refl s.2);
     }
 
 pub returns-in-None : goal.returns-in-None
 returns-in-None g c =
-    let q = c.args.self.now in
-    let w = vif_of q.wires in
+    let q = engine_at (g.W.Wires.wiring c.args.wires.now) c.args.packet.now c.args.self.now in
+    let w = q.wires.vif in
     let x = q.state.rx_index in
     let p = q.work.packet in
     let ts = q.work.targets in
@@ -55,5 +55,5 @@ returns-in-None g c =
     let same : rx_answer w x p grants m (from + n) (drop (from + n) ts) ≡ rx_publish w x grants m = ap (λ l. rx_answer w x p grants m (from + n) l) end in
     record {
       led = fill_all _ _ c.args.purpose (beside q) _ _ _ (replies w x p grants ts from n) _ _ _ s.2 (replies_chained w x p grants ts from n) (replies_gone w x p grants ts from n [] inside)
-          (fill_same _ _ c.args.purpose (beside q) _ _ _ _ _ (sym same) c.push_replies.ensures.led);
+          (fill_same _ _ c.args.purpose (beside q) _ _ _ _ _ (sym same) (c.push_replies.ensures.led q.work.packet));
     }

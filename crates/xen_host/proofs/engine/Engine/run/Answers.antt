@@ -1,25 +1,33 @@
 use Rattle.std.proofs.Common.{List, subst}
 use Rattle.std.specs.Prelude.{Option}
-use Rattle.bpf_lists.specs.Keys.{Keyed}
-use Rattle.xen_host.specs.Wired.{wiring_of}
-use Rattle.xen_back.specs.Tree.{after_run}
+use Rattle.bpf_lists.specs.declared.list.MapList.{MapList}
+use Rattle.xen_turns.specs.Tree.{after_run}
 use Rattle.bpf_verify.specs.Consistent.{Accepted}
 use Rattle.xdp_program.specs.Tallies.{Went}
 use Rattle.xen_host.specs.Ran.{RanFrom}
 use Rattle.xen_host.proofs.RunLemmas.{program_gone}
+use Rattle.xen_host.specs.EngineAt.{engine_at}
 use Rattle.xen_host.proofs.engine.Engine.run.Goals as goal
 
 pub returns : goal.returns
 returns g c =
-    let q = c.args.self.now in
-    let w = wiring_of q.wires in
+    let q = engine_at (g.W.Wires.wiring c.args.wires.now) c.args.packet.now c.args.self.now in
+    let w = q.wires in
     let r = c.run-ran in
-    let accepted = subst (λ (p : Accepted). RanFrom p c.as_slice.result.now q.work.packet w.ifindex w.queue (Went (g.T.Tallies.did p.shapes) c.args.counters.now r.new.counters) r.result.number r.new.self r.result.ops) c.verified.ensures r.ensures.ran in
-    let ran = subst (λ (l : List (Option Keyed)). RanFrom q.wires.program l q.work.packet w.ifindex w.queue (Went (g.T.Tallies.did q.wires.program.shapes) c.args.counters.now r.new.counters) r.result.number r.new.self r.result.ops) c.as_slice.ensures.value accepted in
+    let packet = q.work.packet in
+    let before = c.args.counters.now in
+    let after = r.new.counters in
+    let number = r.result.number in
+    let left = r.new.self in
+    let ops = r.result.ops in
+    let accepted = subst (λ (p : Accepted). RanFrom p c.lists.result.now packet c.ifindex.result c.queue.result (Went (g.T.Tallies.did p.shapes) before after) number left ops) c.program.ensures r.ensures.ran in
+    let listed = subst (λ (l : List (Option MapList)). RanFrom w.program.now l packet c.ifindex.result c.queue.result (Went (g.T.Tallies.did w.program.now.shapes) before after) number left ops) c.lists.ensures accepted in
+    let seen = subst (λ k. RanFrom w.program.now w.lists.now packet k c.queue.result (Went (g.T.Tallies.did w.program.now.shapes) before after) number left ops) c.ifindex.ensures listed in
+    let ran = subst (λ k. RanFrom w.program.now w.lists.now packet w.ifindex k (Went (g.T.Tallies.did w.program.now.shapes) before after) number left ops) c.queue.ensures seen in
     record {
       led = record {
-        between = after_run w q.state q.work.chain (record { number = r.result.number; packet = r.new.self; ops = r.result.ops });
-        ran = program_gone w q.work.packet (Went (g.T.Tallies.did q.wires.program.shapes) c.args.counters.now r.new.counters) r.result.number r.new.self r.result.ops (after_run w q.state q.work.chain) ran;
-        led = c.after_run.ensures.led;
+        between = after_run w q.state q.work.chain (record { number = r.result.number; packet = left; ops = r.result.ops });
+        ran = program_gone w q.work.packet (Went (g.T.Tallies.did q.wires.program.now.shapes) c.args.counters.now r.new.counters) r.result.number left r.result.ops (after_run w q.state q.work.chain) ran;
+        led = c.after_run.ensures.led left;
       };
     }

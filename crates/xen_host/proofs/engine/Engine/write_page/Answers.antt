@@ -4,7 +4,6 @@ use Rattle.xen_page.specs.declared.place.Place.{Place}
 use Rattle.xen_steps.specs.Steps.{Steps}
 use Rattle.xen_host.specs.Asks as ask
 use Rattle.xen_host.specs.Led.{beside}
-use Rattle.xen_host.specs.Wired.{vif_of}
 use Rattle.xen_steps.specs.Places.{page_word}
 use Rattle.xen_rx_fill.specs.Transmit.{fill_from, rx_respond}
 use Rattle.xen_rx_fill.specs.declared.by_event.phase.Outcome.{Outcome}
@@ -17,12 +16,13 @@ use Rattle.xen_rx_fill.specs.Packets.{frame_in, target_at, words}
 use Rattle.xen_host.specs.Asks.{writes_at}
 use Rattle.xen_host.specs.Filling.{packet_words}
 use Rattle.xen_host.proofs.ChainLemmas.{fill_over, page_gone, taken_words}
+use Rattle.xen_host.specs.EngineAt.{engine_at}
 use Rattle.xen_host.proofs.engine.Engine.write_page.Goals as goal
 
 pub returns-then-to-all : goal.returns-then-to-all
 returns-then-to-all g c =
-    let q = c.args.self.now in
-    let w = vif_of q.wires in
+    let q = engine_at (g.W.Wires.wiring c.args.wires.now) c.args.packet.now c.args.self.now in
+    let w = q.wires.vif in
     let x = q.state.rx_index in
     let p = q.work.packet in
     let ts = q.work.targets in
@@ -44,13 +44,13 @@ returns-then-to-all g c =
     let f = fill.Words (i + 1) in
     record {
       led = lift_fill _ _ c.args.purpose q ts f from _ _
-          (asks_last _ _ (IsFillOn q ts f) _ _ from left _ _ _ (ask.Write at n) put asked (inr refl) sized gone (refl, tt, refl) refl refl (omega (arith, some, all, c.words_of-all.ensures.few)));
+          (asks_last _ _ (IsFillOn q ts f) _ from left _ _ _ (ask.Write at n) put asked (inr refl) sized gone (refl, tt, refl) refl (omega (arith, some, all, c.words_of-all.ensures.few)));
     }
 
 pub returns : goal.returns
 returns g c =
-    let q = c.args.self.now in
-    let w = vif_of q.wires in
+    let q = engine_at (g.W.Wires.wiring c.args.wires.now) c.args.packet.now c.args.self.now in
+    let w = q.wires.vif in
     let x = q.state.rx_index in
     let p = q.work.packet in
     let ts = q.work.targets in

@@ -2,7 +2,7 @@ use Rattle.std.proofs.Common.{◌≡◌, ◌+◌, ◌-◌, ◌++◌, [], ◌∷�
 use Rattle.xen_netif.specs.Copy.{bytes_from, bytes_in}
 use Rattle.xen_steps.specs.Pages.{HasRoom}
 use Rattle.xen_steps.proofs.CopyLemmas.{bytes_short, room_at_end, room_goes_on}
-use Rattle.xen_back.proofs.ReadLemmas.{bytes_from-append}
+use Rattle.xen_turns.proofs.ReadLemmas.{bytes_from-append}
 use Rattle.xen_host.proofs.BusLemmas.{run_then}
 use Rattle.xen_host.proofs.over_bus.OverBus.page_parts.Goals as goal
 

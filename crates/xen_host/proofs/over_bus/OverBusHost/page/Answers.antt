@@ -2,7 +2,7 @@ use Rattle.std.proofs.Common.{◌≡◌, ◌+◌, ◌-◌, ◌*◌, ◌/◌, ◌
 use Rattle.xen_netif.specs.Copy.{bytes_from, bytes_of, copy_of}
 use Rattle.xen_netif.proofs.CopyLemmas.{length-bytes_of}
 use Rattle.xen_steps.specs.Pages.{HasRoom}
-use Rattle.xen_back.proofs.ReadLemmas.{bytes_from-append, room_after_whole, whole_bytes, whole_room}
+use Rattle.xen_turns.proofs.ReadLemmas.{bytes_from-append, room_after_whole, whole_bytes, whole_room}
 use Rattle.xen_host.specs.Buses.{MayReadRun}
 use Rattle.xen_host.proofs.BusLemmas.{has_read, run_then}
 use Rattle.xen_host.proofs.over_bus.OverBusHost.page.Goals as goal

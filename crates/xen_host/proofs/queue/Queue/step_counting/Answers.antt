@@ -1,5 +1,7 @@
-use Rattle.std.proofs.Common.{◌≡◌, sym}
+use Rattle.std.proofs.Common.{◌≡◌, refl, sym}
+use Rattle.xen_host.specs.EngineAt.{engine_at}
 use Rattle.xdp_program.specs.Tallies.{Went}
+use Rattle.xen_host.specs.Queues.{wired_to, wiring}
 use Rattle.xen_host.proofs.QueueLemmas.{not_ready, step_stands, stepped}
 use Rattle.xen_host.proofs.queue.Queue.step_counting.Goals as goal
 
@@ -7,11 +9,11 @@ pub invariant_of-self : goal.invariant_of-self
 invariant_of-self g c =
     let r = c.step in
     let q = c.args.self.now in
-    let s = step_stands g.H.Host.was_asked g.H.Host.is_full g.H.Host.has_given _ _ q r.new.self (Went (g.T.Tallies.did q.engine.wires.program.shapes) c.args.counters.now r.new.counters) r.ensures.led in
-    record { fits = s.fits; wired = s.wired; turns = s.turns; left = s.left }
+    let s = step_stands g.H.Host.was_asked g.H.Host.is_full g.H.Host.has_given _ _ q (engine_at (wiring q) r.new.packet r.new.self) (Went (g.T.Tallies.did (wired_to q).program.shapes) c.args.counters.now r.new.counters) refl r.ensures.led in
+    record { fits = s.fits; wired = s.wired; turns = s.turns; seated = q.seated; left = s.left }
 
 pub returns : goal.returns
 returns g c =
     let r = c.step in
     let q = c.args.self.now in
-    stepped q _ (Went (g.T.Tallies.did q.engine.wires.program.shapes) c.args.counters.now r.new.counters) (r.new.counters ≡ c.args.counters.now) (λ e. sym e) r.ensures.led (not_ready q c.requires.busy)
+    record { stepped = stepped q _ (Went (g.T.Tallies.did (wired_to q).program.shapes) c.args.counters.now r.new.counters) (r.new.counters ≡ c.args.counters.now) (λ e. sym e) refl r.ensures.led (not_ready q c.requires.busy); share = refl }

@@ -9,7 +9,7 @@ struct Both([Bench; 2]);
 
 /// What came of all seeds.
 #[derive(Debug, Default)]
-struct Seen {
+pub struct Seen {
     passed: u32,
     returned: u32,
     refused: u32,
@@ -24,9 +24,9 @@ impl Both {
 
     /// Does the same to both, by the same numbers.
     fn each<Answer>(&mut self, any: &mut Any, mut what: impl FnMut(&mut Bench, &mut Any) -> Answer) -> [Answer; 2] {
-        let (mut first, mut second) = (Any(any.0), Any(any.0));
+        let (mut first, mut second) = (any.clone(), any.clone());
         let answers = [what(&mut self.0[0], &mut first), what(&mut self.0[1], &mut second)];
-        assert_eq!(first.0, second.0);
+        assert_eq!(first, second);
         *any = first;
         answers
     }
@@ -135,13 +135,18 @@ fn round(both: &mut Both, any: &mut Any, seen: &mut Seen) -> bool {
     halts
 }
 
+/// Both, for some rounds of these numbers.
+pub fn rounds(answer: u8, mut any: Any, seen: &mut Seen) {
+    let mut both = Both::new(answer);
+    both.each(&mut any, grant);
+    let _ = (0..20).find(|_| round(&mut both, &mut any, seen));
+}
+
 #[test]
 fn copies_and_mappings_give_the_same_frames_and_responses() {
     let mut seen = Seen::default();
     for seed in 1..40u32 {
-        let (mut any, mut both) = (Any(seed), Both::new(2 + (seed % 2) as u8));
-        both.each(&mut any, grant);
-        let _ = (0..20).find(|_| round(&mut both, &mut any, &mut seen));
+        rounds(2 + (seed % 2) as u8, Any::Seed(seed), &mut seen);
     }
     assert!(seen.passed > 100 && seen.returned > 20 && seen.refused > 100 && seen.sent > 60 && seen.halted > 2, "{seen:?}");
 }

@@ -7,7 +7,7 @@ use Rattle.xen_steps.proofs.FinishLemmas.{finishes_next, finishes_want}
 use Rattle.xen_back.specs.ByEvent.{frames_of, left_of}
 use Rattle.xen_back.specs.Deliveries.{rest_moving}
 use Rattle.xen_back.specs.declared.delivery.moving.Moving.{Moving}
-use Rattle.xen_back.proofs.ArriveLemmas.{page_event}
+use Rattle.xen_turns.proofs.ArriveLemmas.{page_event}
 use Rattle.xen_back.proofs.delivery.underway.Delivering.feed.Goals as goal
 
 pub invariant_of-self : goal.invariant_of-self

@@ -2,14 +2,14 @@ use Rattle.std.proofs.Common.{◌≡◌, ◌++◌, ℕ, [], length, map, sym, �
 use Rattle.xen_ring.specs.Index.{is_due}
 use Rattle.xen_steps.specs.Places.{add32}
 use Rattle.xen_steps.specs.Steps.{Steps, done}
-use Rattle.xen_back.specs.Drive.{Driven}
-use Rattle.xen_back.specs.Responses.{response}
-use Rattle.xen_back.specs.Tree.{answer, answered, notice, respond}
-use Rattle.xen_back.specs.Turned.{Ending}
+use Rattle.xen_turns.specs.Drive.{Driven}
+use Rattle.xen_turns.specs.Responses.{response}
+use Rattle.xen_turns.specs.Tree.{answer, answered, notice, respond}
+use Rattle.xen_turns.specs.Turned.{Ending}
 use Rattle.xen_back.proofs.InOneGoLemmas.{notice_driven}
-use Rattle.xen_back.proofs.Bounds.{requests_count}
-use Rattle.xen_back.proofs.BulkLemmas.{publish_on, tx_within}
-use Rattle.xen_back.proofs.DriveLemmas.{driven_append, driven_silent}
+use Rattle.xen_turns.proofs.Bounds.{requests_count}
+use Rattle.xen_turns.proofs.BulkLemmas.{publish_on, tx_within}
+use Rattle.xen_turns.proofs.DriveLemmas.{driven_append, driven_silent}
 use Rattle.xen_back.proofs.in_one_go.service.Service.answer.Goals as goal
 
 pub write_answers-requires-clause-frame : goal.write_answers-requires-clause-frame

@@ -1,10 +1,10 @@
 use Rattle.std.proofs.Common.{◌++◌, List, [], ℕ, Result, Some, None, subst}
 use Rattle.xen_steps.specs.Steps.{bind}
 use Rattle.xen_page.specs.declared.fault.GrantFault.{GrantFault}
-use Rattle.xen_back.specs.Drive.{Driven}
+use Rattle.xen_turns.specs.Drive.{Driven}
 use Rattle.xen_back.specs.InOneGo.{copied, ended}
-use Rattle.xen_back.specs.Tree.{after_copy, copy}
-use Rattle.xen_back.proofs.DriveLemmas.{driven_append, driven_silent}
+use Rattle.xen_turns.specs.Tree.{after_copy, copy}
+use Rattle.xen_turns.proofs.DriveLemmas.{driven_append, driven_silent}
 use Rattle.xen_back.proofs.in_one_go.service.Service.copy_and_run.Goals as goal
 
 pub returns-in-Ok-clause-driven : goal.returns-in-Ok-clause-driven

@@ -1,13 +1,13 @@
 use Rattle.std.proofs.Common.{◌++◌, [], ◌∷◌, Some, suc, subst, arith}
 use Rattle.xen_netif.specs.Fragments.{fragments_of}
 use Rattle.xen_steps.specs.Steps.{Steps}
-use Rattle.xen_back.specs.Drive.{Driven}
+use Rattle.xen_turns.specs.Drive.{Driven}
 use Rattle.xen_back.specs.InOneGo.{after_slot, ended}
-use Rattle.xen_back.specs.Tree.{after_chain, after_look}
-use Rattle.xen_back.specs.Turned.{Ending}
+use Rattle.xen_turns.specs.Tree.{after_chain, after_look}
+use Rattle.xen_turns.specs.Turned.{Ending}
 use Rattle.xen_back.proofs.InOneGoLemmas.{first_read, lone_after}
-use Rattle.xen_back.proofs.BulkLemmas.{tx_within}
-use Rattle.xen_back.proofs.DriveLemmas.{driven_append, driven_silent}
+use Rattle.xen_turns.proofs.BulkLemmas.{tx_within}
+use Rattle.xen_turns.proofs.DriveLemmas.{driven_append, driven_silent}
 use Rattle.xen_back.proofs.in_one_go.service.Service.from_slot.Goals as goal
 
 pub read_slot-words-requires : goal.read_slot-words-requires

@@ -3,13 +3,13 @@ use Rattle.xen_netif.specs.Fragments.{fragments_of}
 use Rattle.xen_netif.specs.declared.fault.SizeFault.{SizeFault}
 use Rattle.xen_netif.specs.declared.fragment.Fragment.{Fragment}
 use Rattle.xen_steps.specs.Steps.{Steps, done}
-use Rattle.xen_back.specs.Drive.{Driven}
+use Rattle.xen_turns.specs.Drive.{Driven}
 use Rattle.xen_back.specs.InOneGo.{after_slot, ended}
-use Rattle.xen_back.specs.Tree.{Scan, after_chain, after_scan}
-use Rattle.xen_back.specs.Turned.{Ending, turned}
-use Rattle.xen_back.specs.declared.state.State.{State}
-use Rattle.xen_back.specs.declared.turn.Kind.TheVariants as kinds
-use Rattle.xen_back.proofs.DriveLemmas.{driven_append, driven_silent}
+use Rattle.xen_turns.specs.Tree.{Scan, after_chain, after_scan}
+use Rattle.xen_turns.specs.Turned.{Ending, turned}
+use Rattle.xen_turns.specs.declared.state.State.{State}
+use Rattle.xen_turns.specs.declared.turn.Kind.TheVariants as kinds
+use Rattle.xen_turns.proofs.DriveLemmas.{driven_append, driven_silent}
 use Rattle.xen_back.proofs.in_one_go.service.Service.more_slots.Goals as goal
 
 pub returns-in-Err-clause-driven : goal.returns-in-Err-clause-driven

@@ -2,9 +2,9 @@ use Rattle.std.proofs.Common.{[], ◌∷◌, List, Some, Result, ap, sym, subst}
 use Rattle.xen_netif.specs.declared.fault.SizeFault.{SizeFault}
 use Rattle.xen_netif.specs.declared.fragment.Fragment.{Fragment}
 use Rattle.xen_netif.specs.declared.tx.TxReq.{TxReq}
-use Rattle.xen_back.specs.Drive.{Driven}
+use Rattle.xen_turns.specs.Drive.{Driven}
 use Rattle.xen_back.specs.InOneGo.{ended}
-use Rattle.xen_back.specs.Tree.{after_chain}
+use Rattle.xen_turns.specs.Tree.{after_chain}
 use Rattle.xen_back.proofs.in_one_go.service.Service.one_slot.Goals as goal
 
 pub returns-in-Ok-clause-driven : goal.returns-in-Ok-clause-driven

@@ -1,11 +1,11 @@
 use Rattle.std.proofs.Common.{length, sym, ◌∙◌, ap, subst, ℕ}
 use Rattle.xen_netif.specs.declared.status.Status.TheVariants as status
 use Rattle.xen_steps.specs.Steps.{Steps, done}
-use Rattle.xen_back.specs.Drive.{Driven}
-use Rattle.xen_back.specs.Tree.{answered, respond}
-use Rattle.xen_back.specs.Turned.{Ending, Refused}
-use Rattle.xen_back.specs.declared.state.State.{State}
-use Rattle.xen_back.proofs.Bounds.{requests_count}
+use Rattle.xen_turns.specs.Drive.{Driven}
+use Rattle.xen_turns.specs.Tree.{answered, respond}
+use Rattle.xen_turns.specs.Turned.{Ending, Refused}
+use Rattle.xen_turns.specs.declared.state.State.{State}
+use Rattle.xen_turns.proofs.Bounds.{requests_count}
 use Rattle.xen_back.proofs.in_one_go.service.Service.refuse.Goals as goal
 
 pub returns-clause-driven : goal.returns-clause-driven

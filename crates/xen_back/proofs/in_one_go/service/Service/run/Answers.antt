@@ -1,14 +1,14 @@
 use Rattle.std.proofs.Common.{◌++◌, ℕ, Some, length, sym, ◌∙◌, ap, subst}
 use Rattle.xen_netif.specs.declared.status.Status.{Status}
 use Rattle.xen_steps.specs.Steps.{Steps, done}
-use Rattle.xen_back.specs.Drive.{Driven}
+use Rattle.xen_turns.specs.Drive.{Driven}
 use Rattle.xen_back.specs.InOneGo.{ended}
-use Rattle.xen_back.specs.Tree.{Left, after_copy, after_run, answered, program, respond, run_of, send}
-use Rattle.xen_back.specs.Turned.{Ending, Ran}
-use Rattle.xen_back.specs.declared.state.State.{State}
+use Rattle.xen_turns.specs.Tree.{Left, after_copy, after_run, answered, program, respond, run_of, send}
+use Rattle.xen_turns.specs.Turned.{Ending, Ran}
+use Rattle.xen_turns.specs.declared.state.State.{State}
 use Rattle.xen_back.proofs.InOneGoLemmas.{ran_driven, ran_to_answer, ran_to_send}
-use Rattle.xen_back.proofs.Bounds.{requests_count}
-use Rattle.xen_back.proofs.DriveLemmas.{driven_append}
+use Rattle.xen_turns.proofs.Bounds.{requests_count}
+use Rattle.xen_turns.proofs.DriveLemmas.{driven_append}
 use Rattle.xen_back.proofs.in_one_go.service.Service.run.Goals as goal
 
 pub returns-then-number-eq-XDP_TX-clause-driven : goal.returns-then-number-eq-XDP_TX-clause-driven

@@ -2,15 +2,15 @@ use Rattle.std.proofs.Common.{[], ◌++◌, List, ℕ, length, sym, ◌∙◌, a
 use Rattle.xen_steps.specs.Drive.{Driven as DrivenPages}
 use Rattle.xen_steps.specs.Steps.{Steps, done}
 use Rattle.xen_rx_fill.specs.Transmit.{transmit}
-use Rattle.xen_back.specs.Drive.{Driven}
-use Rattle.xen_back.specs.Rest.{after_reply}
-use Rattle.xen_back.specs.Tree.{answered, respond, send}
-use Rattle.xen_back.specs.Turned.{Ending, turned}
-use Rattle.xen_back.specs.declared.state.State.{State}
-use Rattle.xen_back.specs.declared.turn.Kind.TheVariants as kinds
+use Rattle.xen_turns.specs.Drive.{Driven}
+use Rattle.xen_turns.specs.Rest.{after_reply}
+use Rattle.xen_turns.specs.Tree.{answered, respond, send}
+use Rattle.xen_turns.specs.Turned.{Ending, turned}
+use Rattle.xen_turns.specs.declared.state.State.{State}
+use Rattle.xen_turns.specs.declared.turn.Kind.TheVariants as kinds
 use Rattle.xen_back.proofs.InOneGoLemmas.{sent_driven}
-use Rattle.xen_back.proofs.Bounds.{requests_count}
-use Rattle.xen_back.proofs.DriveLemmas.{driven_append, driven_silent}
+use Rattle.xen_turns.proofs.Bounds.{requests_count}
+use Rattle.xen_turns.proofs.DriveLemmas.{driven_append, driven_silent}
 use Rattle.xen_back.proofs.in_one_go.service.Service.send_back.Goals as goal
 
 pub returns-in-Err-clause-driven : goal.returns-in-Err-clause-driven

@@ -1,0 +1,9 @@
+use Rattle.std.proofs.Common.{arith}
+use Rattle.bpf_same.proofs.SharperLemmas.{adds_if, unites_if}
+use Rattle.bpf_same.proofs.sharper.combined.Goals as goal
+
+pub returns-in-Add : goal.returns-in-Add
+returns-in-Add c = adds_if c.args.op c.args.one.low c.args.one.high c.args.other.low c.args.other.high c.added.result c.in-Add.is c.added.ensures
+
+pub returns-in-Or : goal.returns-in-Or
+returns-in-Or c = unites_if c.args.op c.args.one.low c.args.one.high c.args.other.low c.args.other.high c.united.result c.in-Or.is (omega arith) (omega arith) c.united.ensures

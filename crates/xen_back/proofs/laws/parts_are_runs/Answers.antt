@@ -1,6 +1,0 @@
-use Rattle.xen_back.proofs.CopyParts.{copy_parts, runs_copy}
-use Rattle.xen_back.proofs.ProgramLemmas.{program_parts, runs_program}
-use Rattle.xen_back.proofs.laws.parts_are_runs.Goals as goal
-
-pub returns : goal.returns
-returns c = record { copy = copy_parts; copied = runs_copy; program = program_parts; ran = runs_program }

@@ -1,6 +1,0 @@
-use Rattle.xen_back.proofs.TurnParts.{turn_parts}
-use Rattle.xen_back.proofs.TurnRuns.{runs_turn}
-use Rattle.xen_back.proofs.laws.turns_are_rests.Goals as goal
-
-pub returns : goal.returns
-returns c = record { turns = turn_parts; rests = runs_turn }

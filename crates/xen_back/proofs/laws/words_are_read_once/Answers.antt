@@ -1,5 +1,0 @@
-use Rattle.xen_back.proofs.OnceLemmas.{covered_distinct, fragments_once, posted_distinct, slots_once, targets_once, turns_once}
-use Rattle.xen_back.proofs.laws.words_are_read_once.Goals as goal
-
-pub returns : goal.returns
-returns c = record { slots = slots_once; fragments = fragments_once; targets = targets_once; posted = posted_distinct; covered = covered_distinct; turns = turns_once }

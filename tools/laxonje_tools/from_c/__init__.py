@@ -1,0 +1,13 @@
+"""From a C program to settings, as `tools/settings-from-c` does it.
+
+    compiler  clang, and what is put in front of the C
+    elf       an object file's sections, symbols and relocations
+    btf       its debug information: the sizes of maps, and the line of C of each slot
+    calls     functions and helpers whose calls are written out
+    memory    constants and globals
+    maps      maps, and what is given of them
+    lists     files of addresses and prefixes
+    linux     what Linux itself makes of packets
+    program   all of it, as settings
+    faults    what settings can't say, with what to write instead
+"""

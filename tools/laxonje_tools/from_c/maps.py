@@ -1,0 +1,98 @@
+"""The maps of a filter: those of the command line, those that are declared, and globals; and the rows of their lists."""
+from __future__ import annotations
+
+from typing import TYPE_CHECKING, Callable, Iterator, NamedTuple, Optional
+
+from laxonje_tools.output import stop_on
+
+from . import btf, elf, faults, lists
+
+if TYPE_CHECKING:
+    from .btf import MapOfC
+    from .compiler import Compiler
+    from .elf import Part
+    from .program import Asked
+
+TEXT = ".text"  # a section of functions that others call
+SizedMap = tuple[str, int, Optional[int]]  # its name, entries and counters, None if these aren't said
+
+
+class Map(NamedTuple):
+    """A map of settings. `kind`: of its keys, None for an array's. `size`: how many bytes of data a key has. `rows`: its list,
+    in hex."""
+
+    name: str
+    entries: int
+    counters: int
+    kind: Optional[str] = None
+    size: int = faults.INDEX_BYTES
+    rows: tuple = ()
+
+    def settings(self) -> dict:
+        row = {"name": self.name, "entries": self.entries, "counters": self.counters}
+        return row if self.kind is None else {**row, "key": self.kind, "size": self.size, "rows": list(self.rows)}
+
+
+def settings_of(maps: list[Map]) -> dict:
+    """Maps as settings have them, with wider limits only if one of them needs these."""
+    rows = {"map": [row.settings() for row in maps]}
+    return {"wide": True, **rows} if faults.are_wide(maps) else rows
+
+
+def maps_of(
+    asked: Asked, sections: dict[str, Part], of_globals: list[SizedMap], named: set[str], compiler: Optional[Compiler]
+) -> tuple[list[Map], list[MapOfC]]:
+    """The maps: those of the command line, those that are declared, and globals, the latter two in the order in which
+    the file declares them; and what is declared of the second. `named`: maps that the function names. Other arrays are
+    there if it is the one function of the file, and if settings can have them."""
+    source, said = asked.source, {name: (entries, counters) for name, entries, counters in asked.maps}
+    declared = list(declared_in(asked, sections, named | set(said)))
+    stop_on(f"{source}: {fault}" for row in declared for fault in faults.faults_of_map(row))
+    if compiler is not None and len(declared) + len(of_globals) > 1:
+        order = order_by(compiler.declared())
+        declared, of_globals = (sorted(rows, key=lambda row: order(row[0])) for rows in (declared, of_globals))
+    by_name = {row.name: map_of(row) for row in declared}
+    worded = [by_name.get(name, Map(name, entries, 1)) for name, (entries, _) in said.items()]
+    worded = [row._replace(counters=said[row.name][1] or row.counters) for row in worded]
+    others = [row for name, row in by_name.items() if name not in said]
+    maps = [*worded, *others, *(Map(*row) for row in of_globals)]
+    stop_on(f"{source}: {fault}" for fault in faults.faults_of_sizes(maps))
+    symbols = {row.name for row in elf.symbols_of(sections)}
+    stop_on(f"{source}: there is no map {name} in it" for name in sorted(set(said) - symbols))
+    return with_lists(asked, maps), declared
+
+
+def declared_in(asked: Asked, sections: dict[str, Part], named: set[str]) -> Iterator[MapOfC]:
+    """What a file declares of the maps that its function needs, with the numbers of entries that a command says."""
+    declared = list(btf.Types(sections[".BTF"].data).maps()) if ".maps" in sections and ".BTF" in sections else []
+    missing = dict(asked.entries).keys() - {row.name for row in declared}
+    stop_on(f"{asked.source}: it declares no map {name}" for name in sorted(missing))
+    entries = {**dict(asked.entries), **{name: number for name, number, _ in asked.maps}}
+    is_alone = len({row.section for row in elf.functions_of(sections)} - {TEXT}) == 1 and asked.program is None
+    for row in declared:
+        row = row._replace(entries=entries.get(row.name, row.entries))
+        is_there = is_alone and row.type in faults.ARRAYS and not any(faults.faults_of_map(row))
+        if row.name in named or is_there:
+            yield row
+
+
+def map_of(row: MapOfC) -> Map:
+    """A map that is declared."""
+    return Map(row.name, row.entries, row.counters, faults.KEYED.get(row.type), faults.data_bytes(row))
+
+
+def with_lists(asked: Asked, maps: list[Map]) -> list[Map]:
+    """The maps with the rows that a command gives them."""
+    files = dict(asked.lists)
+    missing = files.keys() - {row.name for row in maps}
+    stop_on(f"{asked.source}: it uses no map {name}" for name in sorted(missing))
+    keys = {name: lists.keys_of_file(path) for name, path in files.items()}
+    listed = [(row, keys[row.name]) for row in maps if row.name in keys]
+    stop_on(f"{files[row.name]}: {fault}" for row, given in listed for fault in faults.faults_of_list(row, given))
+    return [row._replace(rows=tuple(key.row(row.kind) for key in keys.get(row.name, []))) for row in maps]
+
+
+def order_by(places: dict[str, int]) -> Callable[[str], int]:
+    """Of a symbol's name where it is declared. clang adds a number to the second of two static variables of a function
+    that have one name."""
+    return lambda name: places.get(name, places.get(name.rstrip("0123456789").rstrip("."), len(places)))

@@ -1,0 +1,102 @@
+"""What a program has in memory: constants, which are maps of their own or written into its code, and globals that count, each a map.
+
+A global of 1, 2, 4 or whole eight bytes that begins with zeros is a map of one entry, named for it. Any other global
+keeps what it begins with: nobody writes to it here, and a program that stores to it is refused."""
+from __future__ import annotations
+
+from typing import TYPE_CHECKING, Iterable, Iterator, NamedTuple, Optional
+
+from .elf import CONSTANTS, MAP_ADDRESS, MEMORY, OBJECT, symbols_of, variable_at
+
+if TYPE_CHECKING:
+    from .elf import Part, Relocation, Symbol
+
+COUNTER_BYTES, MOST_COUNTERS = 8, 8
+PARTS = 1, 2, 4  # sizes of numbers that are kept in the lowest bytes of a counter
+
+
+class Memory(NamedTuple):
+    """`constants`: bytes by section. `tables`: of slots, where in a section their address leads, and from where to
+    where the variable there lies. `globals`: of slots, the map that a global became, and the place in its value.
+    `maps`: those maps, as (name, entries, counters)."""
+
+    constants: dict
+    tables: list
+    globals: list
+    maps: list
+
+    def settings(self) -> dict:
+        """What it adds to settings, for the tools alone."""
+        return {"constants": self.constants, "tables": self.tables, "globals": self.globals}
+
+
+def is_counter(section: str, variable: Optional[Symbol]) -> bool:
+    """Whether a variable becomes a map."""
+    if variable is None or not section.startswith(".bss"):
+        return False
+    whole = variable.size % COUNTER_BYTES == 0 and 0 < variable.size <= COUNTER_BYTES * MOST_COUNTERS
+    return whole or variable.size in PARTS
+
+
+def memory_of(sections: dict[str, Part], relocations: list[Relocation]) -> Memory:
+    """The memory that a program's relocations name."""
+    symbols, memory = symbols_of(sections), Memory({}, [], [], [])
+    for row in relocations:
+        if row.kind != MAP_ADDRESS or not row.section.startswith(MEMORY):
+            continue
+        part = sections[row.section]
+        variable = variable_at(symbols, part.number, row.place)
+        if is_counter(row.section, variable):
+            memory.globals.append({"slot": row.slot, "map": variable.name, "place": row.place - variable.place})
+            size = 1, max(1, variable.size // COUNTER_BYTES)
+            if (variable.name, *size) not in memory.maps:
+                memory.maps.append((variable.name, *size))
+            continue
+        first, end = extent_of(symbols, part, variable, row.place)
+        memory.constants[row.section] = part.data
+        place = {"section": row.section, "place": row.place, "first": first, "end": end}
+        memory.tables.append({"slot": row.slot, "name": row.name or row.section, **place})
+    return memory
+
+
+def set_values(sections: dict[str, Part], values: Iterable[tuple[str, int]]) -> Iterator[str]:
+    """Puts numbers in the place of what constants have, as a loader does in Linux. What is wrong with them."""
+    symbols = symbols_of(sections) if values else []
+    for name, number in values:
+        found = [
+            (section, row)
+            for section, part in sections.items()
+            for row in symbols
+            if section.startswith((CONSTANTS[0], ".data")) and (row.section, row.kind, row.name) == (part.number, OBJECT, name)
+        ]
+        if not found:
+            yield f"there is no constant {name} to set: write `const volatile` in front of it"
+            continue
+        section, row = found[0]
+        if row.size not in (*PARTS, COUNTER_BYTES):
+            yield f"{name} has {row.size} bytes: a number of 1, 2, 4 or 8 bytes can be set"
+        elif not -(1 << 8 * row.size - 1) <= number < 1 << 8 * row.size:
+            yield f"{name} has {row.size} bytes, which can't hold {number}"
+        else:
+            raw, part = (number % (1 << 8 * row.size)).to_bytes(row.size, "little"), sections[section]
+            sections[section] = part._replace(data=part.data[: row.place] + raw + part.data[row.place + row.size :])
+
+
+def extent_of(symbols: list[Symbol], part: Part, variable: Optional[Symbol], place: int) -> tuple[int, int]:
+    """From where to where the constant lies in which a place is. One without a name lies between its neighbours."""
+    if variable is not None and place < variable.place + variable.size:
+        return variable.place, variable.place + variable.size
+    later = [row.place for row in symbols if row.section == part.number and row.size and row.place > place]
+    first = variable.place + variable.size if variable is not None else 0
+    return min(first, place), min(later, default=len(part.data))
+
+
+def faults_of_memory(sections: dict[str, Part], relocations: list[Relocation]) -> Iterator[tuple[int, str]]:
+    """What there isn't: addresses in constants, as (slot, words)."""
+    for row in relocations:
+        if row.kind != MAP_ADDRESS or not row.section.startswith(MEMORY):
+            continue
+        if ".rel" + row.section in sections or row.section.startswith(CONSTANTS[1]):
+            what = "functions or strings" if row.section.startswith(CONSTANTS) else "addresses"
+            name = row.name or "a table"
+            yield row.slot, f"reads {name}, which holds addresses, as a table of {what}: use a `switch`"

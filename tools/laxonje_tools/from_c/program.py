@@ -1,0 +1,185 @@
+"""A filter in C, or in an object file, as settings, with what the tools know of it beside them."""
+from __future__ import annotations
+
+import struct
+import tempfile
+from typing import TYPE_CHECKING, Callable, Iterable, NamedTuple, Optional
+
+from laxonje_tools.output import fail, stop_on
+
+from . import btf, constants, elf, faults
+from .calls import Calls, Fault, Replaced, has_calls
+from .compiler import Compiler
+from .maps import SizedMap, maps_of, settings_of
+from .memory import faults_of_memory, memory_of, set_values
+
+if TYPE_CHECKING:
+    from .elf import Function, Part, Relocation
+
+SECTION_NAME = "xdp"
+MOST_OBJECT = 1 << 24  # bytes
+# what reading bytes that aren't as they should be raises
+BROKEN = struct.error, ValueError, IndexError, KeyError, RecursionError, OverflowError
+
+
+class Filter(NamedTuple):
+    """`settings`: of the program as clang made it. If it has constants or globals in memory, keys of the tools'
+    own say so, which `xdpbox` doesn't know; `forms` has those that can be maps as maps. `place`: of a slot its line of C, or None. `per_cpu`: the maps that are
+    per CPU in Linux. `notes`: what its author should know."""
+
+    settings: dict
+    place: Callable
+    per_cpu: set
+    notes: list
+
+    @property
+    def forms(self) -> list[dict]:
+        """Its settings with its constants as maps, if that can be, and with them in keys of the tools' own."""
+        with_maps = constants.with_constants(self.settings)
+        return [self.settings] if with_maps is None else [with_maps, self.settings]
+
+    @property
+    def has_memory(self) -> bool:
+        """Whether settings can't have it as clang made it, for constants or globals in memory."""
+        return bool(self.forms[0]["tables"] or self.forms[0]["globals"])
+
+
+class Asked(NamedTuple):
+    """What a command asks for: a file, maps whose sizes it gives, which function, if the file has several, numbers of
+    constants, as (name, number), whether calls that print are left out, entries of declared maps, as (name, number), and
+    files with the rows of maps, as (name, path)."""
+
+    source: str
+    maps: Iterable[SizedMap] = ()
+    program: Optional[str] = None
+    values: Iterable[tuple[str, int]] = ()
+    prints: bool = False
+    entries: Iterable[tuple[str, int]] = ()
+    lists: Iterable[tuple[str, str]] = ()
+
+
+def read(asked: Asked) -> Filter:
+    """The filter in a file. Ends if settings can't have it."""
+    with tempfile.TemporaryDirectory() as folder:
+        compiler = None if is_object(asked.source) else Compiler(asked.source, folder)
+        data = bytes_of(asked.source) if compiler is None else compiler.compiled()
+        try:
+            return filter_of(asked, elf.sections_of(data), compiler)
+        except elf.NoObject as fault:
+            by = "" if compiler is None else f"{compiler.clang} made no object for BPF: look at CFLAGS: "
+            fail(f"{asked.source}: {by}{fault}")
+        except BROKEN as fault:
+            fail(f"{asked.source}: its object file isn't as it should be: {fault}")
+
+
+def object_and_function(asked: Asked) -> tuple[bytes, str]:
+    """The object file of a filter, as a loader reads it, and the name of the function."""
+    with tempfile.TemporaryDirectory() as folder:
+        data = bytes_of(asked.source) if is_object(asked.source) else Compiler(asked.source, folder).compiled()
+    return data, chosen(asked, elf.sections_of(data)).name
+
+
+def is_object(source: str) -> bool:
+    """Whether a file is an object file. Ends if there is no file."""
+    try:
+        with open(source, "rb") as file:
+            return file.read(len(elf.MAGIC)) == elf.MAGIC
+    except OSError as fault:
+        fail(f"{source}: {fault.strerror}")
+
+
+def bytes_of(source: str) -> bytes:
+    try:
+        with open(source, "rb") as file:
+            data = file.read(MOST_OBJECT + 1)
+    except OSError as fault:
+        fail(f"{source}: {fault.strerror}")
+    if len(data) > MOST_OBJECT:
+        fail(f"{source}: an object file of more than {MOST_OBJECT} bytes isn't read")
+    return data
+
+
+def filter_of(asked: Asked, sections: dict[str, Part], compiler: Optional[Compiler]) -> Filter:
+    """The filter in an object."""
+    source, function = asked.source, chosen(asked, sections)
+    stop_on(f"{source}: {fault}" for fault in set_values(sections, asked.values))
+    place = place_in_c(btf.lines_of(sections, function, source))
+    made = without_calls(asked, sections, function, place)
+    notes = [f"{place(slot) or f'slot {slot}'}: {note}" for slot, note in made.notes]
+    place, relocations = (lambda slot, before=place: before(made.origins[slot])), made.relocations
+    memory = memory_of(sections, relocations)
+    named = {row.name for row in relocations}
+    maps, declared = maps_of(asked, sections, memory.maps, named, compiler)
+    rows = [
+        *faults.faults_of_program(made.code, relocations, [row.name for row in maps]),
+        *faults_of_memory(sections, relocations),
+    ]
+    stop_on(f"{place(slot) or f'{source}: slot {slot}'} {fault}" for slot, fault in sorted(rows))
+    relocations = [row for row in relocations if not row.section]
+    code = cleared(made.code, relocations)
+    settings = {
+        "program": [code[at : at + 8].hex() for at in range(0, len(code), 8)],
+        **settings_of(maps),
+        "reloc": [{"slot": row.slot, "map": row.name} for row in relocations],
+        **memory.settings(),
+        "numbers": numbers_of(sections, declared, memory.maps),
+    }
+    per_cpu = {row.name for row in declared if row.type in faults.PER_CPU}
+    return Filter(settings, place, per_cpu, notes)
+
+
+def without_calls(asked: Asked, sections: dict[str, Part], function: Function, place: Callable) -> Replaced:
+    """The function with what it calls written out. Ends if that can't be."""
+    relocations = list(elf.relocations_of(sections, function))
+    if not any(has_calls(function.code)):
+        return Replaced(function.code, relocations, range(len(function.code) // 8), [])
+    calls = Calls(list(elf.functions_of(sections)), lambda of: elf.relocations_of(sections, of), asked.prints)
+    try:
+        return calls.replaced(function)
+    except Fault as fault:
+        fail(f"{place(fault.slot) or f'{asked.source}: slot {fault.slot}'} {fault}")
+
+
+def chosen(asked: Asked, sections: dict[str, Part]) -> Function:
+    """The function that settings are made of."""
+    functions = list(elf.functions_of(sections))
+    here = [row for row in functions if row.section.startswith(SECTION_NAME)]
+    named = [row for row in here if asked.program in (None, row.name, row.section)]
+    if len(named) == 1:
+        return named[0]
+    listed = ", ".join(f"{row.name} in {row.section}" for row in here)
+    if here and asked.program is None:
+        fail(f"{asked.source}: {len(here)} functions in sections {SECTION_NAME}..: name one, as --program {here[0].name}: {listed}")
+    if here:
+        fail(f"{asked.source}: {len(named) or 'no'} function{'s are' if named else ' is'} called {asked.program}: {listed}")
+    others = sorted({row.section for row in functions})
+    there = f"; there is {', '.join(others)}" if others else ""
+    fail(f'{asked.source}: no function in a section "{SECTION_NAME}"{there}: write SEC("{SECTION_NAME}") in front of it')
+
+
+def numbers_of(sections: dict[str, Part], declared: Iterable[btf.MapOfC], of_globals: Iterable[SizedMap]) -> dict:
+    """By map the numbers in a value, as C declares them."""
+    found = {row.name: row.numbers for row in declared}
+    if ".BTF" in sections:
+        types = btf.Types(sections[".BTF"].data)
+        found.update((name, types.numbers_of(name)) for name, _, _ in of_globals)
+    return {name: [number._asdict() for number in rows] for name, rows in found.items()}
+
+
+def cleared(program: bytes, relocations: list[Relocation]) -> bytes:
+    """The program with 0 as the constant of each map's address: the place of a static map stands there."""
+    code = bytearray(program)
+    for row in relocations:
+        if row.kind == elf.MAP_ADDRESS:
+            code[8 * row.slot + 4 : 8 * row.slot + 8] = bytes(4)
+    return bytes(code)
+
+
+def place_in_c(lines: dict[int, str]) -> Callable[[int], Optional[str]]:
+    """The line of C of a slot: the last one that began before it."""
+
+    def place(slot: int) -> Optional[str]:
+        at = max((start for start in lines if start <= slot), default=None)
+        return None if at is None else f"{lines[at]} (slot {slot})"
+
+    return place

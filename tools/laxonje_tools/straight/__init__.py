@@ -1,0 +1,26 @@
+"""Straightens a BPF program: changes it, after clang and before the verifier, so that the verifier accepts it.
+
+The verifier follows each slot with few notes: it takes no loop, and loses an address on which more than eight ways
+disagree. What clang makes of C as it is written for Linux has both. Here such a program is given other instructions
+with the same runs. Nothing is changed that the verifier doesn't ask for, and nothing here is trusted: the verifier
+judges the result, and `tools/same-program`, which shares no text with this package, shows that it is the same program.
+
+    instructions  an instruction's fields, what it reads and writes, what it computes of constants
+    settings      settings as text, and the program in them
+    graph         what follows what, what is live, what lies in a loop
+    kinds         which stores surely don't go to the stack
+    constants     which constants registers and stack slots have after an instruction
+    counters      which numbers have to be told apart so that each loop ends
+    copies        a slot together with its constants: loops become chains of copies
+    addresses     what registers stand for, and where ways with different addresses meet
+    memory        constants and globals, which there aren't in the result
+    counts        a load, an addition and a store of a counter as one atomic addition
+    lowered       which stores to counters may take them below 0
+    emit          the copies, and what is put between them, as a program
+    verifier      what `xdpbox explain` says of a program
+    marks         what a search has found out
+    search        from refusal to refusal until the verifier accepts
+    shown         how a result is shown to be the same
+    printed       settings that are printed: read again, and asked of xdpbox
+    command       what the two tools have in common: straightened, shown to be the same, or refused in words
+"""

@@ -1,0 +1,236 @@
+"""Which constants registers and stack slots have at a slot, and what an instruction makes of them.
+
+A constant is a number, or an `Address` that is known as far as copies need it."""
+from __future__ import annotations
+
+from typing import TYPE_CHECKING, AbstractSet, Container, NamedTuple, Optional, Union
+
+from .instructions import (
+    ADD,
+    ALU64,
+    CALL,
+    CONTEXT_ARGUMENT,
+    END,
+    FRAME_POINTER,
+    JEQ,
+    JGE,
+    JGT,
+    JLE,
+    JLT,
+    JMP,
+    JNE,
+    LOAD_DOUBLE,
+    LOAD_WORD,
+    MASK_32,
+    MASK_64,
+    MOV,
+    NEG,
+    STORE_DOUBLE,
+    STORE_DOUBLE_CONSTANT,
+    STX,
+    SUB,
+    WIDE_LOAD,
+    Table,
+    compute,
+    holds,
+    signed,
+)
+
+if TYPE_CHECKING:
+    from .instructions import Instruction
+
+# FAR: so far after the packet's start that it lies past every packet's end. VALUE: of a map, with the distance that
+# the original added and the result adds to the offset of each access instead. NONE: 0, as a lookup gave it
+FRAME, CONTEXT, PACKET_END, FAR, VALUE, MAP, NONE = "frame", "context", "packet's end", "far", "value", "map", "none"
+# what is followed of lookups: their results, or also of which map these are
+RESULTS, MAPS = 1, 2
+END_FIELD = 4  # of the context
+MAP_ARGUMENT = 1  # of a lookup: its register
+ORDERED = {JEQ, JGT, JGE, JNE, JLT, JLE}
+FAR_ENOUGH = 1 << 32  # from any place of a section down to 0
+
+
+class Address(NamedTuple):
+    base: object  # one of the names above, or a Table
+    offset: int = 0
+    map: Optional[str] = None  # of a map, or of a value if maps are followed
+
+
+Constant = Union[int, Address]
+
+
+def is_number(value: object) -> bool:
+    return isinstance(value, int)
+
+
+def is_address(value: object, *bases: str) -> bool:
+    return isinstance(value, Address) and value.base in bases
+
+
+def in_table(value: object) -> bool:
+    """Whether it is an address of constants, whose base is the table."""
+    return isinstance(value, Address) and isinstance(value.base, Table)
+
+
+class Constants:
+    """The constants at one slot: of registers, and of stack slots by their offset from the frame's end.
+
+    values  what is followed of lookups: RESULTS, MAPS, or nothing
+    passed  how often the way to here came by named slots, as (name, times) in order"""
+
+    def __init__(
+        self, registers: dict[int, Constant], stack: dict[int, Constant], values: int = 0, passed: tuple = ()
+    ) -> None:
+        self.registers, self.stack, self.values, self.passed = registers, stack, values, passed
+
+    @classmethod
+    def at_start(cls, values: int = 0) -> Constants:
+        return cls({CONTEXT_ARGUMENT: Address(CONTEXT), FRAME_POINTER: Address(FRAME)}, {}, values)
+
+    @classmethod
+    def at_end(cls, values: int) -> Constants:
+        """Where the program ends whatever there was."""
+        return cls({FRAME_POINTER: Address(FRAME)}, {}, values)
+
+    def with_register(self, register: int, value: Constant) -> Constants:
+        return Constants({**self.registers, register: value}, self.stack, self.values, self.passed)
+
+    def passing(self, name: object) -> Constants:
+        """The same after a named slot."""
+        times = dict(self.passed)
+        times[name] = times.get(name, 0) + 1
+        return Constants(self.registers, self.stack, self.values, tuple(sorted(times.items(), key=repr)))
+
+    def times(self, name: object) -> int:
+        return dict(self.passed).get(name, 0)
+
+    def forgetting(self, names: AbstractSet) -> Constants:
+        """The same without the names that no longer matter."""
+        passed = tuple(row for row in self.passed if row[0] in names)
+        return Constants(self.registers, self.stack, self.values, passed)
+
+    def kept(self, wanted: AbstractSet[int], registers: Container[int], places: Optional[Container[int]]) -> Constants:
+        """Those of the wanted registers, of which numbers only of these, and those of the stack, numbers only in these
+        places, in all if they are None."""
+        kept = {r: v for r, v in self.registers.items() if r in wanted and (r in registers or not is_number(v))}
+        stack = {at: v for at, v in self.stack.items() if places is None or at in places or not is_number(v)}
+        return Constants(kept, stack, self.values, self.passed)
+
+    def key(self) -> tuple:
+        return tuple(sorted(self.registers.items())), tuple(sorted(self.stack.items())), self.passed
+
+    def operands(self, instruction: Instruction) -> tuple[Optional[Constant], Optional[Constant]]:
+        """The two operands of arithmetic or of a jump, None if they aren't constant."""
+        second = self.registers.get(instruction.source) if instruction.by_register else instruction.immediate & MASK_64
+        return self.registers.get(instruction.destination), second
+
+    def stack_offset(self, instruction: Instruction) -> Optional[int]:
+        """Where on the stack a load or a store begins, or None."""
+        base = self.registers.get(instruction.base)
+        return base.offset + instruction.offset if is_address(base, FRAME) else None
+
+    def decided(self, jump: Instruction) -> Optional[bool]:
+        """Whether a jump with a condition is taken, if constants say so."""
+        a, b = self.operands(jump)
+        if is_number(a) and is_number(b):
+            return holds(jump, a, b)
+        if b == 0 and jump.kind == JMP and jump.operation in (JEQ, JNE) and (in_table(a) or is_address(a, NONE)):
+            return (jump.operation == JEQ) == is_address(a, NONE)
+        if in_table(a) and in_table(b) and a.base == b.base and jump.kind == JMP and jump.operation in ORDERED:
+            return holds(jump, a.offset - b.offset + FAR_ENOUGH, FAR_ENOUGH)
+        if jump.kind == JMP and jump.operation in ORDERED:
+            if is_address(a, FAR) and a.offset >= 0 and is_address(b, PACKET_END):
+                return holds(jump, 2, 1)
+            if is_address(a, PACKET_END) and is_address(b, FAR) and b.offset >= 0:
+                return holds(jump, 1, 2)
+        return None
+
+    def after_none(self, jump: Instruction, way: int) -> Constants:
+        """The same on a way of a jump, where what a lookup gave may have been found to be 0."""
+        is_test = jump.kind == JMP and jump.operation in (JEQ, JNE) and not jump.by_register and jump.immediate == 0
+        found = self.registers.get(jump.destination)
+        if not is_test or bool(way) != (jump.operation == JEQ) or not is_address(found, VALUE) or found.offset:
+            return self
+        return self.with_register(jump.destination, Address(NONE))
+
+    # --- after an instruction
+
+    def after(self, instruction: Instruction, elsewhere: bool = False) -> Constants:
+        """`elsewhere`: of a store, whether it surely doesn't go to the stack."""
+        following = Constants(dict(self.registers), dict(self.stack), self.values, self.passed)
+        if instruction.is_arithmetic:
+            following._put(instruction.destination, self._result(instruction))
+        elif instruction.is_load:
+            following._put(instruction.destination, self._loaded(instruction))
+        elif instruction.opcode == WIDE_LOAD:
+            following._put(instruction.destination, self._wide(instruction))
+        elif instruction.is_store:
+            following._store(instruction, elsewhere)
+        elif instruction.opcode == CALL:
+            looked_in = self.registers.get(MAP_ARGUMENT)
+            for register in range(6):
+                following._put(register, None)
+            name = looked_in.map if is_address(looked_in, MAP) else None
+            following._put(0, Address(VALUE, 0, name) if self.values else None)
+        return following
+
+    def _put(self, register: int, value: Optional[Constant]) -> None:
+        if value is None:
+            self.registers.pop(register, None)
+        else:
+            self.registers[register] = value
+
+    def _result(self, instruction: Instruction) -> Optional[Constant]:
+        """What arithmetic leaves, or None."""
+        a, b = self.operands(instruction)
+        wide = instruction.kind == ALU64
+        if instruction.operation == MOV:
+            if is_number(b):
+                return compute(instruction, 0, b)
+            return b if wide and not instruction.offset else None
+        if instruction.operation in (NEG, END):
+            return compute(instruction, a, 0) if is_number(a) else None
+        if is_number(a) and is_number(b):
+            return compute(instruction, a, b)
+        moves = is_address(a, FRAME, FAR, VALUE) or in_table(a)
+        if wide and instruction.operation in (ADD, SUB) and moves and is_number(b):
+            return a._replace(offset=a.offset + signed(b) * (1 if instruction.operation == ADD else -1))
+        if wide and instruction.operation == ADD and is_number(a) and (is_address(b, VALUE) or in_table(b)):
+            return b._replace(offset=b.offset + signed(a))
+        return None
+
+    def _wide(self, instruction: Instruction) -> Optional[Constant]:
+        """What a wide load gives: an address in a table or in a global's value, a number, or None."""
+        if instruction.table is not None:
+            return Address(instruction.table, instruction.immediate)
+        if instruction.counter is not None:
+            name = instruction.counter if self.values == MAPS else None
+            return Address(VALUE, instruction.immediate, name) if self.values else None
+        if instruction.map is not None and self.values == MAPS:
+            return Address(MAP, 0, instruction.map)
+        if instruction.source or instruction.map is not None:
+            return None
+        return instruction.immediate & MASK_32 | (instruction.upper & MASK_32) << 32
+
+    def _loaded(self, load: Instruction) -> Optional[Constant]:
+        base = self.registers.get(load.source)
+        if is_address(base, CONTEXT) and load.opcode == LOAD_WORD and load.offset == END_FIELD:
+            return Address(PACKET_END)
+        if in_table(base):
+            return base.base.number(base.offset + load.offset, load)
+        if is_address(base, FRAME) and load.opcode == LOAD_DOUBLE:
+            return self.stack.get(base.offset + load.offset)
+        return None
+
+    def _store(self, store: Instruction, elsewhere: bool) -> None:
+        at = self.stack_offset(store)
+        if at is not None:
+            for slot in [slot for slot in self.stack if slot < at + store.size and at < slot + 8]:
+                del self.stack[slot]
+            value = self.registers.get(store.source) if store.kind == STX else store.immediate & MASK_64
+            if store.opcode in (STORE_DOUBLE, STORE_DOUBLE_CONSTANT) and value is not None:
+                self.stack[at] = value
+        elif not elsewhere:
+            self.stack.clear()
+        if store.fetches:
+            self._put(store.source, None)

@@ -1,0 +1,211 @@
+"""Copies: a slot together with the constants that are known there.
+
+A conditional jump between two constants has one way, so that a loop with constant trips unwinds into a chain of copies,
+however it is left.
+
+Two marks put tests of our own in front of an addition, if the verifier would lose the address:
+  Wide   the number may be above 65,535: `if n > 65535` leads to copies in which the sum is far past the packet's end
+         (or to the end of the program, if the number may be negative)
+  Cases  the number is one of a few: `if n == c` for each, to copies in which it is a constant"""
+from __future__ import annotations
+
+from dataclasses import dataclass, field
+from typing import TYPE_CHECKING, NamedTuple
+
+from .constants import FAR, Address, Constants, is_number
+from .counters import counters
+from .graph import Fail, NoBound, TooMany, live_registers, loops, slots_that_reach, steering_registers, successors
+from .instructions import FRAME_POINTER, REGISTERS
+from .kinds import stores_elsewhere
+
+if TYPE_CHECKING:
+    from .instructions import Code
+    from .marks import Marks
+
+MOST_COPIES = 8000
+# which numbers are told apart: those that steer a loop or make an address, in slots from which a loop can be reached;
+# those that count a loop's steps; all in slots from which a loop can be reached; all
+STEERING, COUNTERS, IN_LOOPS, EVERYWHERE = "those that steer loops", "those that count", "those in loops", "all"
+
+
+class Phase(NamedTuple):
+    """What stands at a copy: TESTS of ours, the instruction (PLAIN), test `number` of the CASE tests, an addition whose
+    sum is FAR, or the end of the program after an access OUTSIDE the packet."""
+
+    name: str
+    number: int = 0
+
+
+TESTS, PLAIN, FAR_SUM, OUTSIDE = Phase("tests"), Phase("plain"), Phase("far"), Phase("outside")
+CASE = "case"
+
+
+class Wide(NamedTuple):
+    """A mark of an addition: the register of the number, and whether one above 65,535 is known not to be negative."""
+
+    register: int
+    positive: bool
+
+
+class Cases(NamedTuple):
+    """A mark of an addition: the register of the number, and what it can be."""
+
+    register: int
+    numbers: tuple
+
+
+class Trips(NamedTuple):
+    """A mark of a slot in a loop: how often a way comes by, and the registers whose numbers aren't told apart there."""
+
+    most: int
+    registers: set
+
+
+@dataclass(eq=False, repr=False)
+class Copy:
+    slot: int  # of the program as it was
+    phase: Phase
+    constants: Constants
+    key: tuple
+    ways: list = field(default_factory=list)  # (0 fallen through or 1 jumped, Copy)
+    before: list = field(default_factory=list)  # (Copy, way)
+
+    @property
+    def is_instruction(self) -> bool:
+        """Whether the slot's own instruction stands here."""
+        return self.phase in (PLAIN, FAR_SUM)
+
+
+class Telling(NamedTuple):
+    """The registers, and the places of the stack, whose numbers are told apart before a slot; all places for None."""
+
+    registers: object = ()
+    stack: object = ()
+
+
+def telling_numbers(code: Code, numbers: str) -> dict[int, Telling]:
+    """What is told apart before each slot."""
+    if numbers == EVERYWHERE:
+        return {slot: Telling(range(REGISTERS), None) for slot in code}
+    if numbers == COUNTERS:
+        rows = counters(code).items()
+        return {slot: Telling(told, {row[1] for row in told if row not in range(REGISTERS)}) for slot, told in rows}
+    near, steering = slots_that_reach(code, loops(code)), steering_registers(code)
+    chosen = steering if numbers == STEERING else {slot: range(REGISTERS) for slot in code}
+    return {slot: Telling(chosen[slot], None) if slot in near else Telling() for slot in code}
+
+
+class Copies:
+    """The graph of copies.
+
+    `numbers`: which numbers are told apart. `marks`: those of `search`. If results of lookups are followed, a
+    constant added to one can go to the accesses."""
+
+    def __init__(self, code: Code, numbers: str, marks: Marks) -> None:
+        self.code, self.wide, self.cases, self.trips, self.nones = code, marks.wide, marks.cases, marks.trips, marks.nones
+        self.live, self.elsewhere = live_registers(code), stores_elsewhere(code)
+        self.named = {slot: row.counter for row in marks.differences.values() if row.told for slot in row.known}
+        self.mattering = {slot: slots_that_reach(code, {slot}) for slot in marks.trips}
+        for store, row in marks.differences.items():
+            if row.told:
+                self.mattering[row.counter] = self.mattering.get(row.counter, set()) | slots_that_reach(code, {store})
+        self.telling = telling_numbers(code, numbers)
+        self.by_key, self.todo = {}, []
+        self.first = self.copy(0, TESTS, Constants.at_start(marks.values))
+        while self.todo:
+            here = self.todo.pop()
+            for way, after in self.ways(here):
+                here.ways.append((way, after))
+                after.before.append((here, way))
+        self.order = self.sorted()
+
+    def copy(self, slot: int, phase: Phase, constants: Constants) -> Copy:
+        """The copy with these constants, of which those that can't matter are forgotten."""
+        told = self.telling[slot] if phase == TESTS else Telling(range(REGISTERS), None)
+        if slot in self.trips:
+            told = Telling(set(told.registers) - self.trips[slot].registers, None)
+        constants = constants.kept(self.live[slot] | {FRAME_POINTER}, *told)
+        constants = constants.forgetting({name for name, slots in self.mattering.items() if slot in slots})
+        if phase == TESTS and slot not in self.wide and slot not in self.cases:
+            phase = PLAIN
+        if phase == OUTSIDE:
+            constants = Constants.at_end(constants.values)
+        key = (slot, phase, *constants.key())
+        if key not in self.by_key:
+            if len(self.by_key) >= MOST_COPIES:
+                raise TooMany(f"a loop has no bound, or a large one: more than {MOST_COPIES} copies of its slots", slot)
+            self.by_key[key] = Copy(slot, phase, constants, key)
+            self.todo.append(self.by_key[key])
+        return self.by_key[key]
+
+    def ways(self, here: Copy) -> list[tuple[int, Copy]]:
+        """The copies to which control may go from a copy."""
+        if here.phase == OUTSIDE:
+            return []
+        if here.phase == TESTS:
+            return self.ways_of_tests(here)
+        if here.phase.name == CASE:
+            return self.ways_of_case(here)
+        return self.ways_of_instruction(here)
+
+    def ways_of_tests(self, here: Copy) -> list[tuple[int, Copy]]:
+        slot, constants = here.slot, here.constants
+        if slot in self.cases and not is_number(constants.registers.get(self.cases[slot].register)):
+            return [(0, self.copy(slot, Phase(CASE, 0), constants))]
+        ways = [(0, self.copy(slot, PLAIN, constants))]
+        if slot in self.wide and not is_number(constants.registers.get(self.wide[slot].register)):
+            ways.append((1, self.copy(slot, FAR_SUM if self.wide[slot].positive else OUTSIDE, constants)))
+        return ways
+
+    def ways_of_case(self, here: Copy) -> list[tuple[int, Copy]]:
+        register, numbers = self.cases[here.slot]
+        chosen = here.constants.with_register(register, numbers[here.phase.number])
+        following = here.phase.number + 1
+        other = Phase(CASE, following) if following < len(numbers) else OUTSIDE
+        return [(0, self.copy(here.slot, other, here.constants)), (1, self.copy(here.slot, PLAIN, chosen))]
+
+    def ways_of_instruction(self, here: Copy) -> list[tuple[int, Copy]]:
+        slot, instruction = here.slot, self.code[here.slot]
+        constants = self.constants_after(here)
+        if here.phase == FAR_SUM:
+            constants = constants.with_register(instruction.destination, Address(FAR))
+        ways = list(enumerate(successors(self.code, slot)))
+        taken = here.constants.decided(instruction) if instruction.is_branch else None
+        if taken is not None:
+            ways = [ways[taken]]
+        short = [
+            (way, after)
+            for way, after in ways
+            if after not in self.trips or constants.times(after) < self.trips[after].most
+        ]
+        if ways and not short:
+            raise Fail("this loop would run too often", slot)
+        if self.nones and instruction.is_branch:
+            return [(way, self.copy(after, TESTS, constants.after_none(instruction, way))) for way, after in short]
+        return [(way, self.copy(after, TESTS, constants)) for way, after in short]
+
+    def constants_after(self, here: Copy) -> Constants:
+        """The constants after a copy's instruction."""
+        constants = here.constants.after(self.code[here.slot], here.slot in self.elsewhere)
+        for name in (here.slot if here.slot in self.trips else None, self.named.get(here.slot)):
+            constants = constants.passing(name) if name is not None else constants
+        return constants
+
+    def sorted(self) -> list[Copy]:
+        """The copies, each after all that lead to it."""
+        finished, order = {self.first: False}, []
+        todo = [(self.first, iter(self.first.ways))]
+        while todo:
+            here, rest = todo[-1]
+            for _, after in rest:
+                if finished.get(after) is False:
+                    raise NoBound("no constant bounds how often this loop runs", after.slot)
+                if after not in finished:
+                    finished[after] = False
+                    todo.append((after, iter(after.ways)))
+                    break
+            else:
+                todo.pop()
+                finished[here] = True
+                order.append(here)
+        return order[::-1]

@@ -1,0 +1,137 @@
+"""Which stores surely don't go to the stack: those through an address of the packet or of a map's value, on all ways.
+
+All other stores whose place isn't known may change what is known of the stack."""
+from __future__ import annotations
+
+from typing import TYPE_CHECKING, Optional
+
+from .graph import successors
+from .instructions import (
+    ADD,
+    ALU64,
+    CALL,
+    CONTEXT_ARGUMENT,
+    FRAME_POINTER,
+    LOAD_DOUBLE,
+    LOAD_WORD,
+    MOV,
+    STORE_DOUBLE,
+    SUB,
+    writes,
+)
+
+if TYPE_CHECKING:
+    from .instructions import Code, Instruction
+
+CONTEXT, FRAME, PACKET, VALUE, ZERO = "context", "frame", "packet", "value", "zero"
+START_FIELDS = (0, 8)  # of the context: data and data_meta
+
+
+class Kinds(dict):
+    """What address registers hold, and the stack's slots by ("stack", offset): its kind; and for one of the
+    stack the distance from the frame's end, for a map's value who gave it and the distance, or None. Who gave it is the
+    slot of a lookup, or of an addition of an index, or the name of a global. `zeros`: whether registers that are 0 have a kind."""
+
+    def __init__(self, rows: dict, zeros: bool) -> None:
+        super().__init__(rows)
+        self.zeros = zeros
+
+    def stack_offset(self, access: Instruction) -> Optional[int]:
+        kind, offset = self.get(access.base, ("", None))
+        return offset + access.offset if kind == FRAME and offset is not None else None
+
+    def put(self, place: object, kind: Optional[tuple]) -> None:
+        self.pop(place, None)
+        if kind is not None:
+            self[place] = kind
+
+    def forget_stack(self, low: Optional[int] = None, high: Optional[int] = None) -> None:
+        for place in [place for place in self if isinstance(place, tuple)]:
+            if low is None or place[1] < high and low < place[1] + 8:
+                del self[place]
+
+    def after(self, slot: int, instruction: Instruction) -> Kinds:
+        following = Kinds(self, self.zeros)
+        if instruction.is_arithmetic:
+            following.put(instruction.destination, self.result(slot, instruction))
+        elif instruction.is_load:
+            following.put(instruction.destination, self.loaded(instruction))
+        elif instruction.is_store:
+            following.store(instruction)
+        else:
+            for register in writes(instruction):
+                following.put(register, None)
+            if instruction.opcode == CALL:
+                following.put(0, (VALUE, (slot, 0)))
+            elif instruction.counter is not None:
+                following.put(instruction.destination, (VALUE, (instruction.counter, instruction.immediate)))
+        return following
+
+    def result(self, slot: int, instruction: Instruction) -> Optional[tuple]:
+        a, b = self.get(instruction.destination), self.get(instruction.source) if instruction.by_register else None
+        if instruction.kind != ALU64 or instruction.offset or instruction.operation not in (MOV, ADD, SUB):
+            return None
+        if instruction.operation == MOV:
+            return (ZERO, None) if self.zeros and not instruction.by_register and instruction.immediate == 0 else b
+        if a and b or b and instruction.operation == SUB:
+            return None
+        kind, place = a or b or ("", None)
+        constant = instruction.immediate * (1 if instruction.operation == ADD else -1)
+        if place is None or instruction.by_register:
+            # a place in a map's value that this slot makes
+            place = (slot, 0) if kind == VALUE else None
+        else:
+            place = place + constant if kind == FRAME else (place[0], place[1] + constant)
+        return (kind, place) if kind in (FRAME, PACKET, VALUE) else None
+
+    def loaded(self, load: Instruction) -> Optional[tuple]:
+        if self.get(load.source, ("",))[0] == CONTEXT and load.opcode == LOAD_WORD and load.offset in START_FIELDS:
+            return PACKET, None
+        return self.get(("stack", self.stack_offset(load))) if load.opcode == LOAD_DOUBLE else None
+
+    def store(self, store: Instruction) -> None:
+        at = self.stack_offset(store)
+        if at is not None:
+            kind = self.get(store.source) if store.opcode == STORE_DOUBLE else None
+            self.forget_stack(at, at + store.size)
+            self.put(("stack", at), kind)
+        elif not self.is_elsewhere(store):
+            self.forget_stack()
+        if store.fetches:
+            self.put(store.source, None)
+
+    def is_elsewhere(self, store: Instruction) -> bool:
+        return self.get(store.destination, ("",))[0] in (PACKET, VALUE)
+
+    def counter(self, access: Instruction) -> Optional[tuple]:
+        """The counter that an access reaches: who gave its value, and how far in it it lies; or None."""
+        kind, place = self.get(access.base, ("", None))
+        return (place[0], place[1] + access.offset) if kind == VALUE and place is not None else None
+
+    def met(self, other: Kinds) -> Kinds:
+        """What holds on both of two ways. What is 0 on one of them is none that is reached."""
+        both = {place: (kind, other[place]) for place, kind in self.items() if place in other}
+        both = {place: (other if one[0] == ZERO else one, one if other[0] == ZERO else other) for place, (one, other) in both.items()}
+        return Kinds(
+            {place: one if one == two else (one[0], None) for place, (one, two) in both.items() if one[0] == two[0]}, self.zeros
+        )
+
+
+def kinds_before(code: Code, zeros: bool = False) -> dict[int, Kinds]:
+    """The kinds before each slot that can be reached. `zeros`: whether an address on some ways that is 0 on others is one."""
+    before, todo = {0: Kinds({CONTEXT_ARGUMENT: (CONTEXT, None), FRAME_POINTER: (FRAME, 0)}, zeros)}, [0]
+    while todo:
+        slot = todo.pop()
+        following = before[slot].after(slot, code[slot])
+        for after in successors(code, slot):
+            met = before[after].met(following) if after in before else following
+            if met != before.get(after):
+                before[after] = met
+                todo.append(after)
+    return before
+
+
+def stores_elsewhere(code: Code) -> set[int]:
+    """The slots of the stores that surely don't go to the stack."""
+    before = kinds_before(code)
+    return {slot for slot, kinds in before.items() if code[slot].is_store and kinds.is_elsewhere(code[slot])}

@@ -1,0 +1,43 @@
+"""What a search has found out that a program needs, and what it found. No mark is taken back."""
+from __future__ import annotations
+
+from dataclasses import dataclass, field
+from typing import TYPE_CHECKING
+
+if TYPE_CHECKING:
+    from .instructions import Code
+
+
+@dataclass
+class Marks:
+    meetings: set = field(default_factory=set)  # (copy's key or slot, stack slot or None)
+    guards: set = field(default_factory=set)  # keys of copies, or slots
+    limited: set = field(default_factory=set)  # keys of copies
+    restarts: set = field(default_factory=set)  # (key of a copy, register)
+    wide: dict = field(default_factory=dict)  # by slot
+    cases: dict = field(default_factory=dict)  # by slot
+    blurred: dict = field(default_factory=dict)  # by slot
+    values: int = 0  # what is followed of lookups: RESULTS, MAPS, or nothing
+    nones: bool = False  # whether ways on which a lookup found nothing are kept apart
+    counts: list = field(default_factory=list)  # slots of stores
+    differences: dict = field(default_factory=dict)  # by the slot of a store
+    adds: set = field(default_factory=set)  # slots of atomic additions of four bytes
+    trips: dict = field(default_factory=dict)  # of slots in loops, how often a way comes by
+    narrow: set = field(default_factory=set)  # slots of loads
+    rebased: set = field(default_factory=set)  # keys of copies, or slots
+    keys: set = field(default_factory=set)  # slots of lookups
+    moved: dict = field(default_factory=dict)  # by map the parts of values that have a counter of their own
+
+
+@dataclass
+class Result:
+    """A program that the verifier accepts. `labels`: of its slots. `code`, `counts`, `differences`: of the original.
+    `moved`: by map the parts of values that have a counter of their own."""
+
+    words: list
+    relocations: list
+    labels: dict
+    code: Code
+    counts: list
+    differences: dict
+    moved: dict

@@ -1,0 +1,199 @@
+"""What the result has in place of memory: constants as numbers in the code, and globals as values of maps.
+
+In the result a register that had an address of constants has the place in their section, a number. A load from a known
+place is that number; one from another place becomes tests of the place, and in each of their ends the number that is
+loaded there. A global's value is looked up once, in front of all."""
+from __future__ import annotations
+
+from typing import TYPE_CHECKING, Iterable, NamedTuple
+
+from .addresses import TableAddress
+from .constants import MAP, in_table, is_address
+from .graph import Fail
+from .instructions import (
+    ADD_CONSTANT,
+    ADD_REGISTER,
+    ALU64,
+    CALL,
+    CONTEXT_ARGUMENT,
+    FRAME_POINTER,
+    IF_ABOVE_CONSTANT,
+    IF_EQUAL_CONSTANT,
+    LDX,
+    LOAD_DOUBLE,
+    LOAD_WORD,
+    LSH,
+    MASK_32,
+    MOVE_CONSTANT,
+    MOVE_REGISTER,
+    WIDE_LOAD,
+    signed,
+)
+
+if TYPE_CHECKING:
+    from .copies import Copy
+    from .emit import Emitter
+    from .instructions import Instruction
+
+LOOKUP, ANSWER, MAP_ARGUMENT, KEY_ARGUMENT = 1, 0, 1, 2  # the helper, and its registers
+KEY_SLOT = "key"
+WORD_REGISTER, PART_REGISTER = 3, 4  # for a key that is copied
+COUNTER_BYTES, LSH_CONSTANT = 8, ALU64 | LSH
+LOADS = (8, LOAD_DOUBLE), (4, LOAD_WORD), (2, LDX | 0x68), (1, LDX | 0x70)  # by how many bytes they load
+MOST_PLACES = 1 << 16
+MOST_ADDED = 1 << 31  # a constant that an addition can have is below it
+SLOPES = 0, 1  # of runs of numbers, by place
+
+
+def put_number(emitter: Emitter, slot: int, register: int, number: int) -> None:
+    """A constant in a register."""
+    if -(1 << 31) <= signed(number) < 1 << 31:
+        emitter.put_own(slot, MOVE_CONSTANT, register, 0, 0, signed(number))
+    else:
+        emitter.put_own(slot, WIDE_LOAD, register, 0, 0, signed(number & MASK_32, 32), signed(number >> 32, 32))
+
+
+def loads_constant(emitter: Emitter, here: Copy, load: Instruction) -> bool:
+    """Whether a load is from constants; it is written then."""
+    known, place = here.constants.registers.get(load.base), emitter.addresses.before[here].get(load.base)
+    if in_table(known):
+        number = known.base.number(known.offset + load.offset, load)
+        if number is None:
+            raise Fail("this reads outside of the constants", here.slot)
+        put_number(emitter, here.slot, load.destination, number)
+        return True
+    if isinstance(place, TableAddress):
+        choose(emitter, here, load, runs(place, load))
+        emitter.places[here, "loaded"] = len(emitter.out)
+        return True
+    return False
+
+
+class Run(NamedTuple):
+    """Numbers of a table: up to the place `last` of the address, each is `slope` times the place, and the constant."""
+
+    last: int
+    slope: int
+    constant: int
+
+
+def put_run(emitter: Emitter, slot: int, load: Instruction, run: Run) -> None:
+    """A run's number in the register that is loaded."""
+    if not run.slope:
+        put_number(emitter, slot, load.destination, run.constant)
+        return
+    if load.destination != load.base:
+        emitter.put_own(slot, MOVE_REGISTER, load.destination, load.base)
+    if run.constant:
+        emitter.put_own(slot, ADD_CONSTANT, load.destination, 0, 0, run.constant)
+
+
+def check_store(emitter: Emitter, here: Copy, store: Instruction) -> None:
+    """Ends if something is stored to a global that isn't a counter."""
+    place = emitter.addresses.before[here].get(store.base) if store.is_store else None
+    if isinstance(place, TableAddress):
+        raise Fail(
+            f"stores to {place.table.name}: a global that changes is a map's counters here: it has 1, 2, 4 or"
+            " whole eight bytes, at most 64, and begins with 0",
+            here.slot,
+        )
+
+
+def runs(address: TableAddress, load: Instruction) -> list[Run]:
+    """The runs of a table's numbers, in order of the places."""
+    table, stride = address.table, load.size if address.stride in (0, 1) else address.stride
+    first = table.first + (address.place + load.offset - table.first) % stride
+    places = range(first, min(table.end - load.size + 1, first + MOST_PLACES * stride), stride)
+    numbers, at, rows = [table.number(place, load) for place in places], 0, []
+    while at < len(numbers):
+        ends = {
+            slope: next(
+                (end for end in range(at, len(numbers)) if numbers[end] - numbers[at] != slope * (end - at) * stride),
+                len(numbers),
+            )
+            for slope in SLOPES
+        }
+        fits = [slope for slope in SLOPES if not slope or abs(numbers[at] - places[at] + load.offset) < MOST_ADDED]
+        slope = max(fits, key=lambda slope: ends[slope])
+        constant = numbers[at] - slope * (places[at] - load.offset)
+        at = ends[slope]
+        rows.append(Run(places[at - 1] - load.offset, slope, constant))
+    return rows
+
+
+def choose(emitter: Emitter, here: Copy, load: Instruction, rows: list[Run], is_last: bool = True) -> None:
+    """Tests of the place, down to each run's number. `is_last`: nothing is written after it."""
+    if not rows:
+        raise Fail("this reads outside of the constants", here.slot)
+    if len(rows) == 1:
+        put_run(emitter, here.slot, load, rows[0])
+        if not is_last:
+            emitter.put_jump(here.slot, (here, "loaded"))
+        return
+    half = len(rows) // 2
+    above = here, "above", rows[half - 1].last
+    emitter.put_jump(here.slot, above, IF_ABOVE_CONSTANT, load.base, 0, 0, rows[half - 1].last)
+    choose(emitter, here, load, rows[:half], False)
+    emitter.places[above] = len(emitter.out)
+    choose(emitter, here, load, rows[half:], is_last)
+
+
+def look_up_globals(emitter: Emitter, names: Iterable[str]) -> None:
+    """In front of the program: the value of each global's map, kept on the stack."""
+    for name in names:
+        emitter.put_own(0, MOVE_CONSTANT, KEY_ARGUMENT)
+        emitter.save(KEY_SLOT, KEY_ARGUMENT, 0)
+        emitter.put_own(0, MOVE_REGISTER, KEY_ARGUMENT, FRAME_POINTER)
+        emitter.put_own(0, ADD_CONSTANT, KEY_ARGUMENT, 0, 0, emitter.own[KEY_SLOT])
+        emitter.put_own(0, WIDE_LOAD, MAP_ARGUMENT, 0, 0, 0, 0, name)
+        emitter.put_own(0, CALL, 0, 0, 0, LOOKUP)
+        emitter.put_jump(0, emitter.end, IF_EQUAL_CONSTANT, ANSWER)
+        emitter.save(("global", name), ANSWER, 0)
+    emitter.load(CONTEXT_ARGUMENT, emitter.context, 0)
+
+
+def write_key(emitter: Emitter, here: Copy) -> None:
+    """In front of a lookup: its key, which lies in the packet, on our own stack. The registers behind the arguments are free,
+    since a call leaves nothing in them."""
+    slot, known = here.slot, here.constants.registers.get(MAP_ARGUMENT)
+    if not is_address(known, MAP):
+        raise Fail("the map of this lookup isn't known, and its key lies in the packet", slot)
+    size = emitter.key_sizes[known.map]
+    names = [(KEY_SLOT, size, at) for at in range(0, size, COUNTER_BYTES)]
+    places = {name: emitter.own[name] for name in reversed(names)}  # one behind the other
+    for name in names:
+        first, *rest = parts_of_word(name[2], size)
+        emitter.put_own(slot, first.load, WORD_REGISTER, KEY_ARGUMENT, first.place, copy=here)
+        for part in rest:
+            emitter.put_own(slot, part.load, PART_REGISTER, KEY_ARGUMENT, part.place, copy=here)
+            emitter.put_own(slot, LSH_CONSTANT, PART_REGISTER, 0, 0, 8 * (part.place - name[2]))
+            emitter.put_own(slot, ADD_REGISTER, WORD_REGISTER, PART_REGISTER)
+        emitter.save(name, WORD_REGISTER, slot)
+    emitter.put_own(slot, MOVE_REGISTER, KEY_ARGUMENT, FRAME_POINTER)
+    emitter.put_own(slot, ADD_CONSTANT, KEY_ARGUMENT, 0, 0, places[names[0]])
+
+
+class PartOfWord(NamedTuple):
+    """Bytes of a key: the load's opcode, and where in the key they lie."""
+
+    load: int
+    place: int
+
+
+def parts_of_word(place: int, size: int) -> list[PartOfWord]:
+    """The loads of at most eight bytes of a key, from a place on, the largest first."""
+    rows, left = [], min(COUNTER_BYTES, size - place)
+    for part, load in LOADS:
+        if left & part:
+            rows.append(PartOfWord(load, place))
+            place += part
+    return rows
+
+
+def takes_address(emitter: Emitter, here: Copy, wide: Instruction) -> bool:
+    """Whether a wide load is of the address of constants or of a global; it is written then."""
+    if wide.table is not None:
+        emitter.put_own(here.slot, MOVE_CONSTANT, wide.destination, 0, 0, wide.immediate)
+    elif wide.counter is not None:
+        emitter.load(wide.destination, ("global", wide.counter), here.slot)
+    return wide.table is not None or wide.counter is not None

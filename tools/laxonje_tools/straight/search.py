@@ -1,0 +1,393 @@
+"""The way to an accepted program: each refusal says which mark to add.
+
+The verifier's answer, as `xdpbox explain` gives it, drives everything; there are no rules of the verifier's here. The
+first program is that of the copies alone. Then, one mark per refusal:
+
+  V9 at an access    through an address of a meeting: the meeting is marked. Through one to which a number was added:
+                     the number's range is narrowed by a test (`wide`), or its few values are told apart (`cases`). A
+                     distance of several such numbers is bounded by a test where it is stored (`limited`), or made anew
+                     from the distance where it was compared with the packet's end (`restarts`)
+                     If more ways meet than the verifier keeps apart, since an added number is a constant on some: it
+                     is hidden that it is (`blurred`)
+  V10                what the access reaches is compared with the packet's end anew (`guards`); where it still lies in
+                     front of what was compared, its address is made anew first (`rebased`)
+  a loop             that nothing bounds but a masked number, or one that was compared with a constant: a copy for each
+                     number (`cases`), or for each step up to it (`trips`)
+  V17                of a key in the packet: it is copied to the stack (`keys`)
+  V17, V9 at a value  of two lookups whose ways met: a copy behind the meeting for each map (`values`)
+  V9 at 0             where what a lookup gave is tested twice: a copy for the ways on which it was 0 (`nones`)
+  V19                 an atomic addition of four bytes becomes one to the whole counter (`adds`)
+  V14 at a load      the whole counter is loaded, and the part cut out (`narrow`)
+  V14 at a store     a load, an addition and a store become one atomic addition (`counts`); else the difference from
+                     what was loaded is added, if the load stays (`differences`). A number of fewer than eight bytes
+                     that lies below another one of its counter gets a counter of its own (`moved`)
+
+No mark is taken back, so the search ends. It is made in several ways (`WAYS`): as few numbers told apart as loops
+need, their counters alone, all in loops, or all; a meeting marked as one copy or at all copies of its slot, or none, and
+each access rebased."""
+from __future__ import annotations
+
+from typing import TYPE_CHECKING, Iterable, Iterator, Optional
+
+from .addresses import ADDED, KEPT, MET, Addresses, PacketAddress, StackSlot, Thing
+from .constants import MAPS, RESULTS
+from .copies import COUNTERS, EVERYWHERE, IN_LOOPS, STEERING, Cases, Copies, Trips, Wide
+from .counts import difference, fused
+from .emit import Emitter, Kind, Needs
+from .graph import SIZE, Fail, NoBound, TooMany, loop_of, steering
+from .instructions import MASK_32
+from .marks import Marks, Result
+from .masks import masked, parts_of
+from .memory import KEY_ARGUMENT
+from .parts import COUNTER_BYTES, NeedsCounters, check_parts, has_parts, moved_with, with_counters
+from .settings import instructions_of, key_sizes, text_of, without_rows
+from .verifier import verdict
+
+if TYPE_CHECKING:
+    from .addresses import Place
+    from .copies import Copy
+    from .emit import Label
+    from .graph import Steering
+    from .verifier import Verdict
+
+MOST_STEPS = 64  # of a cursor, from its first number to the most that a mask allows
+MOST_TURNS, MOST_CASES = 200, 64
+MOST_ALIKE = 3  # marks at copies of one slot, from which on all its copies are marked
+MOST_JUDGED = 60000  # slots, in all programs of one search
+MOST_POSITIVE = MASK_32  # a number up to here is none that is negative in 64 bits
+# causes that no other program with the same runs would avoid: of decoding and of structure, but for the loop
+OF_THE_BYTES = {"V0", "V1", "V2", "V3", "V4", "V6", "V16", "V19"}
+
+BY_COPY, BY_SLOT, BY_ACCESS = "by copy", "by slot", "by access"
+# the searches, in groups of which the smaller result comes first
+WAYS = [
+    (STEERING, (BY_COPY, BY_SLOT)),
+    (STEERING, (BY_ACCESS,)),
+    (COUNTERS, (BY_COPY, BY_SLOT)),
+    (IN_LOOPS, (BY_COPY, BY_SLOT)),
+    (EVERYWHERE, (BY_COPY, BY_SLOT)),
+]
+
+
+class StillRefused(Fail):
+    """The verifier's answer to a program that nothing more was changed in."""
+
+    def __init__(self, slot: Optional[int], answer: Verdict) -> None:
+        super().__init__(f"straightened, it is refused with {answer.cause}", slot, answer.cause)
+        self.answer = answer
+
+
+class Search:
+    """One search. `numbers`: which are told apart; `way`: what is marked first if an address was lost: a meeting
+    as one copy (BY_COPY) or at all copies of its slot (BY_SLOT), or the access, to be rebased (BY_ACCESS)."""
+
+    def __init__(self, settings: dict, xdpbox: str, numbers: str, way: str) -> None:
+        self.settings, self.xdpbox, self.numbers, self.way = without_rows(settings), xdpbox, numbers, way
+        self.code = instructions_of(settings)
+        self.marks = Marks(values=RESULTS if any(insn.counter is not None for insn in self.code.values()) else 0)
+        self.copies = self.addresses = self.labels = None
+        self.reached = {}  # by map the accesses in its values
+        self.began = False  # whether there was a program to ask the verifier of
+
+    def mark(self, here: Copy, place: Place) -> tuple:
+        """How a meeting is marked. All its registers are: one of them is often made from another."""
+        return (here.slot if self.way == BY_SLOT else here.key, place if isinstance(place, StackSlot) else None)
+
+    def is_marked(self, here: Copy, place: Place) -> bool:
+        kept = place if isinstance(place, StackSlot) else None
+        return (here.key, kept) in self.marks.meetings or (here.slot, kept) in self.marks.meetings
+
+    def is_restarted(self, here: Copy, place: Place) -> bool:
+        return (here.key, place) in self.marks.restarts
+
+    def mark_meetings(self, rows: Iterable[tuple[Copy, Place]]) -> bool:
+        """Marks meetings, (copy, place) each: whether one is new. If several copies of a slot are marked, all are."""
+        fresh = {self.mark(*row) for row in rows if not self.is_marked(*row)}
+        self.marks.meetings |= fresh
+        for key, kept in fresh:
+            slot = key if isinstance(key, int) else key[0]
+            alike = sum(other[0] == slot for other, _ in self.marks.meetings if not isinstance(other, int))
+            if alike >= MOST_ALIKE:
+                self.marks.meetings.add((slot, kept))
+        return bool(fresh)
+
+    def mark_guard(self, here: Copy) -> bool:
+        """Marks an access to be guarded, in all copies of its slot if several need it."""
+        if here.key in self.marks.guards or here.slot in self.marks.guards | self.marks.keys:
+            return False
+        self.marks.guards.add(here.key)
+        if sum(key[0] == here.slot for key in self.marks.guards if not isinstance(key, int)) >= MOST_ALIKE:
+            self.marks.guards.add(here.slot)
+        return True
+
+    def run(self) -> Result:
+        judged = 0
+        for _ in range(MOST_TURNS):
+            program = self.emitted()
+            if program is None:
+                continue
+            words, relocations, self.labels = program
+            self.began = True
+            judged += len(words)
+            if judged > MOST_JUDGED:
+                break
+            answer = verdict(self.xdpbox, text_of(with_counters(self.settings, self.marks.moved), words, relocations))
+            if answer.accepted and not self.keeps_parts():
+                continue
+            if answer.accepted:
+                return self.result(words, relocations)
+            if answer.cause is None:
+                raise Fail(answer.words.strip() or "xdpbox gave no answer")
+            if not self.learn(answer):
+                label = self.labels.get(answer.slot)
+                raise StillRefused(label.slot if label else None, answer)
+        raise Fail("it isn't accepted after many changes", None, SIZE)
+
+    def emitted(self) -> Optional[tuple]:
+        """The program with the marks as they are; None if a further meeting had to be marked."""
+        marks = self.marks
+        try:
+            self.copies = Copies(self.code, self.numbers, marks)
+        except (NoBound, TooMany) as loop:
+            if not self.tell_trips_apart(loop.slot, isinstance(loop, NoBound)):
+                raise
+            return None
+        self.addresses = Addresses(self.copies, self.is_marked, self.is_restarted)
+        try:
+            emitter = Emitter(self.copies, self.addresses, marks, key_sizes(self.settings))
+        except Needs as needs:
+            self.mark_meetings(needs.meetings)
+            return None
+        self.reached = emitter.reached
+        return emitter.program()
+
+    def keeps_parts(self) -> bool:
+        """Whether no store changes another number of its counter; else parts that need it get counters of their own."""
+        try:
+            check_parts(self.settings, self.marks.moved, self.reached)
+        except NeedsCounters as needs:
+            self.marks.moved = moved_with(self.settings, self.marks.moved, needs)
+            return False
+        return True
+
+    def result(self, words: list[str], relocations: list[tuple[int, str]]) -> Result:
+        marks = self.marks
+        return Result(words, relocations, self.labels, self.code, sorted(marks.counts), marks.differences, marks.moved)
+
+    # --- what a refusal asks for; each answers whether there is a new mark
+
+    def learn(self, answer: Verdict) -> bool:
+        label = self.labels.get(answer.slot)
+        if label is None or label.kind != Kind.COPY and not self.is_own_load(label):
+            return False
+        instruction = self.code[label.slot]
+        register = KEY_ARGUMENT if label.slot in self.marks.keys else instruction.base
+        if answer.cause == "V14":
+            return self.narrow(label.slot) if instruction.is_load else self.fuse(label.slot)
+        if answer.cause == "V19":
+            return self.add_whole(label.slot)
+        if answer.cause == "V17":
+            return self.copy_key(label.copy) or self.follow(MAPS)
+        if not (instruction.is_load or instruction.is_store or label.slot in self.marks.keys):
+            return False
+        if answer.cause == "V10" and self.way == BY_ACCESS:
+            return self.rebase(label.copy, instruction.base)
+        if answer.cause == "V10":
+            return self.mark_guard(label.copy) or self.rebase(label.copy, instruction.base)
+        if answer.cause != "V9":
+            return False
+        if answer.is_none(register) and self.tell_nones_apart():
+            return True
+        address = self.addresses.before[label.copy].get(register)
+        if address == Thing.VALUE and (self.follow(RESULTS) or self.follow(MAPS)):
+            return True
+        if not isinstance(address, PacketAddress):
+            return self.tell_apart(answer)
+        if self.way == BY_ACCESS:
+            return self.rebase(label.copy, instruction.base)
+        meetings = [(atom.copy, atom.place) for atom in address.atoms if atom.name == MET]
+        if self.mark_meetings(meetings) or answer.too_many_notes and self.blur(address):
+            return True
+        if self.widen(answer, address) or self.limit(address) or self.restart(label.copy, register):
+            return True
+        return self.rebase(label.copy, instruction.base)
+
+    def is_own_load(self, label: Label) -> bool:
+        """Whether it is of a load of our own: through the address of a store of which the difference is added, or through that
+        of a key that is copied."""
+        marked = label.slot in self.marks.differences or label.slot in self.marks.keys
+        return marked and label.copy is not None and label.copy.slot == label.slot
+
+    def copy_key(self, here: Copy) -> bool:
+        """A lookup whose key lies in the packet. Its map has to be known, which says how many bytes the key has."""
+        if not isinstance(self.addresses.before[here].get(KEY_ARGUMENT), PacketAddress) or here.slot in self.marks.keys:
+            return False
+        self.marks.keys.add(here.slot)
+        self.follow(MAPS)
+        return True
+
+    def follow(self, what: int) -> bool:
+        """Follows this of lookups: values of two maps get a copy each of what comes after their ways met."""
+        fresh = self.marks.values < what
+        self.marks.values = max(self.marks.values, what)
+        return fresh
+
+    def tell_nones_apart(self) -> bool:
+        """A second test of what a lookup gave: ways on which the first one found 0 get copies of their own."""
+        fresh, self.marks.nones = not self.marks.nones, True
+        self.follow(RESULTS)
+        return fresh
+
+    def narrow(self, slot: int) -> bool:
+        """A load of a part of a counter."""
+        fresh = slot not in self.marks.narrow and self.code[slot].size < 8
+        self.marks.narrow |= {slot} if fresh else set()
+        return fresh
+
+    def fuse(self, slot: int) -> bool:
+        mended = fused(self.code, slot)
+        if mended is None:
+            row = difference(self.code, slot, self.marks.nones)
+            fresh = row is not None and slot not in self.marks.differences
+            self.marks.differences.update({slot: row} if fresh else {})
+            if fresh and (self.code[slot].size < COUNTER_BYTES or has_parts(self.settings)):
+                self.follow(MAPS)
+            return fresh
+        self.code = mended
+        self.marks.counts.append(slot)
+        return True
+
+    def add_whole(self, slot: int) -> bool:
+        """An atomic addition of four bytes."""
+        fresh = self.code[slot].adds_word and slot not in self.marks.adds
+        self.marks.adds |= {slot} if fresh else set()
+        self.follow(MAPS)
+        return fresh
+
+    def rebase(self, here: Copy, register: int) -> bool:
+        """An access in front of what was compared: its address is made anew from its own distance, and compared."""
+        address = self.addresses.before[here].get(register)
+        if not isinstance(address, PacketAddress) or here.key in self.marks.rebased or here.slot in self.marks.keys:
+            return False
+        self.marks.rebased.add(here.key)
+        return True
+
+    def blur(self, address: PacketAddress) -> bool:
+        """Numbers that were added, and are constants on some ways alone: the verifier would keep the sums apart."""
+        fresh = {atom.copy.slot: atom.place for atom in address.atoms if atom.name == ADDED}
+        fresh = {slot: place for slot, place in fresh.items() if slot not in self.marks.blurred}
+        self.marks.blurred.update(fresh)
+        return bool(fresh)
+
+    def widen(self, answer: Verdict, address: PacketAddress) -> bool:
+        """A number that is too wide for an address: a test in front of its addition, the named one or the last."""
+        lost = answer.lost()
+        named = self.labels.get(lost.slot) if lost else None
+        added = [
+            (atom.copy, atom.place)
+            for atom in address.atoms
+            if atom.name == ADDED and atom.copy.slot not in self.marks.wide
+        ]
+        chosen = [row for row in added if named and row[0] is named.copy] or added[-1:]
+        if not chosen:
+            return False
+        here, register = chosen[0]
+        positive = bool(named) and here is named.copy and lost.span is not None and lost.span[1] <= MOST_POSITIVE
+        self.marks.wide[here.slot] = Wide(register, positive)
+        return True
+
+    def limit(self, address: PacketAddress) -> bool:
+        """A distance that is the sum of several numbers, and all that it is made of: tests where they are stored."""
+        stored = {}
+        for row in self.addresses.stored.values():
+            for atom, made_of in row:
+                stored.setdefault(atom, []).extend(more for more in made_of.atoms if more.name == KEPT)
+        keys, todo = set(), [atom for atom in address.atoms if atom.name == KEPT]
+        while todo:
+            atom = todo.pop()
+            if atom.copy.key not in keys:
+                keys.add(atom.copy.key)
+                todo += stored.get(atom, [])
+        fresh = not keys <= self.marks.limited
+        self.marks.limited |= keys
+        return fresh
+
+    def restart(self, here: Copy, register: int) -> bool:
+        """An address plus numbers whose sum may lie far past any packet: it was compared with the
+        packet's end, and is made anew from its distance there."""
+        if (here.key, register) in self.marks.restarts:
+            return False
+        self.marks.restarts.add((here.key, register))
+        self.marks.limited.add(here.key)
+        return True
+
+    def tell_apart(self, answer: Verdict) -> bool:
+        """A number of few values that is added to an address of the stack or of a map's value: a copy for each."""
+        lost = answer.lost()
+        label = self.labels.get(lost.slot) if lost else None
+        if label is None or label.copy is None or lost.was not in ("fp", "map_value"):
+            return False
+        if lost.register is None or label.slot in self.marks.cases:
+            return False
+        numbers = masked(self.code, label.slot, lost.register)
+        if not numbers and lost.span:
+            numbers = range(lost.span[0], lost.span[1] + 1)
+        if not 0 < len(numbers) <= MOST_CASES:
+            return False
+        self.marks.cases[label.slot] = Cases(lost.register, tuple(numbers))
+        return True
+
+    def tell_trips_apart(self, slot: int, by_number: bool) -> bool:
+        """A loop that runs as often as a masked number says, as over the words of a header: a copy for each number.
+        If its cursor grows by what is loaded, as over options: as many copies as the cursor has steps of one.
+        `by_number`: whether the former may help."""
+        loop = loop_of(self.code, slot)
+        rows = list(steering(self.code, loop))
+        return any(self.tell_masked_apart(row, loop, by_number) for row in rows) or any(
+            self.tell_bounded_apart(row, loop) for row in rows
+        )
+
+    def tell_bounded_apart(self, row: Steering, loop: set[int]) -> bool:
+        """The same, of a number that was compared with a constant in front of the loop."""
+        steps = [-(-bound // row.step(self.code, loop)) for bound in row.bounds]
+        steps = [number for number in steps if 1 < number <= MOST_STEPS]
+        if not steps or row.inside in self.marks.trips:
+            return False
+        self.marks.trips[row.inside] = Trips(max(steps), row.cursors(self.code, loop))
+        return True
+
+    def tell_masked_apart(self, row: Steering, loop: set[int], by_number: bool) -> bool:
+        """The same, for a number after a mask."""
+        for mask in row.masks:
+            numbers = parts_of(self.code[mask].immediate)
+            steps = row.most(self.code, loop, mask) - row.first(self.code, loop)
+            if row.is_by_data(self.code, loop) or not by_number:
+                if 0 < steps <= MOST_STEPS and row.inside not in self.marks.trips:
+                    self.marks.trips[row.inside] = Trips(steps, row.cursors(self.code, loop))
+                    return True
+            elif by_number and numbers and mask + 1 not in self.marks.cases:
+                self.marks.cases[mask + 1] = Cases(self.code[mask].destination, tuple(numbers))
+                return True
+        return False
+
+
+def searches(settings: dict, xdpbox: str, faults: list[Fail], unguarded: list[Result]) -> Iterator[Result]:
+    """What the searches find, the smaller of two programs first. The next two begin only if nobody took one of
+    these, and none that would have too many copies again. Why a search found none is added to the faults. If some
+    results of the first ones want a guard that nobody asked for (`unguarded`), others do too, but for those that tell
+    all numbers apart."""
+    hopeless = set()
+    for numbers, ways in WAYS:
+        results = []
+        if numbers in hopeless or unguarded and numbers == IN_LOOPS:
+            continue
+        for way in ways:
+            search = Search(settings, xdpbox, numbers, way)
+            try:
+                results.append(search.run())
+            except Fail as fail:
+                faults.append(fail)
+                if isinstance(fail, TooMany) and not search.began:
+                    hopeless.add(numbers)
+                    break
+        yield from sorted(results, key=lambda result: len(result.words))
