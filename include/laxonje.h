@@ -7,11 +7,12 @@
  * 1. A pointer with its length is memory that nobody else changes during the call: no thread, no device, and no guest.
  *    Never pass a page that a guest can write: copy the packet out of it first. A pointer is aligned for what it points
  *    to, and isn't null, but for 0 elements. What is passed as not const overlaps nothing else that is passed.
- * 2. A struct laxonje_program or laxonje_queue is made by laxonje_program_new or laxonje_queue_new, which answer null if there is none,
- *    and isn't used once it is deleted.
- * 3. One call at a time for one handle, of a program or of a queue. Different ones may be used by any threads at once, also of one program:
- *    laxonje_again makes a handle more of it, without verifying it again. A handle is handed to another thread by a lock, by that
- *    thread's start or join, or by a sequentially consistent atomic.
+ * 2. A struct laxonje_program, laxonje_queue or laxonje_shared is made by laxonje_program_new, laxonje_queue_new or laxonje_counters_new,
+ *    which answer null if there is none, and isn't used once it is deleted.
+ * 3. One call at a time for one handle, of a program, of a queue or of shared counters. Different ones may be used by any threads at once, also
+ *    of one program: laxonje_again makes a handle more of it, without verifying it again. So queues that share counters may take their turns on
+ *    as many threads, while another reads the counters. A handle is handed to another thread by a lock, by that thread's start or
+ *    join, or by a sequentially consistent atomic.
  * 4. malloc, realloc and free are those of one allocator, and align blocks to 16 bytes. No call from a signal handler, or
  *    from the forked child of a process with threads.
  * 5. This header is written by hand. No proof compares it with the library, but tools/gate/header-fits, the assertions below and the examples
@@ -142,6 +143,9 @@ struct laxonje_program;
 /* A queue, or none. */
 struct laxonje_queue;
 
+/* A handle of counters that queues share. */
+struct laxonje_shared;
+
 /* A run of frames, one after another, which one domain owns. */
 struct laxonje_extent {
 	uint32_t frames;
@@ -173,6 +177,20 @@ enum laxonje_made {
 	LAXONJE_MADE_DOMAIN,  /* the frontend's domain is the backend's own */
 	LAXONJE_MADE_PROGRAM, /* there is no program */
 	LAXONJE_MADE_NULL     /* `desc` or `out` is null: this is looked at first */
+};
+
+/* The most queues that share counters. */
+#define LAXONJE_SHARES 63
+
+/* The answer of laxonje_queue_share and laxonje_queue_pass. But for the first, nothing has changed of the queues. */
+enum laxonje_sharing {
+	LAXONJE_SHARES_NOW,      /* from its next step on the queue shares the counters */
+	LAXONJE_SHARES_MEMORY,   /* memory ran out */
+	LAXONJE_SHARES_SEATS,    /* as many queues as they were made for have shared them */
+	LAXONJE_SHARES_BUSY,     /* a turn, a delivery or a wait is under way */
+	LAXONJE_SHARES_ALREADY,  /* the queue shares counters already */
+	LAXONJE_SHARES_MAPS,     /* the maps of the queue's program have other sizes */
+	LAXONJE_SHARES_NOTHING   /* there is no queue, or there are no counters */
 };
 
 enum laxonje_op_kind {
@@ -407,13 +425,14 @@ size_t laxonje_queue_turn(struct laxonje_queue *queue, uint32_t producer, struct
 /* Goes on after the ops before, and says the next ones, which the host makes in their order: up to the first that is a LAXONJE_OP_READ,
  * a LAXONJE_OP_PUSH or LAXONJE_OP_DONE, or a LAXONJE_OP_WRITE that another follows, and no more than there is room for. The answer is how
  * many. `words` has the words that a READ or a PUSH asked for, and gets those of a WRITE: at least LAXONJE_PAGE_WORDS of them. Other words
- * stay as they are. The program's counters are the first of `counters`, as laxonje_run has them. With fewer words or counters, no room, no
+ * stay as they are. The program's counters are the first of `counters`, as laxonje_run has them, unless the queue shares its counters
+ * (laxonje_queue_share): then `counters` is for 0 elements, or stays as it is. With fewer words or counters, no room, no
  * queue, or nothing under way there are no ops, and nothing has changed: then there is no op to look at. */
 size_t laxonje_queue_step(struct laxonje_queue *queue, uint32_t *words, size_t word_count,
                           uint64_t *counters, size_t counter_count, struct laxonje_op *ops, size_t op_count);
 
-/* How many words the counters of the queue's program are: lend as many to each step, also of a delivery or a wait. LAXONJE_NOWHERE with no
- * queue. */
+/* How many words the counters of the queue's program are: lend as many to each step, also of a delivery or a wait. 0 if the queue shares its
+ * counters, and LAXONJE_NOWHERE with no queue. */
 size_t laxonje_queue_counters(struct laxonje_queue *queue);
 
 /* Begins to deliver a packet of the host's own to the guest, between two turns: `producer` is that of the rx ring, word 0 of the frame
@@ -441,6 +460,33 @@ struct laxonje_queue_standing laxonje_queue_state(struct laxonje_queue *queue);
 
 /* Frees a queue between two turns, and leaves none in its handle. The guest's pages may be unmapped then. */
 void laxonje_queue_free(struct laxonje_queue *queue);
+
+/* Counters of a program's maps, all 0, that `queues` queues may share: 1 to LAXONJE_SHARES. Null if there is no program or no memory, or for
+ * another number of queues. The program's handle isn't needed for them after this. */
+static inline struct laxonje_shared *laxonje_counters_new(struct laxonje_program *program, size_t queues);
+
+/* Makes such counters in place of what `out` held: LAXONJE_SHARES_NOW, LAXONJE_SHARES_MEMORY, LAXONJE_SHARES_SEATS for another number of
+ * queues, or LAXONJE_SHARES_NOTHING with no program or no `out`. laxonje_counters_new calls it. */
+uint32_t laxonje_counters_make(struct laxonje_program *program, size_t queues, struct laxonje_shared *out);
+
+/* Has a queue share counters, from its next step on, between two turns: all operations of the programs of the queues that share them are one
+ * history, in which each finds what those before it left, and none is lost. A queue shares until it is freed or another is made in its
+ * handle, and has a seat for itself: `queues` of them in all, each given once. The answer is of enum laxonje_sharing. */
+uint32_t laxonje_queue_share(struct laxonje_queue *queue, struct laxonje_shared *counters);
+
+/* Has a queue give its seat to another whose program's maps have the same sizes, between two turns of both: to one that was made to follow it.
+ * The answer is of enum laxonje_sharing: LAXONJE_SHARES_ALREADY if `to` shares counters, and LAXONJE_SHARES_SEATS if `queue` shares none. */
+uint32_t laxonje_queue_pass(struct laxonje_queue *queue, struct laxonje_queue *to);
+
+/* A counter of an entry of a map, each from 0, by one atomic load, while queues on other threads go on. 0 if there is no such counter. Two
+ * counters that are read one after the other are of two moments. */
+uint64_t laxonje_counters_at(struct laxonje_shared *counters, uint32_t map, uint32_t entry, uint32_t counter);
+
+/* Frees the counters of a handle. Queues that share them go on, and the last that is freed frees the counters' memory. */
+void laxonje_counters_free(struct laxonje_shared *counters);
+
+/* Frees counters and their handle, and sets the pointer to null. It does nothing with null. */
+static inline void laxonje_counters_delete(struct laxonje_shared **counters);
 
 /* ---- What is defined here */
 
@@ -476,6 +522,24 @@ static inline void laxonje_queue_delete(struct laxonje_queue **queue)
 		laxonje_queue_free(*queue);
 	free(*queue);
 	*queue = NULL;
+}
+
+static inline struct laxonje_shared *laxonje_counters_new(struct laxonje_program *program, size_t queues)
+{
+	struct laxonje_shared *counters = (struct laxonje_shared *)laxonje_handle_();
+	if (counters && laxonje_counters_make(program, queues, counters) != LAXONJE_SHARES_NOW) {
+		free(counters);
+		return NULL;
+	}
+	return counters;
+}
+
+static inline void laxonje_counters_delete(struct laxonje_shared **counters)
+{
+	if (*counters)
+		laxonje_counters_free(*counters);
+	free(*counters);
+	*counters = NULL;
 }
 
 #undef LAXONJE_ASSERT

@@ -30,6 +30,11 @@ HELD(laxonje_queue_flags);
 HELD(laxonje_queue_packet);
 HELD(laxonje_queue_state);
 HELD(laxonje_queue_free);
+HELD(laxonje_queue_share);
+HELD(laxonje_queue_pass);
+HELD(laxonje_counters_make);
+HELD(laxonje_counters_at);
+HELD(laxonje_counters_free);
 
 static const struct laxonje_verdict no_out = { LAXONJE_NULL, 0, 0 }, no_program = { LAXONJE_EMPTY, 0, 0 };
 
@@ -171,4 +176,30 @@ void laxonje_queue_free(struct laxonje_queue *queue)
 {
 	if (queue)
 		held_laxonje_queue_free(queue);
+}
+
+uint32_t laxonje_queue_share(struct laxonje_queue *queue, struct laxonje_shared *counters)
+{
+	return queue && counters ? held_laxonje_queue_share(queue, counters) : LAXONJE_SHARES_NOTHING;
+}
+
+uint32_t laxonje_queue_pass(struct laxonje_queue *queue, struct laxonje_queue *to)
+{
+	return queue && to ? held_laxonje_queue_pass(queue, to) : LAXONJE_SHARES_NOTHING;
+}
+
+uint32_t laxonje_counters_make(struct laxonje_program *program, size_t queues, struct laxonje_shared *out)
+{
+	return program && out ? held_laxonje_counters_make(program, queues, out) : LAXONJE_SHARES_NOTHING;
+}
+
+uint64_t laxonje_counters_at(struct laxonje_shared *counters, uint32_t map, uint32_t entry, uint32_t counter)
+{
+	return counters ? held_laxonje_counters_at(counters, map, entry, counter) : 0;
+}
+
+void laxonje_counters_free(struct laxonje_shared *counters)
+{
+	if (counters)
+		held_laxonje_counters_free(counters);
 }

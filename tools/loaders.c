@@ -4,6 +4,8 @@
 #define laxonje_program_delete inline_program_delete
 #define laxonje_queue_new inline_queue_new
 #define laxonje_queue_delete inline_queue_delete
+#define laxonje_counters_new inline_counters_new
+#define laxonje_counters_delete inline_counters_delete
 #define laxonje_drive_turn inline_drive_turn
 #define laxonje_drive_deliver inline_drive_deliver
 #define laxonje_drive_await inline_drive_await
@@ -19,6 +21,8 @@
 #undef laxonje_program_delete
 #undef laxonje_queue_new
 #undef laxonje_queue_delete
+#undef laxonje_counters_new
+#undef laxonje_counters_delete
 #undef laxonje_drive_turn
 #undef laxonje_drive_deliver
 #undef laxonje_drive_await
@@ -35,6 +39,8 @@ extern __typeof__(inline_program_new) laxonje_program_new;
 extern __typeof__(inline_program_delete) laxonje_program_delete;
 extern __typeof__(inline_queue_new) laxonje_queue_new;
 extern __typeof__(inline_queue_delete) laxonje_queue_delete;
+extern __typeof__(inline_counters_new) laxonje_counters_new;
+extern __typeof__(inline_counters_delete) laxonje_counters_delete;
 extern __typeof__(inline_drive_turn) laxonje_drive_turn;
 extern __typeof__(inline_drive_deliver) laxonje_drive_deliver;
 extern __typeof__(inline_drive_await) laxonje_drive_await;
@@ -64,6 +70,16 @@ struct laxonje_queue *laxonje_queue_new(void)
 void laxonje_queue_delete(struct laxonje_queue **queue)
 {
 	inline_queue_delete(queue);
+}
+
+struct laxonje_shared *laxonje_counters_new(struct laxonje_program *program, size_t queues)
+{
+	return inline_counters_new(program, queues);
+}
+
+void laxonje_counters_delete(struct laxonje_shared **counters)
+{
+	inline_counters_delete(counters);
 }
 
 struct laxonje_op laxonje_drive_turn(struct laxonje_drive *drive, const struct laxonje_io *io)

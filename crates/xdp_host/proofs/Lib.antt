@@ -3,3 +3,5 @@ mod FaultLemmas
 mod BatchLemmas
 pub mod AsQueueBox
 mod MadeLemmas
+pub mod AsCountersBox
+mod SharedLemmas

@@ -10,3 +10,5 @@ pub mod Stepped
 pub mod Begins
 pub mod Maps
 pub mod Advice
+pub mod CountersHandle
+pub mod Shared

@@ -7,6 +7,7 @@
 //! - `runs`, `batch`, `maps`: runs on one packet and on many in one call, and what C asks of counters and of maps
 //! - `queue_handle`, `queue_extents`, `queue_fault`: a queue that C holds, for a guest of one range of frames or of several
 //! - `queue_calls`, `queue_waits`: a queue's calls
+//! - `counters_handle`, `shared_fault`, `shared_calls`: counters that queues share, as C holds them
 #![tactic(auto)]
 
 ghost use Rattle.std.specs.Prelude.{◌≡◌, ◌⊎◌, ◌++◌, ◌≤◌, List, IfNone, IfSome, IsSome, MatchOption, [], None, drop, length, take};
@@ -20,6 +21,7 @@ ghost use Rattle.xdp_host.specs.Answers.{Accepts, AcceptsText, AcceptsUnlessOutO
 ghost use Rattle.xdp_host.specs.Verdict.{accepting, verdict_of, out_of_memory};
 ghost use Rattle.xen_host.specs.Frames.{list_limits};
 ghost use Rattle.xen_host.specs.Queues.{AreEnough, AreFew, HasBegun, HasStepped, IsNothing, packet_of, resting};
+ghost use Rattle.xen_host.specs.Sharing.{StepsShared};
 ghost use Rattle.xdp_host.specs.Made.{MakesOr, fault_number, given};
 ghost use Rattle.xdp_host.specs.Ops.{no_state, state_or};
 ghost use Rattle.xdp_host.specs.Stepped.{IsUnsaid};
@@ -28,6 +30,7 @@ ghost use Rattle.xdp_host.specs.Begins.{DeliverAnswers, no_queue};
 mod abi;
 mod advice;
 mod batch;
+mod counters_handle;
 mod fault;
 mod handle;
 mod loaded_program;
@@ -40,22 +43,29 @@ mod queue_handle;
 mod queue_waits;
 mod raw_box;
 mod runs;
+mod shared_calls;
+mod shared_fault;
 
 pub use abi::{XdpMap, XdpRun, XdpVerdict};
 pub use advice::laxonje_advice;
 pub use batch::XdpPacket;
+pub use counters_handle::{XdpCounters, counters_cross_threads};
 pub use fault::Fault;
 pub use handle::{XdpProgram, programs_cross_threads};
 pub use loaded_program::LoadedProgram;
 pub use maps::{laxonje_map_count, laxonje_map_name, laxonje_map_named, laxonje_map_size};
 use queue_abi::NO_QUEUE;
 pub use queue_abi::{XdpQueueDesc, XdpQueueState};
-use queue_calls::{boxed, copied, given_packet};
+use queue_calls::{boxed, copied, given_packet, stepped};
 pub use queue_extents::{XdpExtent, laxonje_queue_make_extents};
 pub use queue_fault::QueueFault;
 pub use queue_handle::{XdpQueue, queues_cross_threads};
 pub use queue_waits::{laxonje_queue_await, laxonje_queue_counters, laxonje_queue_flags};
 pub use runs::{laxonje_counters, laxonje_place, laxonje_run, laxonje_run_batch};
+pub use shared_calls::{
+    laxonje_counters_at, laxonje_counters_free, laxonje_counters_make, laxonje_queue_pass,
+    laxonje_queue_share,
+};
 use std::alloc::Global;
 use xen_host::{FrameOwners, Op};
 
@@ -204,9 +214,11 @@ pub extern "C" fn laxonje_queue_step(
 ) -> usize
     ensures there { IfNone queue.old.slot.held (queue.new.slot.held ≡ None) }
     ensures none { IfNone queue.old.slot.held (IsUnsaid result words.old words.new counters.old counters.new ops.old ops.new) }
-    ensures few { IfSome queue.old.slot.held (λ q. AreFew q words.old counters.old ops.old → IfSome queue.new.slot.held (λ r.
+    ensures few { IfSome queue.old.slot.held (λ q. q.share ≡ None → AreFew q words.old counters.old ops.old → IfSome queue.new.slot.held (λ r.
         IsNothing q r words.old words.new counters.old counters.new ops.old ops.new result)) }
-    ensures stepped { IfSome queue.old.slot.held (λ q. AreEnough q words.old counters.old ops.old → IfSome queue.new.slot.held (λ r.
+    ensures shared { IfSome queue.old.slot.held (λ q. IsSome q.share → IfSome queue.new.slot.held (λ r.
+        StepsShared q r words.old words.new ops.old ops.new result × (counters.new ≡ counters.old))) }
+    ensures stepped { IfSome queue.old.slot.held (λ q. q.share ≡ None → AreEnough q words.old counters.old ops.old → IfSome queue.new.slot.held (λ r.
         HasStepped q r words.old words.new counters.old counters.new ops.old ops.new result)) }
     ensures kept { IfSome queue.old.slot.held (λ _. IsSome queue.new.slot.held) }
     ensures words { length words.new ≡ length words.old }
@@ -216,7 +228,7 @@ pub extern "C" fn laxonje_queue_step(
         return 0;
     }
     let mut held = queue.take_held(alloc);
-    let count = held.step(words, counters, ops);
+    let count = stepped(&mut held, words, counters, ops);
     queue.put(held);
     count
 }

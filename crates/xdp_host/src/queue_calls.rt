@@ -1,5 +1,7 @@
 //! A queue's calls, on what a handle holds.
-ghost use Rattle.std.specs.Prelude.{◌≡◌, ◌++◌, drop, length, take, IfErr, IfOk};
+ghost use Rattle.std.specs.Prelude.{◌≡◌, ◌++◌, None, drop, length, take, IfErr, IfOk, IsSome};
+ghost use Rattle.xen_host.specs.Queues.{AreEnough, AreFew, HasStepped, IsNothing};
+ghost use Rattle.xen_host.specs.Sharing.{StepsShared};
 ghost use Rattle.xen_host.specs.Frames.{limits_of, owners_in};
 ghost use Rattle.xen_host.specs.Making.{IsFaultOf, IsMadeOf};
 ghost use Rattle.xdp_host.specs.Made.{given};
@@ -7,7 +9,7 @@ ghost use Rattle.xdp_host.specs.Begins.{DeliverAnswers};
 
 use crate::queue_abi::{XdpQueueDesc, begin_number};
 use std::alloc::Global;
-use xen_host::{FrameOwners, MakeFault, Program, Queue, QueueParts};
+use xen_host::{FrameOwners, MakeFault, Op, Program, Queue, QueueParts};
 
 /// A queue of what C gives, in a box.
 pub fn boxed(
@@ -36,6 +38,26 @@ pub fn boxed(
     };
     let queue = Queue::make(alloc, program, &parts)?;
     Ok(Box::new(alloc, queue)?)
+}
+
+/// A queue's step, with its counters where they are.
+#[inline(always)]
+pub fn stepped(queue: &mut Queue, words: &mut [u32], counters: &mut [u64], ops: &mut [Op]) -> usize
+    ensures few { queue.old.share ≡ None → AreFew queue.old words.old counters.old ops.old →
+        IsNothing queue.old queue.new words.old words.new counters.old counters.new ops.old ops.new result }
+    ensures stepped { queue.old.share ≡ None → AreEnough queue.old words.old counters.old ops.old →
+        HasStepped queue.old queue.new words.old words.new counters.old counters.new ops.old ops.new result }
+    ensures shared { IsSome queue.old.share → StepsShared queue.old queue.new words.old words.new ops.old ops.new result ×
+        (counters.new ≡ counters.old) }
+    ensures own { queue.old.share ≡ None → queue.new.share ≡ None }
+    ensures words { length words.new ≡ length words.old }
+    ensures counters { length counters.new ≡ length counters.old }
+{
+    if queue.is_shared() {
+        queue.step_shared(words, ops)
+    } else {
+        queue.step(words, counters, ops)
+    }
 }
 
 /// Gives a queue a packet to deliver.

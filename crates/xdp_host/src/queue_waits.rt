@@ -1,6 +1,6 @@
 //! What C asks of a queue's rx slots, of the slots of a turn, and of its counters.
 ghost use Rattle.std.specs.Prelude.{◌≡◌, None, IfNone, IfSome, IsSome, MatchOption};
-ghost use Rattle.bpf_maps.specs.Layout.{total};
+ghost use Rattle.xdp_host.specs.Shared.{words_of};
 ghost use Rattle.xen_netif.specs.Slots.{tx_flag_bits};
 ghost use Rattle.xdp_host.specs.Begins.{WaitAnswers, no_queue};
 
@@ -58,15 +58,27 @@ pub extern "C" fn laxonje_queue_flags(alloc: Global, queue: &mut XdpQueue) -> u3
     }
 }
 
-/// How many words the counters of a queue's program are: with fewer no step of it does anything. The greatest number with no queue.
+/// How many words of counters a queue's steps want: none if it shares its counters.
+fn lent_counters(queue: &Queue) -> usize
+    ensures { result ≡ words_of queue.now }
+{
+    if queue.is_shared() {
+        0
+    } else {
+        queue.counters()
+    }
+}
+
+/// How many words the counters of a queue's program are, and 0 if it shares its counters: with fewer no step of it does anything.
+/// The greatest number with no queue.
 #[unsafe(no_mangle)]
 pub extern "C" fn laxonje_queue_counters(alloc: Global, queue: &mut XdpQueue) -> usize
     ensures kept { queue.new.slot.held ≡ queue.old.slot.held }
-    ensures words { MatchOption queue.old.slot.held (result ≡ usize.MAX) (λ q. result ≡ total q.engine.wires.program.shapes) }
+    ensures words { MatchOption queue.old.slot.held (result ≡ usize.MAX) (λ q. result ≡ words_of q) }
 {
     match queue.take(alloc) {
         Some(held) => {
-            let count = held.counters();
+            let count = lent_counters(&held);
             queue.put(held);
             count
         }

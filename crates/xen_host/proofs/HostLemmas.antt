@@ -252,6 +252,7 @@ begun_of old new producer host host_after none few d lent long =
       told = d.told;
       within = pages_of d.first d.last (length old.engine.wires.owners) (d.within (held_all all host host_after d.asked));
       wires = d.wires;
+      share = d.share;
       flags = d.flags;
       turn = subst (λ (t : List Event). TurnGoesOn new d.last.ask s (reads ++ t)) did d.turn;
     }

@@ -134,6 +134,15 @@ module _ {H : Type 0} (was : H → Ask → List ℕ → H → Type 0) (full : H 
           let w = wires_stand old engine.wires l.wires in
           record { fits = l.fits; wired = w.0; turns = w.1; left = (wait_end t).task }
 
+  pub step_wires : engine.wires ≡ old.engine.wires
+  step_wires = by (under old.engine.stage old.engine engine went led)
+    where
+      by : Under was full gave old.engine.stage old.engine engine went host host_after → engine.wires ≡ old.engine.wires
+      by (nothing e h) = ap (λ (x : Engine). x.wires) h.0
+      by (turn t) = t.led.led.led.wires
+      by (delivery t) = t.led.led.wires
+      by (wait t) = t.led.led.wires
+
 -- and what is under way goes on
 pub stepped : {H : Type 0} {was : H → Ask → List ℕ → H → Type 0} {full : H → Type 0} {gave : H → List ℕ → H → Type 0} {host host_after : H} (old new : Queue) (went : List (Option Operation) → Type 0) (same : Type 0) → (went [] → same) →
     GoesOnAt was full gave old.engine.stage old.engine new.engine went host host_after → (old.engine.stage ≡ stage.Ready → ⊥) → SteppedOver was full gave went same old new host host_after
@@ -293,9 +302,9 @@ module _ {H : Type 0} {was : H → Ask → List ℕ → H → Type 0} {full : H 
       let x = wires_stand old engine.wires l.wires in
       record { fits = l.fits; wired = x.0; turns = x.1; left = begins.task }
 
-pub begun : {H : Type 0} {was : H → Ask → List ℕ → H → Type 0} {full : H → Type 0} {host host_after : H} (old new : Queue) (producer : ℕ) → producer < 2 ^ 32 →
+pub begun : {H : Type 0} {was : H → Ask → List ℕ → H → Type 0} {full : H → Type 0} {host host_after : H} (old new : Queue) (producer : ℕ) → producer < 2 ^ 32 → new.share ≡ old.share →
     TurnLeads was full old.engine.wires no_flags (next (whole_turn (wiring old) old.engine.state) producer) new.engine host host_after → BeginsOver was full old new producer host host_after
-begun old new producer small l =
+begun old new producer small share l =
     let w = wiring old in
     let s = old.engine.state in
     let whole = whole_turn w s in
@@ -312,6 +321,7 @@ begun old new producer small l =
       told = turn_told old.engine.wires new.engine l.last.ask l.left l.wires l.is_end;
       within = (begins old new.engine producer small l).inside;
       wires = l.wires;
+      share = share;
       flags = l.flags_are;
       turn = turn_goes new s (reads ++ did) l.last.ask l.left (subst (λ (x : OwnedWiring). LedBy (whole_turn (wiring_of x) s) (reads ++ did) l.left) (sym l.wires) g) l.is_end;
     }
@@ -338,9 +348,9 @@ delivery_stands old producer b small frame =
       left = finishes_gone (IsPageWant (length e.wires.owners)) whole rest (first_read e.state.halt (Read (rx_word w 0) producer)) (arrives w e.state b.packet old.wired) (delivery_led w e.state b.packet producer small frame);
     }
 
-pub delivery_begun : (old new : Queue) (producer : ℕ) (packet : List ℕ) (b : Work) → producer < 2 ^ 32 → is_frame packet ≡ true → b.packet ≡ packet → old.engine.stage ≡ stage.Ready →
+pub delivery_begun : (old new : Queue) (producer : ℕ) (packet : List ℕ) (b : Work) → producer < 2 ^ 32 → is_frame packet ≡ true → b.packet ≡ packet → old.engine.stage ≡ stage.Ready → new.share ≡ old.share →
     new.engine ≡ record old.engine { stage = stage.Deliver producer; work = b } → IsBegun old new producer packet
-delivery_begun old new producer packet b small frame is ready e =
+delivery_begun old new producer packet b small frame is ready share e =
     let s = old.engine.state in
     let w = vif_of old.engine.wires in
     let begun : Engine = record old.engine { stage = stage.Deliver producer; work = b } in
@@ -353,6 +363,7 @@ delivery_begun old new producer packet b small frame is ready e =
       frame = frame;
       delivering = subst (λ (x : Engine). IsUnderWay (whole_delivery (vif_of x.wires) s packet) (rest_of_delivery (vif_of x.wires) x.state x.stage x.work) (reads_in x.stage) (is_delivering x.stage) reads None × (x.work.packet ≡ packet)) (sym e) here;
       wires = ap (λ (x : Engine). x.wires) e;
+      share = share;
       flags = ap (λ (x : Engine). x.flags) e;
     }
 
@@ -362,8 +373,8 @@ wait_stands old pages =
     let e = old.engine in
     record { fits = tt; wired = old.wired; turns = old.turns; left = wait_ends (length e.wires.owners) e.wires.rx e.state pages (frame_inside (vif_of e.wires) e.wires.rx old.wired.rx) }
 
-pub wait_begun : (old new : Queue) (pages : ℕ) → old.engine.stage ≡ stage.Ready → new.engine ≡ record old.engine { stage = stage.Wait pages } → IsWaitBegun old new pages
-wait_begun old new pages ready e =
+pub wait_begun : (old new : Queue) (pages : ℕ) → old.engine.stage ≡ stage.Ready → new.share ≡ old.share → new.engine ≡ record old.engine { stage = stage.Wait pages } → IsWaitBegun old new pages
+wait_begun old new pages ready share e =
     let s = old.engine.state in
     let rx = old.engine.wires.rx in
     let packet : old.engine.work.packet ≡ packet_of old = sym (ap (λ (g : Stage). packet_in g old.engine.work.packet) ready) in
@@ -373,5 +384,6 @@ wait_begun old new pages ready e =
       rested = ap (λ (g : Stage). between s g) ready;
       waiting = subst (λ (x : Engine). IsUnderWay (whole_wait x.wires.rx s pages) (rest_of_wait x.wires.rx x.state x.stage) (reads_in x.stage) (is_waiting x.stage) [] None × (x.work.packet ≡ packet_of old)) (sym e) here;
       wires = ap (λ (x : Engine). x.wires) e;
+      share = share;
       flags = ap (λ (x : Engine). x.flags) e;
     }

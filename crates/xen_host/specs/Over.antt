@@ -34,6 +34,7 @@ pub record BeginsOver {H : Type 0} (was : H → Ask → List ℕ → H → Type 
   pub told : IsToldAt old.engine.wires.table new.engine.stage last.ask
   pub within : AllHeld (first ++ last ∷ []) → AllInPages (length old.engine.wires.owners) (asks_of (first ++ last ∷ []))
   pub wires : new.engine.wires ≡ old.engine.wires
+  pub share : new.share ≡ old.share
   pub flags : new.engine.flags ≡ no_flags
   pub turn : TurnGoesOn new last.ask old.engine.state
       (first_read old.engine.state.halt (Read (tx_word (wiring old).vif 0) producer) ++ events_of (first ++ last ∷ []))

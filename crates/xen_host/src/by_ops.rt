@@ -51,6 +51,7 @@ impl Queue {
         ensures words { length host.new.words.now ≡ length host.old.words.now }
         ensures stepped { HasStepped self.old self.new host.old.words.now host.new.words.now counters.old counters.new
             host.old.ops.now host.new.ops.now host.new.count }
+        ensures share { self.new.share ≡ self.old.share }
         ensures loan { IsSameLoan host.old host.new }
     {
         self.step_by(counters, host)
@@ -71,6 +72,7 @@ impl Queue {
         ensures words { length words.new ≡ length words.old }
         ensures counters { length counters.new ≡ length counters.old }
         ensures stepped { HasStepped self.old self.new words.old words.new counters.old counters.new ops.old ops.new result }
+        ensures share { self.new.share ≡ self.old.share }
     {
         let mut host = Ops {
             ops,
@@ -80,6 +82,7 @@ impl Queue {
         self.step_ops(counters, &mut host);
         host.count
     }
+
     /// As `step_ops`, at a seat.
     #[inline(always)]
     fn step_ops_at_seat(&mut self, counters: &Counters, seat: &mut CounterSeat, host: &mut Ops<'_>)
@@ -90,6 +93,7 @@ impl Queue {
         ensures words { length host.new.words.now ≡ length host.old.words.now }
         ensures stepped { HasSteppedAtSeat self.old self.new host.old.words.now host.new.words.now seat.old seat.new
             host.old.ops.now host.new.ops.now host.new.count }
+        ensures share { self.new.share ≡ self.old.share }
         ensures loan { IsSameLoan host.old host.new }
     {
         self.step_by_at_seat(counters, seat, host)
@@ -111,6 +115,7 @@ impl Queue {
         requires room { 1 ≤ length ops.old }
         ensures words { length words.new ≡ length words.old }
         ensures stepped { HasSteppedAtSeat self.old self.new words.old words.new seat.old seat.new ops.old ops.new result }
+        ensures share { self.new.share ≡ self.old.share }
     {
         let mut host = Ops {
             ops,

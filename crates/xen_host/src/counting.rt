@@ -20,8 +20,9 @@ impl Queue {
         requires counts { T.serves self.old.engine.wires.program.shapes counters.old }
         requires fresh { H.is_fresh host.old }
         requires free { H.is_free host.old }
-        ensures { SteppedOver H.was_asked H.is_full H.has_given (Went (T.did self.old.engine.wires.program.shapes) counters.old counters.new)
+        ensures stepped { SteppedOver H.was_asked H.is_full H.has_given (Went (T.did self.old.engine.wires.program.shapes) counters.old counters.new)
             (counters.new ≡ counters.old) self.old self.new host.old host.new }
+        ensures share { self.new.share ≡ self.old.share }
     {
         self.engine.step(counters, host)
     }
@@ -36,6 +37,7 @@ impl Queue {
         ensures counters { length counters.new.words.now ≡ length counters.old.words.now }
         ensures stepped { StepsOver H.was_asked H.is_full H.has_given self.old self.new counters.old.words.now counters.new.words.now
             host.old host.new }
+        ensures share { self.new.share ≡ self.old.share }
         ensures loan { counters.new.words.ghost_name ≡ counters.old.words.ghost_name }
     {
         self.step_counting(counters, host)
@@ -51,6 +53,7 @@ impl Queue {
         requires free { H.is_free host.old }
         ensures counters { length counters.new ≡ length counters.old }
         ensures stepped { StepsOver H.was_asked H.is_full H.has_given self.old self.new counters.old counters.new host.old host.new }
+        ensures share { self.new.share ≡ self.old.share }
     {
         let mut own = Words { words: counters };
         self.step_in_words(&mut own, host)
@@ -65,6 +68,7 @@ impl Queue {
         requires free { H.is_free host.old }
         ensures stepped { StepsOverAtSeat H.was_asked H.is_full H.has_given self.old self.new counters.old.seat.now counters.new.seat.now
             host.old host.new }
+        ensures share { self.new.share ≡ self.old.share }
         ensures loan { counters.new.seat.ghost_name ≡ counters.old.seat.ghost_name }
     {
         self.step_counting(counters, host)
@@ -83,7 +87,8 @@ impl Queue {
         requires seat { IsSeatOf counters.now seat.old }
         requires fresh { H.is_fresh host.old }
         requires free { H.is_free host.old }
-        ensures { StepsOverAtSeat H.was_asked H.is_full H.has_given self.old self.new seat.old seat.new host.old host.new }
+        ensures stepped { StepsOverAtSeat H.was_asked H.is_full H.has_given self.old self.new seat.old seat.new host.old host.new }
+        ensures share { self.new.share ≡ self.old.share }
     {
         let mut shared = Seated { counters, seat };
         self.step_seated(&mut shared, host)

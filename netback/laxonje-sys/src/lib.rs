@@ -84,6 +84,18 @@ pub const LAXONJE_MADE_DOMAIN: u32 = 5;
 pub const LAXONJE_MADE_PROGRAM: u32 = 6;
 pub const LAXONJE_MADE_NULL: u32 = 7;
 
+/// The most queues that share counters.
+pub const LAXONJE_SHARES: usize = 63;
+
+/// Whether a queue shares counters.
+pub const LAXONJE_SHARES_NOW: u32 = 0;
+pub const LAXONJE_SHARES_MEMORY: u32 = 1;
+pub const LAXONJE_SHARES_SEATS: u32 = 2;
+pub const LAXONJE_SHARES_BUSY: u32 = 3;
+pub const LAXONJE_SHARES_ALREADY: u32 = 4;
+pub const LAXONJE_SHARES_MAPS: u32 = 5;
+pub const LAXONJE_SHARES_NOTHING: u32 = 6;
+
 /// What an op asks for.
 pub const LAXONJE_OP_READ: u32 = 1;
 pub const LAXONJE_OP_WRITE: u32 = 2;
@@ -193,6 +205,13 @@ pub struct laxonje_queue {
     _own: [u8; LAXONJE_HANDLE],
 }
 
+/// What a handle of shared counters points to.
+#[repr(C, align(8))]
+#[derive(Debug, Default)]
+pub struct laxonje_shared {
+    _own: [u8; LAXONJE_HANDLE],
+}
+
 #[repr(C)]
 #[derive(Clone, Copy, Debug, Default, PartialEq, Eq)]
 pub struct laxonje_extent {
@@ -291,4 +310,10 @@ extern "C" {
     pub fn laxonje_queue_packet(queue: *mut laxonje_queue, out: *mut u8, out_bytes: usize) -> usize;
     pub fn laxonje_queue_state(queue: *mut laxonje_queue) -> laxonje_queue_standing;
     pub fn laxonje_queue_free(queue: *mut laxonje_queue);
+
+    pub fn laxonje_counters_make(program: *mut laxonje_program, queues: usize, out: *mut laxonje_shared) -> u32;
+    pub fn laxonje_queue_share(queue: *mut laxonje_queue, counters: *mut laxonje_shared) -> u32;
+    pub fn laxonje_queue_pass(queue: *mut laxonje_queue, to: *mut laxonje_queue) -> u32;
+    pub fn laxonje_counters_at(counters: *mut laxonje_shared, map: u32, entry: u32, counter: u32) -> u64;
+    pub fn laxonje_counters_free(counters: *mut laxonje_shared);
 }

@@ -1,8 +1,9 @@
 //! The host's loop over version 3 of the C interface: the first read, and each op in its order.
 use crate::causes::Halt;
 use crate::guest::{Entry, Guest, Op, PAGE_WORDS};
-use crate::handle::{ProgramHandle, QueueHandle};
+use crate::handle::{ProgramHandle, QueueHandle, SharedHandle};
 use crate::queue::{Extent, Grant, Indices, MakeError, ReplaceError, Setup, Stopped};
+use crate::shared::ShareError;
 use alloc::boxed::Box;
 use alloc::vec::Vec;
 use laxonje_sys as sys;
@@ -28,6 +29,7 @@ pub(crate) struct Driver {
     grant: Option<Grant>,
     /// From before the first access until all is over. A panic of the guest's leaves it set.
     is_under_way: bool,
+    shares: bool,
 }
 
 impl Driver {
@@ -53,21 +55,34 @@ impl Driver {
             ops: Ops::default(),
             grant: None,
             is_under_way: false,
+            shares: false,
         };
         driver.make(program, setup.at).map(|()| driver)
     }
 
+    /// Makes a queue in place of the one that there is, and gives it that one's share in counters.
     fn make(&mut self, program: &ProgramHandle, at: Indices) -> Result<(), MakeError> {
         let desc = sys::laxonje_queue_desc { tx_index: at.tx, rx_index: at.rx, ..self.desc };
-        match MakeError::of(self.handle.make(program, &self.frames, &self.table, &desc)) {
-            None => Ok(()),
-            Some(cause) => Err(cause),
+        let mut made = QueueHandle::none();
+        if let Some(cause) = MakeError::of(made.make(program, &self.frames, &self.table, &desc)) {
+            return Err(cause);
         }
+        self.shares = self.shares && self.handle.pass(&mut made) == sys::LAXONJE_SHARES_NOW;
+        self.handle = made;
+        Ok(())
     }
 
-    pub fn replace(&mut self, program: &ProgramHandle) -> Result<(), ReplaceError> {
+    /// `keeps_share`: the queue goes on with the counters that it shares, if it does.
+    pub fn replace(&mut self, program: &ProgramHandle, keeps_share: bool) -> Result<(), ReplaceError> {
         let at = self.indices().map_err(ReplaceError::of)?;
+        self.shares &= keeps_share;
         self.make(program, at).map_err(ReplaceError::Make)
+    }
+
+    pub fn share(&mut self, counters: &mut SharedHandle) -> Result<(), ShareError> {
+        ShareError::of(counters.share(&mut self.handle))?;
+        self.shares = true;
+        Ok(())
     }
 
     pub fn turn(&mut self, counters: &mut [u64], guest: &mut (impl Guest + ?Sized)) -> Result<sys::laxonje_op, Abandoned> {

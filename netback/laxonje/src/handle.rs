@@ -20,11 +20,16 @@ pub(crate) struct ProgramHandle(Box<UnsafeCell<sys::laxonje_program>>);
 /// A queue, or none.
 pub(crate) struct QueueHandle(Box<UnsafeCell<sys::laxonje_queue>>);
 
+/// Counters that queues share, or none.
+pub(crate) struct SharedHandle(Box<UnsafeCell<sys::laxonje_shared>>);
+
 // SAFETY: the library's rule 3 lets a handle go to another thread by a lock, a start, a join or a channel, which are the ways that
 // Rust's threads have.
 unsafe impl Send for ProgramHandle {}
 // SAFETY: as for a program.
 unsafe impl Send for QueueHandle {}
+// SAFETY: as for a program.
+unsafe impl Send for SharedHandle {}
 
 impl ProgramHandle {
     pub fn none() -> Self {
@@ -143,6 +148,12 @@ impl QueueHandle {
         unsafe { sys::laxonje_queue_step(self.get(), words.as_mut_ptr(), lent, counters.as_mut_ptr(), counted, ops.as_mut_ptr(), room) }
     }
 
+    /// Gives its share in counters to another queue.
+    pub fn pass(&mut self, to: &mut QueueHandle) -> u32 {
+        // SAFETY: the module's reason; the two handles are different values.
+        unsafe { sys::laxonje_queue_pass(self.get(), to.get()) }
+    }
+
     pub fn flags(&self) -> u32 {
         // SAFETY: the module's reason.
         unsafe { sys::laxonje_queue_flags(self.get()) }
@@ -163,6 +174,34 @@ impl Drop for QueueHandle {
     fn drop(&mut self) {
         // SAFETY: the module's reason. Nothing uses the handle after it is dropped.
         unsafe { sys::laxonje_queue_free(self.get()) }
+    }
+}
+
+impl SharedHandle {
+    pub fn none() -> Self {
+        SharedHandle(Box::default())
+    }
+
+    pub fn make(&mut self, program: &ProgramHandle, queues: usize) -> u32 {
+        // SAFETY: the module's reason.
+        unsafe { sys::laxonje_counters_make(program.get(), queues, self.0.get()) }
+    }
+
+    pub fn share(&mut self, queue: &mut QueueHandle) -> u32 {
+        // SAFETY: the module's reason.
+        unsafe { sys::laxonje_queue_share(queue.get(), self.0.get()) }
+    }
+
+    pub fn at(&mut self, map: u32, entry: u32, counter: u32) -> u64 {
+        // SAFETY: the module's reason.
+        unsafe { sys::laxonje_counters_at(self.0.get(), map, entry, counter) }
+    }
+}
+
+impl Drop for SharedHandle {
+    fn drop(&mut self) {
+        // SAFETY: the module's reason. Nothing uses the handle after it is dropped. Queues that share the counters go on with them.
+        unsafe { sys::laxonje_counters_free(self.0.get()) }
     }
 }
 

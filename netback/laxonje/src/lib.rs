@@ -85,6 +85,7 @@ mod guest;
 mod handle;
 mod program;
 mod queue;
+mod shared;
 
 pub use causes::{Cause, Fault, Halt, Refusal};
 pub use guest::{Entry, Guest, GuestMemory, Op, Page, PAGE_BYTES, PAGE_WORDS};
@@ -95,3 +96,4 @@ pub use queue::{
     Awaited, DeliverError, Delivery, Extent, Flags, Grant, Indices, MakeError, Queue, ReplaceError, Setup, Stopped, Turn, TurnRun,
     TABLE_FRAMES,
 };
+pub use shared::{Counters, ShareError, MOST_SHARES};

@@ -2,7 +2,9 @@
 use crate::causes::{Halt, Refusal};
 use crate::drive::{Abandoned, Driver};
 use crate::guest::{Entry, Guest, PAGE_BYTES};
+use crate::handle::SharedHandle;
 use crate::program::{Action, MapSize, Program, MOST_BYTES};
+use crate::shared::ShareError;
 use alloc::string::String;
 use alloc::vec::Vec;
 use core::fmt;
@@ -365,10 +367,12 @@ impl Queue {
         self.driver.indices()
     }
 
-    /// Goes on with another program. Counters are kept if its maps have the same names and sizes in the same order, and else are 0.
+    /// Goes on with another program. Counters are kept if its maps have the same names and sizes in the same order, and else are 0, and no
+    /// longer shared.
     pub fn replace(&mut self, program: &Program) -> Result<(), ReplaceError> {
-        self.driver.replace(&program.handle)?;
-        if program.maps() != self.maps || program.map_names() != self.names {
+        let keeps = program.maps() == self.maps && program.map_names() == self.names;
+        self.driver.replace(&program.handle, keeps)?;
+        if !keeps {
             self.maps = program.maps().to_vec();
             self.names = program.map_names().to_vec();
             self.counters = program.new_counters();
@@ -376,7 +380,16 @@ impl Queue {
         Ok(())
     }
 
-    /// The program's counters: [`Program::place`] says which is where.
+    /// Shares counters with other queues from its next turn on, as [`Counters::share`](crate::Counters::share).
+    pub fn share(&mut self, counters: &mut crate::Counters) -> Result<(), ShareError> {
+        counters.share(self)
+    }
+
+    pub(crate) fn share_by(&mut self, counters: &mut SharedHandle) -> Result<(), ShareError> {
+        self.driver.share(counters)
+    }
+
+    /// The program's counters: [`Program::place`] says which is where. Of a queue that shares counters these are those that it had before.
     pub fn counters(&self) -> &[u64] {
         &self.counters
     }

@@ -2,10 +2,11 @@
 mod memory;
 
 use laxonje::{
-    Action, Awaited, DeliverError, Delivery, Entry, Extent, Guest, GuestMemory, Halt, Indices, MakeError, Op, Program, Queue, Refusal,
-    ReplaceError, Setup, Stopped, Turn, TurnRun,
+    Action, Awaited, Counters, DeliverError, Delivery, Entry, Extent, Guest, GuestMemory, Halt, Indices, MakeError, Op, Program, Queue,
+    Refusal, ReplaceError, Setup, ShareError, Stopped, Turn, TurnRun, MOST_SHARES,
 };
 use memory::{setup, Memory, DATA, RX, TX};
+use std::thread;
 
 const OKAY: i16 = 0;
 const ERROR: i16 = -1;
@@ -458,4 +459,55 @@ fn owners_in_a_list_are_the_same_frames() {
     assert!(Queue::new(&answers(2), &Setup { frames: &frames, ..setup(Indices::default()) }).is_ok());
     let frames = Extent::of_owners(&[memory::GUEST, memory::GUEST, 6]);
     assert_eq!(Queue::new(&answers(2), &Setup { frames: &frames, ..setup(Indices::default()) }).unwrap_err(), MakeError::Table);
+}
+
+#[test]
+fn queues_on_threads_share_counters_and_lose_none() {
+    const TURNS: u32 = 200;
+    let program = counts();
+    let mut counters = Counters::new(&program, MOST_SHARES).unwrap();
+    let mut served: Vec<(Memory, Queue)> = Vec::new();
+    for _ in 0..MOST_SHARES {
+        let guest = Memory::new();
+        let mut queue = guest.queue(&program, Indices::default());
+        queue.share(&mut counters).unwrap();
+        served.push((guest, queue));
+    }
+    let mut late = Memory::new().queue(&program, Indices::default());
+    assert_eq!(late.share(&mut counters), Err(ShareError::Seats));
+    assert_eq!(served[0].1.share(&mut counters), Err(ShareError::Already));
+    thread::scope(|scope| {
+        for (guest, queue) in &mut served {
+            scope.spawn(move || {
+                let reference = guest.grant(0, false);
+                guest.fill(0, &udp(61));
+                for turn in 0..TURNS {
+                    guest.send(turn, reference, 0, 61);
+                    assert_eq!(action(queue.turn(guest)), Action::Pass);
+                }
+            });
+        }
+    });
+    assert_eq!(counters.at(0, 17, 0), u64::from(TURNS) * MOST_SHARES as u64);
+    assert_eq!((counters.at(0, 6, 0), counters.at(1, 0, 0)), (0, 0));
+    assert_eq!((counters.all()[17], counters.all().iter().sum()), (counters.at(0, 17, 0), counters.at(0, 17, 0)));
+    let (guest, queue) = &mut served[0];
+    assert_eq!(queue.counters().iter().sum::<u64>(), 0);
+    queue.replace(&counts()).unwrap();
+    guest.send(TURNS, guest.grant(0, false), 0, 61);
+    assert_eq!(action(queue.turn(guest)), Action::Pass);
+    assert_eq!(counters.at(0, 17, 0), u64::from(TURNS) * MOST_SHARES as u64 + 1);
+    assert!(counters.fit(&program) && !counters.fit(&answers(2)));
+    queue.replace(&answers(2)).unwrap();
+    assert_eq!(late.share(&mut counters), Err(ShareError::Seats));
+}
+
+#[test]
+fn shared_counters_are_of_the_same_maps_and_of_few_queues() {
+    let program = counts();
+    let mut counters = Counters::new(&program, 1).unwrap();
+    let mut other = Memory::new().queue(&answers(2), Indices::default());
+    assert_eq!(other.share(&mut counters), Err(ShareError::Maps));
+    assert_eq!(Counters::new(&program, 0).unwrap_err(), ShareError::Seats);
+    assert_eq!(Counters::new(&program, MOST_SHARES + 1).unwrap_err(), ShareError::Seats);
 }

@@ -9,7 +9,7 @@ use crate::os::{
 use crate::serve::{self, make_queue, Ended, Handle, Place, Reports, Told, Way, Worker, XenGuest};
 use crate::stats::Totals;
 use crate::xen::{Events, Grants};
-use laxonje::Program;
+use laxonje::{Counters, Program, MOST_SHARES};
 use std::collections::BTreeMap;
 use std::io::{self, Read};
 use std::os::unix::io::{AsRawFd, OwnedFd};
@@ -44,6 +44,31 @@ struct Serving {
 struct Served {
     queues: Vec<Handle>,
     totals: Vec<Arc<Totals>>,
+    /// What its queues count by, if they share counters.
+    counters: Option<Counters>,
+}
+
+impl Served {
+    /// What the program counted in the counters that the queues share stands with what the first of them counted.
+    fn add_shared(&mut self, told: &mut [Option<Told>]) {
+        if let (Some(counters), Some(first)) = (&mut self.counters, told.iter_mut().flatten().next()) {
+            for (sum, count) in first.counters.iter_mut().zip(counters.all()) {
+                *sum = sum.wrapping_add(count);
+            }
+        }
+    }
+}
+
+/// Counters that the queues of a device share, if there are several. A queue that can't share them has its own.
+fn shared(program: &Program, workers: &mut [Worker]) -> Option<Counters> {
+    if workers.len() < 2 {
+        return None;
+    }
+    let mut counters = Counters::new(program, workers.len().min(MOST_SHARES)).ok()?;
+    for worker in workers {
+        let _ = worker.queue.share(&mut counters);
+    }
+    Some(counters)
 }
 
 /// Serves a guest's devices until the main process closes its end. `own`: the number of this domain.
@@ -149,7 +174,8 @@ impl Serving {
             let (stalled, log) = (Arc::clone(&stalled), log.clone());
             workers.push(Worker { place, guest, events, queue, tap: Tap::of(tap), totals, stalled, log, notifies: connect.notifies });
         }
-        self.start(connect.device, workers)
+        let counters = shared(program, &mut workers);
+        self.start(connect.device, workers, counters)
     }
 
     /// Maps a queue's rings.
@@ -164,8 +190,8 @@ impl Serving {
         Ok(guest)
     }
 
-    fn start(&mut self, device: u32, workers: Vec<Worker>) -> Result<(), String> {
-        let (mut served, mut started) = (Served::default(), Ok(()));
+    fn start(&mut self, device: u32, workers: Vec<Worker>, counters: Option<Counters>) -> Result<(), String> {
+        let (mut served, mut started) = (Served { counters, ..Served::default() }, Ok(()));
         for worker in workers {
             let totals = Arc::clone(&worker.totals);
             match worker.start(self.reports.clone()) {
@@ -188,6 +214,7 @@ impl Serving {
             (Some(program), Some(served)) => (program, served),
             _ => return,
         };
+        served.counters = served.counters.take().filter(|counters| counters.fit(program));
         for queue in &mut served.queues {
             match program.try_clone() {
                 Ok(program) => drop(queue.order(serve::Order::Replace(program))),
@@ -208,7 +235,8 @@ impl Serving {
         let asked: Vec<_> = served.queues.iter_mut().map(ask).collect();
         let until = Instant::now() + PATIENCE;
         let wait = |told: Receiver<Told>| told.recv_timeout(until.saturating_duration_since(Instant::now())).ok();
-        let told: Vec<_> = asked.into_iter().map(|asked| asked.and_then(wait)).collect();
+        let mut told: Vec<_> = asked.into_iter().map(|asked| asked.and_then(wait)).collect();
+        served.add_shared(&mut told);
         send_counts(&self.main, (device, question), served, &told)
     }
 
@@ -218,7 +246,8 @@ impl Serving {
             None => return self.main.send(&Report::Done { device, question }.encode()),
         };
         let stop = |queue: Handle| Some(Told { counters: queue.stop(), rings: None });
-        let told: Vec<_> = std::mem::take(&mut served.queues).into_iter().map(stop).collect();
+        let mut told: Vec<_> = std::mem::take(&mut served.queues).into_iter().map(stop).collect();
+        served.add_shared(&mut told);
         for totals in &served.totals {
             Totals::set(&totals.shared_pages, 0);
         }

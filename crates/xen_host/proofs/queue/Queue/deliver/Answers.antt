@@ -11,4 +11,4 @@ invariant_of-self c =
     let is : b.packet ≡ c.args.packet.now = c.push_all.ensures ∙ ap (λ l. l ++ c.args.packet.now) c.clear.ensures in
     let frame : is_frame b.packet ≡ true = ap is_frame is ∙ sym c.can_be_delivered.ensures ∙ c.if-not-can_be_delivered.false in
     let s = delivery_stands q c.args.producer b (omega (arith, c.ranges.producer.fits)) frame in
-    record { fits = s.fits; wired = s.wired; turns = s.turns; left = s.left }
+    record { fits = s.fits; wired = s.wired; turns = s.turns; seated = c.args.self.now.seated; left = s.left }

@@ -17,4 +17,4 @@ invariant_of-result c =
     let consistent : IsConsistent d.program = subst (λ (p : Accepted). IsConsistent p) c.verified.ensures c.instructions.ensures.consistent in
     let turns : (s : State) → Completes w (whole_turn w s) = λ s. finishes (may_want w) Any Any (whole_turn w s) (287383 + instructions d.program.code)
     (bounded_turn w d.program.shapes c.requires consistent.maps refl s) (ends_turn w (run_whole w consistent (omega arith) (omega arith)) s) in
-    record { fits = tt; wired = c.requires; turns = turns; left = tt }
+    record { fits = tt; wired = c.requires; turns = turns; seated = tt; left = tt }

@@ -15,6 +15,7 @@ returns-in_default c =
     record {
       words = r.ensures.words;
       counters = r.ensures.counters;
+      share = r.ensures.share;
       stepped = λ enough. r.ensures.stepped;
       few = λ few. absurd (not_few q c.args.words.now c.args.counters.now c.args.ops.now long (omega (arith, c.if-counters.false, c.counters.ensures)) some (busy_at q.engine.state q.engine.stage c.in_default.not-Ready) few);
     }

@@ -21,5 +21,6 @@ returns-in_default c =
       stepped = λ enough. r.ensures.stepped;
       few = λ few. absurd (not_few_at_seat q c.args.words.now c.args.ops.now long some (busy_at q.engine.state q.engine.stage c.in_default.not-Ready) few);
       wires = r.ensures.stepped.wires;
+      share = r.ensures.share;
       same = grown ∙ ap (λ (l : List Op). record before { ops = l }) (sym (ap (λ (s : SeatView). s.ops) grown));
     }

@@ -10,10 +10,11 @@ returns g c =
     let shapes = c.args.self.now.engine.wires.program.shapes in
     let before = c.args.counters.now in
     let after = c.step_counting.new.counters in
-    let d = c.step_counting.ensures in
+    let d = c.step_counting.ensures.stepped in
     record {
       counters = history_length shapes d.labels before.words.now after.words.now (history_of shapes d.labels before after d.history);
       stepped = stepped_also (λ labels. IsHistory shapes labels before.words.now after.words.now) (after.words.now ≡ before.words.now) (λ labels h. history_of shapes labels before after h)
           (λ e. ap (λ (w : Words). w.words.now) e) d;
+      share = c.step_counting.ensures.share;
       loan = loan_of shapes d.labels before after d.history;
     }

@@ -10,8 +10,9 @@ returns g c =
     let shapes = c.args.self.now.engine.wires.program.shapes in
     let before = c.args.counters.now in
     let after = c.step_counting.new.counters in
-    let d = c.step_counting.ensures in
+    let d = c.step_counting.ensures.stepped in
     record {
       stepped = stepped_also (HasGrown before.seat.now after.seat.now) (after.seat.now ≡ before.seat.now) (λ labels h. grown_of shapes labels before after h) (λ e. ap (λ (s : Seated). s.seat.now) e) d;
+      share = c.step_counting.ensures.share;
       loan = seat_of shapes d.labels before after d.history;
     }

@@ -1,0 +1,157 @@
+//! What C asks of counters that queues share.
+ghost use Rattle.std.specs.Prelude.{◌≡◌, ◌<◌, ◌⊎◌, IfErr, IfNone, IfOk, IfSome, IsSome, None};
+ghost use Rattle.xen_host.specs.Sharing.{AreNewFor};
+ghost use Rattle.xdp_host.specs.Shared.{MakesShared, PassAnswers, ReadsShared, ShareAnswers, nothing_to_share};
+
+use crate::counters_handle::XdpCounters;
+use crate::handle::XdpProgram;
+use crate::queue_handle::XdpQueue;
+use crate::shared_fault::{NOTHING_TO_SHARE, SHARED, share_number};
+use std::alloc::Global;
+use xen_host::{Program, Queue, SharedCounters, SharedFault};
+
+/// Counters of a program's maps, in a box.
+fn boxed(
+    alloc: Global,
+    program: &Program,
+    queues: usize,
+) -> Result<Box<SharedCounters>, SharedFault>
+    ensures made { IfOk result (λ b. AreNewFor program.now queues b.value) }
+    ensures fault { IfErr result (λ f. f ≡ SharedFault.Seats → (queues ≡ 0) ⊎ (63 < queues)) }
+{
+    let counters = SharedCounters::make(alloc, program, queues)?;
+    Ok(Box::new(alloc, counters)?)
+}
+
+/// Makes counters of a program's maps, all 0, that so many queues may share, in place of what `out` held. The answer is 0, or why there are
+/// none; then `out` holds what it held.
+#[unsafe(no_mangle)]
+pub extern "C" fn laxonje_counters_make(
+    alloc: Global,
+    program: &mut XdpProgram,
+    queues: usize,
+    out: &mut XdpCounters,
+) -> u32
+    ensures kept { program.new.slot.held ≡ program.old.slot.held }
+    ensures made { IfSome program.old.slot.held (λ h. MakesShared h.program queues out.old.slot.held out.new.slot.held result) }
+    ensures none { IfNone program.old.slot.held ((result ≡ nothing_to_share) × (out.new.slot.held ≡ out.old.slot.held)) }
+{
+    match program.take(alloc) {
+        Some(held) => {
+            let made = boxed(alloc, &held.program, queues);
+            program.put(held);
+            out.set(made)
+        }
+        None => NOTHING_TO_SHARE,
+    }
+}
+
+/// A shared counter, by one atomic load: 0 if there is no such counter, or there are none.
+#[unsafe(no_mangle)]
+pub extern "C" fn laxonje_counters_at(
+    alloc: Global,
+    counters: &mut XdpCounters,
+    map: u32,
+    entry: u32,
+    counter: u32,
+) -> u64
+    ensures none { IfNone counters.old.slot.held ((result ≡ 0) × (counters.new.slot.held ≡ None)) }
+    ensures read { IfSome counters.old.slot.held (λ c. IfSome counters.new.slot.held (λ d. ReadsShared c d map entry counter result)) }
+    ensures kept { IfSome counters.old.slot.held (λ _. IsSome counters.new.slot.held) }
+{
+    match counters.take(alloc) {
+        Some(mut held) => {
+            let number = held.at(map, entry, counter);
+            counters.put(held);
+            number.unwrap_or(0)
+        }
+        None => 0,
+    }
+}
+
+/// Drops shared counters, if there are any. Queues that share them go on with them.
+#[unsafe(no_mangle)]
+pub extern "C" fn laxonje_counters_free(alloc: Global, counters: &mut XdpCounters)
+    ensures { counters.new.slot.held ≡ None }
+{
+    drop(counters.take(alloc));
+}
+
+/// Has a queue share counters.
+fn share(queue: &mut Queue, counters: &mut SharedCounters) -> u32
+    ensures { ShareAnswers queue.old queue.new counters.old counters.new result }
+{
+    match queue.share(counters) {
+        Ok(()) => SHARED,
+        Err(fault) => share_number(fault),
+    }
+}
+
+/// Has a queue share counters, from its next step on. The answer is 0, or why it doesn't; then nothing has changed of it.
+#[unsafe(no_mangle)]
+pub extern "C" fn laxonje_queue_share(
+    alloc: Global,
+    queue: &mut XdpQueue,
+    counters: &mut XdpCounters,
+) -> u32
+    ensures shared { IfSome queue.old.slot.held (λ q. IfSome counters.old.slot.held (λ c. IfSome queue.new.slot.held (λ r.
+        IfSome counters.new.slot.held (λ d. ShareAnswers q r c d result)))) }
+    ensures none { IfNone queue.old.slot.held ((result ≡ nothing_to_share) × (queue.new.slot.held ≡ None) ×
+        (counters.new.slot.held ≡ counters.old.slot.held)) }
+    ensures without { IfNone counters.old.slot.held ((result ≡ nothing_to_share) × (queue.new.slot.held ≡ queue.old.slot.held) ×
+        (counters.new.slot.held ≡ None)) }
+    ensures kept { IfSome queue.old.slot.held (λ _. IsSome queue.new.slot.held) }
+    ensures counters { IfSome counters.old.slot.held (λ _. IsSome counters.new.slot.held) }
+{
+    let Some(mut shared) = counters.take(alloc) else {
+        return NOTHING_TO_SHARE;
+    };
+    let answer = match queue.take(alloc) {
+        Some(mut held) => {
+            let answer = share(&mut held, &mut shared);
+            queue.put(held);
+            answer
+        }
+        None => NOTHING_TO_SHARE,
+    };
+    counters.put(shared);
+    answer
+}
+
+/// Has a queue give its share to another.
+fn pass(queue: &mut Queue, to: &mut Queue) -> u32
+    ensures { PassAnswers queue.old queue.new to.old to.new result }
+{
+    match queue.pass_share(to) {
+        Ok(()) => SHARED,
+        Err(fault) => share_number(fault),
+    }
+}
+
+/// Has a queue give its share in counters to another, as to the one that follows it. The answer is 0, or why it doesn't; then nothing has
+/// changed of either.
+#[unsafe(no_mangle)]
+pub extern "C" fn laxonje_queue_pass(alloc: Global, queue: &mut XdpQueue, to: &mut XdpQueue) -> u32
+    ensures passed { IfSome queue.old.slot.held (λ q. IfSome to.old.slot.held (λ t. IfSome queue.new.slot.held (λ r.
+        IfSome to.new.slot.held (λ u. PassAnswers q r t u result)))) }
+    ensures none { IfNone queue.old.slot.held ((result ≡ nothing_to_share) × (queue.new.slot.held ≡ None) ×
+        (to.new.slot.held ≡ to.old.slot.held)) }
+    ensures without { IfNone to.old.slot.held ((result ≡ nothing_to_share) × (queue.new.slot.held ≡ queue.old.slot.held) ×
+        (to.new.slot.held ≡ None)) }
+    ensures kept { IfSome queue.old.slot.held (λ _. IsSome queue.new.slot.held) }
+    ensures to { IfSome to.old.slot.held (λ _. IsSome to.new.slot.held) }
+{
+    let Some(mut from) = queue.take(alloc) else {
+        return NOTHING_TO_SHARE;
+    };
+    let answer = match to.take(alloc) {
+        Some(mut held) => {
+            let answer = pass(&mut from, &mut held);
+            to.put(held);
+            answer
+        }
+        None => NOTHING_TO_SHARE,
+    };
+    queue.put(from);
+    answer
+}
