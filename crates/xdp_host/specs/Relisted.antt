@@ -1,12 +1,12 @@
 -- Stated: claims rest on this file.
 -- What C is answered to lists that are to become a program's or a queue's.
-use Rattle.xen_host.specs.Queues.{wired_to}
 use Rattle.std.specs.Prelude.{ℕ, ◌≡◌, ◌⊎◌, List, Option}
 use Rattle.bpf_lists.specs.Keys.{Keyed}
 use Rattle.bpf_verify.specs.Consistent.{instructions}
 use Rattle.xdp_program.specs.Settings.{IsRelistFault, IsRelisted}
 use Rattle.xdp_program.specs.declared.fault.RelistFault.{RelistFault}
 use Rattle.xdp_program.specs.declared.fault.RelistFault.TheVariants as relist
+use Rattle.xen_host.specs.Queues.{wired_to}
 use Rattle.xen_host.specs.Relisted.{IsRelist}
 use Rattle.xen_host.specs.declared.queue.Queue.{Queue}
 use Rattle.xen_host.specs.declared.relisting.Relist.{Relist}

@@ -1,10 +1,10 @@
 -- Stated: claims rest on this file.
 -- What C is answered of counters that queues share, in the numbers of include/laxonje.h.
-use Rattle.xen_host.specs.Queues.{wired_to}
 use Rattle.std.specs.Prelude.{ℕ, ◌≡◌, ◌<◌, ◌⊎◌, None, Option, Some}
 use Rattle.bpf_maps.specs.Layout.{total}
 use Rattle.bpf_note.specs.Shape.{IsCounter}
 use Rattle.bpf_verify.specs.Consistent.{Accepted}
+use Rattle.xen_host.specs.Queues.{wired_to}
 use Rattle.xen_host.specs.Sharing.{AreNewFor, HasPassed, HasRead, IsPassFault, IsShareFault, SharesNow}
 use Rattle.xen_host.specs.declared.queue.Queue.{Queue}
 use Rattle.xen_host.specs.declared.sharing.Share.{Share}

@@ -232,6 +232,7 @@ pub extern "C" fn laxonje_queue_step(
         StepsShared q r words.old words.new ops.old ops.new result × (counters.new ≡ counters.old))) }
     ensures stepped { IfSome queue.old.slot.held (λ q. q.share ≡ None → AreEnough q words.old counters.old ops.old → IfSome queue.new.slot.held (λ r.
         HasStepped q r words.old words.new counters.old counters.new ops.old ops.new result)) }
+    ensures own { IfSome queue.old.slot.held (λ q. q.share ≡ None → IfSome queue.new.slot.held (λ r. r.share ≡ None)) }
     ensures kept { IfSome queue.old.slot.held (λ _. IsSome queue.new.slot.held) }
     ensures words { length words.new ≡ length words.old }
     ensures counters { length counters.new ≡ length counters.old }

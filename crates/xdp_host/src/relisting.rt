@@ -22,7 +22,7 @@ const NO_MEMORY: u32 = 4;
 /// What is answered if there is no program.
 const NO_PROGRAM: u32 = 5;
 
-/// What C is told of lists that are to become a queue's.
+/// The number of the answer to lists that are to become a queue's.
 fn relist_number(answer: Relist) -> u32
     ensures { result ≡ relist_number answer }
 {

@@ -4,10 +4,10 @@ ghost use Rattle.xdp_host.specs.Shared.{share_number, shared_number};
 
 use xen_host::{ShareFault, SharedFault};
 
-/// What C is told if a queue shares counters.
+/// The answer if a queue shares counters.
 pub const SHARED: u32 = 0;
 
-/// What C is told if there is no queue, no program, or there are no counters.
+/// The answer if there is no queue, no program, or no counters.
 pub const NOTHING_TO_SHARE: u32 = 6;
 
 /// The number of a fault of making them.

@@ -49,3 +49,12 @@ returns-clause-shared c =
     (s.ensures.shared (subst (λ (q : Queue). IsSome q.share) (sym is_held) is))) in
     subst (λ (o : Option Queue). IfSome o (λ q. IsSome q.share →
     IfSome c.put.new.self.slot.held (λ r. StepsShared q r lent s.new.words ops s.new.ops s.result × (s.new.counters ≡ before)))) (sym c.take_held-held.ensures.gone) shared
+
+pub returns-clause-own : goal.returns-clause-own
+returns-clause-own c =
+    let s = c.stepped-count in
+    let v = c.take_held-held.result.value in
+    let is_held = c.deref_mut.ensures.value in
+    let stays : v.share ≡ None → IfSome c.put.new.self.slot.held (λ r. r.share ≡ None) = λ own.
+    subst (λ (o : Option Queue). IfSome o (λ r. r.share ≡ None)) (sym c.put.ensures) (s.ensures.own (subst (λ (q : Queue). q.share ≡ None) (sym is_held) own)) in
+    subst (λ (o : Option Queue). IfSome o (λ q. q.share ≡ None → IfSome c.put.new.self.slot.held (λ r. r.share ≡ None))) (sym c.take_held-held.ensures.gone) stays
