@@ -4,7 +4,7 @@ use Rattle.bpf_lists.specs.Keys.{Keyed, IsFound, IsLongest}
 use Rattle.bpf_lists.specs.Order.{Reaches}
 use Rattle.bpf_lists.proofs.OrderLemmas.{climb_start}
 use Rattle.bpf_lists.proofs.FindLemmas.{found_none, found_some}
-use Rattle.bpf_lists.proofs.rows.KeyedRows.find.Goals as goal
+use Rattle.bpf_lists.proofs.rows.KeyedRows.search.Goals as goal
 
 pub climb-above-requires-clause-start : goal.climb-above-requires-clause-start
 climb-above-requires-clause-start c =
