@@ -2,7 +2,7 @@ use Rattle.std.proofs.Common.{◌≡◌, ◌∙◌, ap, arith, ℕ, Some}
 use Rattle.bpf_note.specs.Parts.{facts}
 use Rattle.bpf_same.specs.LinearForms.{plus, gathered}
 use Rattle.bpf_same.proofs.PreserveLemmas.{none_before}
-use Rattle.bpf_same.proofs.step.Step.pulled_back.Goals as goal
+use Rattle.bpf_same.proofs.step.Step.pulled_back_by_terms.Goals as goal
 
 pub loop-term-init : goal.loop-term-init
 loop-term-init c =
