@@ -1,5 +1,5 @@
 //! A setup's program beside the one that it was made of.
-ghost use Rattle.std.specs.Prelude.{◌≡◌, ◌<◌, ◌≤◌, IfOk, IfSome, length, map, string_bytes};
+ghost use Rattle.std.specs.Prelude.{◌≡◌, ◌≤◌, IfOk, map, string_bytes};
 ghost use Rattle.bpf_insn.specs.Code.{Spells};
 ghost use Rattle.xdp_load.specs.OriginalSeen.{place_view, rewritten_view};
 ghost use Rattle.xdp_load.specs.SetupSeen.{setup_view};
@@ -23,6 +23,8 @@ pub enum Compared {
     /// Each run of the program is one of the original, but that one atomic addition to a counter may stand for a load and a store,
     /// as where nobody else writes the counter between.
     SameByCounts { slots: u32, originals: usize },
+    /// Where nobody else writes the counters, each ends as the other does and leaves the same in them.
+    SameAlone { slots: u32, originals: usize },
     /// Nothing is shown of their runs; and where the comparison stops, if that is known.
     NotShown { obstacle: Option<Obstacle> },
     /// The program is refused.
@@ -42,21 +44,6 @@ fn witnesses_of(alloc: Global, places: &[xdp_load::Place]) -> Result<Vec<Witness
             at: place.at,
         })
         .collect(alloc)
-}
-
-/// Where the comparison stops, if memory is left to find that out.
-fn obstacle_of(
-    alloc: Global,
-    program: &Verified,
-    original: &Code,
-    witnesses: &[Witness],
-) -> Option<Obstacle>
-    ensures { IfSome result (λ o. o.slot < length program.now.code) }
-{
-    match bpf_same::first_obstacle(alloc, program, original, witnesses) {
-        Ok(obstacle) => obstacle,
-        Err(_) => None,
-    }
 }
 
 /// Compares the program of a setup, which was accepted, with the one that it was made of.
@@ -80,8 +67,17 @@ fn compare_with(
             slots: program.slots(),
             originals: original.insns().len(),
         }),
+        Comparison::SameAlone => Ok(Compared::SameAlone {
+            slots: program.slots(),
+            originals: original.insns().len(),
+        }),
         Comparison::NotShown => {
-            let obstacle = obstacle_of(alloc, program, original, witnesses.as_slice());
+            let obstacle = bpf_same::first_obstacle(
+                alloc,
+                program,
+                original,
+                witnesses.as_slice(),
+            )?;
             Ok(Compared::NotShown { obstacle })
         }
     }
@@ -138,6 +134,9 @@ pub fn compared_text(alloc: Global, compared: &Compared) -> Result<String, Alloc
         Compared::SameByCounts { slots, originals } => {
             format!(in alloc; "same by counts, {slots} slots for {originals}\n")
         }
+        Compared::SameAlone { slots, originals } => {
+            format!(in alloc; "same alone, {slots} slots for {originals}\n")
+        }
         Compared::NotShown { obstacle } => not_shown_text(alloc, *obstacle),
         Compared::Refused(refusal) => refused_text(alloc, refusal),
         Compared::Undecoded(refusal) => {
@@ -152,7 +151,7 @@ pub fn compared_status(compared: &Compared) -> u8
     ensures { result ≡ compared_status compared.now }
 {
     match compared {
-        Compared::Same { .. } | Compared::SameByCounts { .. } => 0,
+        Compared::Same { .. } | Compared::SameByCounts { .. } | Compared::SameAlone { .. } => 0,
         Compared::NotShown { .. } | Compared::Refused(_) | Compared::Undecoded(_) => 1,
     }
 }
