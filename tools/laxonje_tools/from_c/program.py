@@ -7,11 +7,13 @@ from typing import TYPE_CHECKING, Callable, Iterable, NamedTuple, Optional
 
 from laxonje_tools.output import fail, stop_on
 
-from . import btf, elf, faults
+from . import btf, constants, elf, faults
+from .absent import Absent, kinds_of
 from .calls import Calls, Fault, Replaced, has_calls
 from .compiler import Compiler
 from .maps import SizedMap, maps_of, settings_of
-from .memory import faults_of_memory, memory_of, set_values
+from .memory import faults_of_memory, memory_of
+from .values import SIZES, Constant, set_values, values_of
 
 if TYPE_CHECKING:
     from .elf import Function, Part, Relocation
@@ -24,29 +26,38 @@ BROKEN = struct.error, ValueError, IndexError, KeyError, RecursionError, Overflo
 
 class Filter(NamedTuple):
     """`settings`: of the program as clang made it. If it has constants or globals in memory, keys of the tools'
-    own say so, which `xdpbox` doesn't know. `place`: of a slot its line of C, or None. `per_cpu`: the maps that are
-    per CPU in Linux. `notes`: what its author should know."""
+    own say so, which `xdpbox` doesn't know; `forms` has those that can be maps as maps. `place`: of a slot its line of C,
+    or None. `per_cpu`: the maps that are per CPU in Linux. `notes`: what its author should know. `values`: its constants
+    that can be set."""
 
     settings: dict
     place: Callable
     per_cpu: set
     notes: list
+    values: list[Constant]
+
+    @property
+    def forms(self) -> list[dict]:
+        """Its settings with its constants as maps, if that can be, and with them in keys of the tools' own."""
+        with_maps = constants.with_constants(self.settings)
+        return [self.settings] if with_maps is None else [with_maps, self.settings]
 
     @property
     def has_memory(self) -> bool:
-        return bool(self.settings["tables"] or self.settings["globals"])
+        """Whether settings can't have it as clang made it, for constants or globals in memory."""
+        return bool(self.forms[0]["tables"] or self.forms[0]["globals"])
 
 
 class Asked(NamedTuple):
     """What a command asks for: a file, maps whose sizes it gives, which function, if the file has several, numbers of
-    constants, as (name, number), whether calls that print are left out, entries of declared maps, as (name, number), and
+    constants, as (name, number), what is left out, in the words of `absent`, entries of declared maps, as (name, number), and
     files with the rows of maps, as (name, path)."""
 
     source: str
     maps: Iterable[SizedMap] = ()
     program: Optional[str] = None
     values: Iterable[tuple[str, int]] = ()
-    prints: bool = False
+    left_out: frozenset[str] = frozenset()
     entries: Iterable[tuple[str, int]] = ()
     lists: Iterable[tuple[str, str]] = ()
 
@@ -118,19 +129,34 @@ def filter_of(asked: Asked, sections: dict[str, Part], compiler: Optional[Compil
         "numbers": numbers_of(sections, declared, memory.maps),
     }
     per_cpu = {row.name for row in declared if row.type in faults.PER_CPU}
-    return Filter(settings, place, per_cpu, notes)
+    return Filter(settings, place, per_cpu, notes, values_of(sections))
 
 
 def without_calls(asked: Asked, sections: dict[str, Part], function: Function, place: Callable) -> Replaced:
     """The function with what it calls written out. Ends if that can't be."""
-    relocations = list(elf.relocations_of(sections, function))
-    if not any(has_calls(function.code)):
+    relocations, found = list(elf.relocations_of(sections, function)), Absent(asked.left_out, kinds_of(btf.maps_in(sections)))
+    if not any(has_calls(function.code)) and not any(found.has(row.name) for row in relocations):
         return Replaced(function.code, relocations, range(len(function.code) // 8), [])
-    calls = Calls(list(elf.functions_of(sections)), lambda of: elf.relocations_of(sections, of), asked.prints)
+    arrays = {row.name: parts_of_value(row) for row in btf.maps_in(sections) if row.type in faults.ARRAYS}
+    calls = Calls(list(elf.functions_of(sections)), lambda of: elf.relocations_of(sections, of), found, arrays)
     try:
         return calls.replaced(function)
     except Fault as fault:
         fail(f"{place(fault.slot) or f'{asked.source}: slot {fault.slot}'} {fault}")
+
+
+def parts_of_value(declared: btf.MapOfC) -> list[tuple[int, int]]:
+    """The numbers of a map's value, as (place, size), if these are all of it; else its bytes, the most at once first."""
+    numbers = sorted((row.place, row.size) for row in declared.numbers if not row.bits and row.size in SIZES)
+    ends = [0, *(place + size for place, size in numbers)]
+    if [place for place, _ in numbers] == ends[:-1] and ends[-1] == declared.value_bytes:
+        return numbers
+    parts, at = [], 0
+    for size in sorted(SIZES, reverse=True):
+        while at + size <= declared.value_bytes:
+            parts.append((at, size))
+            at += size
+    return parts
 
 
 def chosen(asked: Asked, sections: dict[str, Part]) -> Function:
