@@ -10,7 +10,7 @@ use Rattle.bpf_insn.specs.declared.refusal.Cause.TheVariants.{Helper, MapNumber,
 use Rattle.bpf_note.specs.Facts.{Facts}
 use Rattle.bpf_note.specs.Shape.{Shape}
 use Rattle.bpf_note.specs.declared.key.MapKey.{MapKey}
-use Rattle.bpf_note.specs.declared.key.MapKey.TheVariants.{Index, Listed}
+use Rattle.bpf_note.specs.declared.key.MapKey.TheVariants.{Index, Listed, Constants}
 use Rattle.bpf_note.specs.declared.val.Val.{Val}
 use Rattle.bpf_note.specs.declared.val.Val.TheVariants as val
 use Rattle.bpf_explain.specs.Accesses.{address_of}
@@ -72,6 +72,7 @@ map_advice i v = codes "load eight bytes, unsigned, at 8*j of the value, j below
 abbrev pub advice_by : MapKey → List ℕ
 advice_by Index = codes "set all four bytes of the key that r2 points to, within the stack: an unsigned int"
 advice_by (Listed kind) = codes "set all bytes of the key that r2 points to, within the stack: as many as each key of the map's list has"
+advice_by (Constants bytes) = codes "read constants at their address: a map of constants has no keys"
 
 abbrev pub key_advice : Option Shape → List ℕ
 key_advice None = advice_by Index

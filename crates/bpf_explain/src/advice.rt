@@ -91,7 +91,7 @@ fn map_advice(insn: Insn, address: Val) -> &'static str
     }
 }
 
-/// V17, if the key isn't there: an array's, and a list's.
+/// V17, if the key isn't there: an array's, and a list's; or if there are none.
 fn advice_by(key: MapKey) -> &'static str
     ensures { result.now ≡ advice_by key }
 {
@@ -100,6 +100,7 @@ fn advice_by(key: MapKey) -> &'static str
             "set all four bytes of the key that r2 points to, within the stack: an unsigned int",
         MapKey::Listed(_) =>
             "set all bytes of the key that r2 points to, within the stack: as many as each key of the map's list has",
+        MapKey::Constants(_) => "read constants at their address: a map of constants has no keys",
     }
 }
 

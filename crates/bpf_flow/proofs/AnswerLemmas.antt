@@ -1,5 +1,5 @@
 -- What an answer of the rule says of its parts.
-use Rattle.std.proofs.Common.{◌≡◌, ℕ, Bool, true, false, ◌||◌, ◌&&◌, refl, Option, Some, None, not}
+use Rattle.std.proofs.Common.{◌≡◌, ℕ, Bool, true, false, ◌||◌, ◌&&◌, refl, ap, Option, Some, None, not}
 use Rattle.std.specs.Prelude.{Result, Ok, Err}
 use Rattle.bpf_insn.specs.declared.refusal.Cause.{Cause}
 use Rattle.bpf_flow.specs.Edges.{Edges, unless, and_then}
@@ -38,3 +38,9 @@ same_some x y h = cc
 pub unless_again : {A : Type 0} (b : Bool) (c : Cause) (go : Result A Cause) (x : A) → b ≡ false → go ≡ Ok x → unless b c go ≡ Ok x
 unless_again true c go x e h = absurd (cc)
 unless_again false c go x e h = h
+
+-- a refusal after two tests that found nothing
+pub third_refusal : {A B : Type 0} (a b : Bool) (first second cause : Cause) (r : Result A Cause) (go : A → Result B Cause) → a ≡ false → b ≡ false → r ≡ Err cause → unless a first (unless b second (and_then r go)) ≡ Err cause
+third_refusal true b first second cause r go h g e = absurd (cc)
+third_refusal false true first second cause r go h g e = absurd (cc)
+third_refusal {A = A} {B = B} false false first second cause r go h g e = ap (λ (r : Result A Cause). and_then r go) e

@@ -24,16 +24,16 @@ use Rattle.bpf_flow.specs.Step.{target, is_frame}
 use Rattle.bpf_flow.specs.Graph.{Leads, writes, loses}
 use Rattle.bpf_flow.specs.Edges.{Edges, and_then, goes_to, sets, sets_computed, with_computed}
 use Rattle.bpf_flow.specs.Alu.{exactly, constant, operand_value, any_number, any_of_width, result_of, negated_value, extended_value, swapped_value}
-use Rattle.bpf_flow.specs.Memory.{reach, loaded_value, stores, with_store, with_bytes, is_slot, touches, adds_at}
+use Rattle.bpf_flow.specs.Memory.{reach, load_value, stores, with_store, with_bytes, is_slot, touches, adds_at}
 use Rattle.bpf_flow.specs.Branch.{opposite, raise, narrowed, compared, against_end, end_against, is_null, checked, refined, refined_if, taken, passed}
 use Rattle.bpf_flow.specs.Rule.{is_first_unset, at_target, after_of}
-use Rattle.bpf_flow.specs.Call.{is_key, key_bytes, with_call, looks_up, is_lookup}
+use Rattle.bpf_flow.specs.Call.{is_key, key_bytes, has_keys, with_call, looks_up, is_lookup}
 use Rattle.bpf_flow.specs.declared.computed.Computed.{Computed}
 use Rattle.bpf_flow.specs.declared.computed.Computed.TheVariants.{Plain, Fresh}
 use Rattle.bpf_flow.specs.declared.access.Access.{Access}
 use Rattle.bpf_flow.specs.declared.access.Access.TheVariants.{InPacket, OnStack, InContext, AtValue}
 use Rattle.bpf_flow.proofs.AnswerLemmas.{unless_ok, and_then_ok, at_target_ok, neither, same_ok, same_some}
-use Rattle.bpf_flow.proofs.SetLemmas.{KeepsSet, IsSetResult, chosen_kept, forgotten_unset, resolved_unset, mapped_kept, result_set, folded_one_set, any_number_set, any_of_width_set, loaded_set}
+use Rattle.bpf_flow.proofs.SetLemmas.{KeepsSet, IsSetResult, chosen_kept, forgotten_unset, resolved_unset, mapped_kept, result_set, folded_one_set, any_number_set, any_of_width_set, load_set}
 
 -- whether register k is Unset behind an instruction, where it was so before or wasn't
 abbrev pub unset_behind : Insn → ℕ → Bool → Bool
@@ -96,11 +96,11 @@ sets_behind : (i : Insn) (pc k to dst : ℕ) (n : Facts) (v : Val) (es : Edges) 
 sets_behind i pc k to dst n v es l only u s h =
     one_behind i pc k to n (with_reg n dst v) es l only (λ g. written_unset (k == dst) v (n.reg k) (is_unset (n.reg k)) s refl ∙ u) (λ g. g) (unless_ok (is_frame dst) cause.FramePointer _ es h).1
 
-ldx_behind : (size : Size) (signed : Bool) (i : Insn) (dst pc k : ℕ) (n : Facts) (shapes : List Shape) (a : Access) (es : Edges) → Leads i pc (pc + 1) → ((q : ℕ) → Leads i pc q → q ≡ pc + 1) → (is_unset (n.reg k) && not (k == dst)) ≡ unset_behind i k (is_unset (n.reg k)) →
-    and_then (loaded_value n shapes signed size a) (λ v. goes_to (pc + 1) (with_reg n dst v)) ≡ Ok es → IsBehind i pc k n es
-ldx_behind size signed i dst pc k n shapes a es l only u h =
-    let v = and_then_ok (loaded_value n shapes signed size a) _ es h in
-    one_behind i pc k (pc + 1) n (with_reg n dst v.0) es l only (λ g. written_unset (k == dst) v.0 (n.reg k) (is_unset (n.reg k)) (loaded_set n shapes signed size a v.0 g v.1) refl ∙ u) (λ g. g) v.2
+ldx_behind : (size : Size) (signed : Bool) (i : Insn) (dst pc k : ℕ) (n : Facts) (shapes : List Shape) (pointer : Val) (off : ℤ) (es : Edges) → Leads i pc (pc + 1) → ((q : ℕ) → Leads i pc q → q ≡ pc + 1) → (is_unset (n.reg k) && not (k == dst)) ≡ unset_behind i k (is_unset (n.reg k)) →
+    and_then (load_value n shapes pointer off signed size) (λ v. goes_to (pc + 1) (with_reg n dst v)) ≡ Ok es → IsBehind i pc k n es
+ldx_behind size signed i dst pc k n shapes pointer off es l only u h =
+    let v = and_then_ok (load_value n shapes pointer off signed size) _ es h in
+    one_behind i pc k (pc + 1) n (with_reg n dst v.0) es l only (λ g. written_unset (k == dst) v.0 (n.reg k) (is_unset (n.reg k)) (load_set n shapes pointer off signed size v.0 g v.1) refl ∙ u) (λ g. g) v.2
 
 stored_reg : (n : Facts) (p : ℕ) (size : Size) (v : Val) (k : ℕ) → is_unset ((with_store n p size v).reg k) ≡ is_unset (n.reg k)
 stored_reg n p size v k = by (is_slot p size)
@@ -243,7 +243,7 @@ call_behind : (shapes : List Shape) (helper : ℤ) (pc k : ℕ) (n : Facts) (v k
 call_behind shapes helper pc k n (Map m) key es h =
     one_behind (Call helper) pc k (pc + 1) n (with_call (with_id n pc 0) m pc) es refl (λ q l. l) (λ g. call_unset n m pc k)
     (λ g j. mapped_kept (forgotten pc) (n.kept j) (forgotten_unset pc) (g j))
-    (unless_ok (not (is_key n (key_bytes (slice_get shapes m)) key)) cause.Argument _ es h).1
+    (unless_ok (not (has_keys (slice_get shapes m) && is_key n (key_bytes (slice_get shapes m)) key)) cause.Argument _ es h).1
 call_behind shapes helper pc k n Unset key es h = absurd (cc)
 call_behind shapes helper pc k n (Num lo hi) key es h = absurd (cc)
 call_behind shapes helper pc k n (Pkt id off) key es h = absurd (cc)
@@ -277,8 +277,7 @@ after_behind (Const dst value) pc k n shapes es h = sets_behind (Const dst value
 after_behind (MapRef dst m) pc k n shapes es h = sets_behind (MapRef dst m) pc k (pc + 2) (number dst) n (Map m) es refl (λ q l. l) refl refl h
 after_behind (Ldx size signed dst src off) pc k n shapes es h =
     let f = unless_ok (is_frame (number dst)) cause.FramePointer _ es (unless_ok _ cause.Unset _ es h).1 in
-    let a = and_then_ok (reach n (n.reg (number src)) off (size_bytes size)) _ es f.1 in
-    ldx_behind size signed (Ldx size signed dst src off) (number dst) pc k n shapes a.0 es refl (λ q l. l) refl a.2
+    ldx_behind size signed (Ldx size signed dst src off) (number dst) pc k n shapes (n.reg (number src)) off es refl (λ q l. l) refl f.1
 after_behind (St size dst off imm) pc k n shapes es h =
     let a = and_then_ok (reach n (n.reg (number dst)) off (size_bytes size)) _ es (unless_ok _ cause.Unset _ es h).1 in
     stores_behind (St size dst off imm) pc k n size (exactly (sign_extended imm)) a.0 es refl (λ q l. l) (λ u. same_bool u u refl) refl a.2

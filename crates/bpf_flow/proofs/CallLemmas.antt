@@ -17,10 +17,10 @@ use Rattle.bpf_flow.specs.Step.{Outcome, Next, Adds, Fault, need, at_slot, with_
 use Rattle.bpf_flow.specs.Edges.{Edges, goes_to}
 use Rattle.bpf_flow.specs.Memory.{place_in, is_counter, all_set, adds_at}
 use Rattle.bpf_flow.specs.Rule.{fetched}
-use Rattle.bpf_flow.specs.Call.{is_key, is_key_at, key_bytes, with_call, looks_up}
+use Rattle.bpf_flow.specs.Call.{is_key, is_key_at, key_bytes, has_keys, with_call, looks_up}
 use Rattle.bpf_flow.specs.Sound.{Accounts}
 use Rattle.bpf_flow.specs.declared.access.Access.TheVariants.{AtValue}
-use Rattle.bpf_flow.proofs.AnswerLemmas.{unless_ok, same_some, flipped}
+use Rattle.bpf_flow.proofs.AnswerLemmas.{unless_ok, same_some, flipped, each}
 use Rattle.bpf_flow.proofs.RegisterLemmas.{one_covers, at_slot_describes, with_number_describes}
 use Rattle.bpf_flow.proofs.IdLemmas.{full_reads, with_id_known}
 use Rattle.bpf_flow.proofs.ReachLemmas.{access_reaches, place_in_ok, counter_fits, map_small, region_stack}
@@ -143,10 +143,10 @@ needs_some {A = A} es o x go e h = subst (λ (o : Option A). Accounts es (need o
 map_looks_up : (n : Facts) (s : State) (m x y : ℕ) (key : Val) (es : Edges) (d : Describes n s) → s.pc < 4096 → s.reg 1 ≡ Some x → s.reg 2 ≡ Some y →
     IsReading (meaning s d.base d.address) (val.Map m) x → IsReading (meaning s d.base d.address) key y → looks_up s.shapes n s.pc (val.Map m) key ≡ Ok es → Accounts es (looked_up s)
 map_looks_up n s m x y key es d small e f rx ry h =
-    let u = unless_ok (not (is_key n (key_bytes (slice_get s.shapes m)) key)) cause.Argument (goes_to (s.pc + 1) (with_call (with_id n s.pc 0) m s.pc)) es h in
+    let u = unless_ok (not (has_keys (slice_get s.shapes m) && is_key n (key_bytes (slice_get s.shapes m)) key)) cause.Argument (goes_to (s.pc + 1) (with_call (with_id n s.pc 0) m s.pc)) es h in
     let map = there_is s.shapes m rx.1 in
     let c : Shape = map.0 in
-    let k = key_of n s (slice_get s.shapes m) c key y d map.1 ry (flipped (is_key n (key_bytes (slice_get s.shapes m)) key) u.0) in
+    let k = key_of n s (slice_get s.shapes m) c key y d map.1 ry (each (has_keys (slice_get s.shapes m)) (is_key n (key_bytes (slice_get s.shapes m)) key) (flipped (has_keys (slice_get s.shapes m) && is_key n (key_bytes (slice_get s.shapes m)) key) u.0)).1 in
     let a : ℕ = value_or_null c m (row_of s m c.key k.key) in
     let fits : a < 2 ^ 64 = value_fits s m c (row_of s m c.key k.key) d.state map.1 in
     let known = with_id_known n s s.pc 0 a 0 (other_id s.pc small) (omega arith) (omega arith) d in

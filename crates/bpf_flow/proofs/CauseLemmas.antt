@@ -17,9 +17,9 @@ use Rattle.bpf_flow.specs.Causes.{IsRuleCause}
 use Rattle.bpf_flow.specs.Step.{target, is_frame}
 use Rattle.bpf_flow.specs.Edges.{Edges, unless, and_then, sets}
 use Rattle.bpf_flow.specs.Alu.{exactly, operand_value}
-use Rattle.bpf_flow.specs.Memory.{place_in, packet_place, in_packet, on_stack, reach, is_word, is_field, is_double, is_counter, all_set, loaded_value, stores, adds_at}
+use Rattle.bpf_flow.specs.Memory.{place_in, packet_place, in_packet, on_stack, reach, is_word, is_field, is_double, is_counter, all_set, any_loaded, loaded_value, is_constant, load_value, stores, adds_at}
 use Rattle.bpf_flow.specs.Rule.{after_of, is_first_unset, at_target, IsRuled}
-use Rattle.bpf_flow.specs.Call.{is_key, key_bytes, is_lookup, looks_up}
+use Rattle.bpf_flow.specs.Call.{is_key, key_bytes, has_keys, is_lookup, looks_up}
 use Rattle.bpf_flow.specs.declared.access.Access.{Access}
 use Rattle.bpf_flow.specs.declared.access.Access.TheVariants.{InPacket, OnStack, InContext, AtValue}
 
@@ -75,6 +75,13 @@ loaded_cause n shapes false size (InContext o) c h = choice_cause {A = Val} (is_
 loaded_cause n shapes true size (AtValue m o) c h = this {A = Val} cause.MapAccess c tt h
 loaded_cause n shapes false size (AtValue m o) c h = choice_cause {A = Val} (is_double size && is_counter (slice_get shapes m) o) _ cause.MapAccess c tt h
 
+load_cause : (n : Facts) (shapes : List Shape) (v : Val) (o : ℤ) (signed : Bool) (size : Size) (c : Cause) → load_value n shapes v o signed size ≡ Err c → IsRuleCause c
+load_cause n shapes v o signed size c h = by (is_constant shapes v o (size_bytes size)) h
+  where
+    by : (b : Bool) → (if b then Ok (any_loaded signed size) else and_then (reach n v o (size_bytes size)) (loaded_value n shapes signed size)) ≡ Err c → IsRuleCause c
+    by true h = absurd (cc)
+    by false h = then_cause (reach n v o (size_bytes size)) (loaded_value n shapes signed size) c (reach_cause n v o (size_bytes size) c) (λ a g. loaded_cause n shapes signed size a c g) h
+
 stores_cause : (n : Facts) (pc : ℕ) (size : Size) (v : Val) (a : Access) (c : Cause) → stores n pc size v a ≡ Err c → IsRuleCause c
 stores_cause n pc size v InPacket c h = absurd (cc)
 stores_cause n pc size v (OnStack p) c h = absurd (cc)
@@ -97,7 +104,7 @@ target_cause None edges c there h = absurd (cc)
 target_cause (Some q) edges c there h = absurd (cc)
 
 lookup_cause : (shapes : List Shape) (n : Facts) (pc : ℕ) (v key : Val) (c : Cause) → looks_up shapes n pc v key ≡ Err c → IsRuleCause c
-lookup_cause shapes n pc (val.Map m) key c h = unless_cause (not (is_key n (key_bytes (slice_get shapes m)) key)) cause.Argument c _ tt (λ g. absurd (cc)) h
+lookup_cause shapes n pc (val.Map m) key c h = unless_cause (not (has_keys (slice_get shapes m) && is_key n (key_bytes (slice_get shapes m)) key)) cause.Argument c _ tt (λ g. absurd (cc)) h
 lookup_cause shapes n pc val.Unset key c h = this {A = Edges} cause.Argument c tt h
 lookup_cause shapes n pc (val.Num lo hi) key c h = this {A = Edges} cause.Argument c tt h
 lookup_cause shapes n pc (val.Pkt id off) key c h = this {A = Edges} cause.Argument c tt h
@@ -119,8 +126,7 @@ rule_causes (MapRef dst m) pc n shapes c r h = sets_cause n (pc + 2) (number dst
 rule_causes (Ldx size signed dst src off) pc n shapes c r h =
     unless_cause (is_unset (n.reg (number src))) cause.Unset c _ tt (λ g.
     unless_cause (is_frame (number dst)) cause.FramePointer c _ tt (λ g.
-    then_cause (reach n (n.reg (number src)) off (size_bytes size)) _ c (reach_cause n (n.reg (number src)) off (size_bytes size) c) (λ a g.
-    then_cause (loaded_value n shapes signed size a) _ c (loaded_cause n shapes signed size a c) (λ v g. absurd (cc)) g) g) g) h
+    then_cause (load_value n shapes (n.reg (number src)) off signed size) _ c (load_cause n shapes (n.reg (number src)) off signed size c) (λ v g. absurd (cc)) g) g) h
 rule_causes (St size dst off imm) pc n shapes c r h =
     unless_cause (is_unset (n.reg (number dst))) cause.Unset c _ tt (λ g.
     then_cause (reach n (n.reg (number dst)) off (size_bytes size)) _ c (reach_cause n (n.reg (number dst)) off (size_bytes size) c)

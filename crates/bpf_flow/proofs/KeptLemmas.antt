@@ -12,10 +12,11 @@ use Rattle.bpf_insn.specs.declared.insn.Insn.TheVariants.{Alu, Neg, End, MovSx, 
 use Rattle.bpf_note.specs.Shape.{Shape, AreShapes, IsShape, IsCounter, IsWithin}
 use Rattle.bpf_note.specs.State.{State, values_start, packet_start, stack_start, stack_end, context_start}
 use Rattle.bpf_note.specs.Keys.{key_size}
+use Rattle.bpf_note.specs.Constants.{are_constants}
 use Rattle.bpf_note.specs.Regions.{Place, InPacket, InStack, InContext, InCounter, Nowhere, region, map_near, map_offset, counter_in, counter_past, counter_from, lies_in}
 use Rattle.bpf_note.specs.declared.op.Op.{Op}
 use Rattle.bpf_note.specs.declared.op.Op.TheVariants as op
-use Rattle.bpf_flow.specs.Step.{Outcome, Next, Loads, Adds, Exited, Fault, need, exec, step, written, with_number, is_frame, store_to, jumped, target, helped, looked_up, looked_up_in, map_at, key_in, operand, first_operand, at_slot, load_from, loaded, add_to, reached, taken, address, LeadsTo}
+use Rattle.bpf_flow.specs.Step.{Outcome, Next, Loads, Adds, Exited, Fault, need, exec, step, written, with_number, is_frame, store_to, jumped, target, helped, looked_up, looked_up_in, map_at, key_in, operand, first_operand, at_slot, load_from, load_constants, load_at, loaded, add_to, reached, taken, address, LeadsTo}
 use Rattle.bpf_flow.specs.Kept.{Kept, IsLabelOf}
 use Rattle.bpf_flow.proofs.StoreLemmas.{spliced_length}
 
@@ -100,6 +101,13 @@ load_keeps (InContext i) s signed size dst h = plain_keeps (loaded s (InContext 
 load_keeps (InCounter m k j) s signed size dst h = with_frame s (is_frame dst) _ (h, λ v. unchanged refl refl refl)
 load_keeps Nowhere s signed size dst h = plain_keeps (loaded s Nowhere (size_bytes size)) s dst signed size
 
+load_at_keeps : (s : State) (a : ℕ) (signed : Bool) (size : Size) (dst : ℕ) → Keeps s (load_at s a signed size dst)
+load_at_keeps s a signed size dst = by (are_constants s.shapes a (size_bytes size))
+  where
+    by : (b : Bool) → Keeps s (if b then load_constants s a signed size dst else load_from (region (length s.packet) s.shapes a (size_bytes size)) s signed size dst)
+    by true = written_keeps s (s.pc + 1) dst _
+    by false = load_keeps (region (length s.packet) s.shapes a (size_bytes size)) s signed size dst (region_lies (length s.packet) s.shapes a (size_bytes size))
+
 add_keeps : (place : Place) (s : State) (fetch : Bool) (src d : ℕ) → Lies (length s.packet) s.shapes 8 place → Keeps s (add_to place s fetch src d)
 add_keeps (InCounter m k j) s true src d h = with_frame s (is_frame src) _ (h, λ v. unchanged refl refl refl)
 add_keeps (InCounter m k j) s false src d h = (h, λ v. unchanged refl refl refl)
@@ -130,7 +138,7 @@ module _ (s : State) where
   exec_keeps (MovSx wide bits dst src) = needs s (s.reg (number src)) _ (λ d. written_keeps s (s.pc + 1) (number dst) _)
   exec_keeps (Const dst value) = written_keeps s (s.pc + 2) (number dst) value
   exec_keeps (MapRef dst m) = written_keeps s (s.pc + 2) (number dst) _
-  exec_keeps (Ldx size signed dst src off) = needs s (s.reg (number src)) _ (λ a. load_keeps (reached s a off (size_bytes size)) s signed size (number dst) (there a off (size_bytes size)))
+  exec_keeps (Ldx size signed dst src off) = needs s (s.reg (number src)) _ (λ a. load_at_keeps s (address a off) signed size (number dst))
   exec_keeps (St size dst off imm) = needs s (s.reg (number dst)) _ (λ a. store_keeps (reached s a off (size_bytes size)) s (size_bytes size) _ (there a off (size_bytes size)))
   exec_keeps (Stx size dst src off) = needs s (s.reg (number src)) _ (λ x. needs s (s.reg (number dst)) _ (λ a. store_keeps (reached s a off (size_bytes size)) s (size_bytes size) x (there a off (size_bytes size))))
   exec_keeps (AddCounter fetch dst src off) = needs s (s.reg (number src)) _ (λ x. needs s (s.reg (number dst)) _ (λ a. add_keeps (reached s a off 8) s fetch (number src) x (there a off 8)))

@@ -7,14 +7,16 @@ use Rattle.bpf_insn.specs.Size.{size_bytes}
 use Rattle.bpf_insn.specs.Conditions.{is_met}
 use Rattle.bpf_insn.specs.declared.insn.Insn.{Insn}
 use Rattle.bpf_insn.specs.declared.insn.Insn.TheVariants.{Alu, Neg, End, MovSx, Const, MapRef, Ldx, St, Stx, AddCounter, Ja, Jump, Call, Exit, Second}
+use Rattle.bpf_insn.specs.declared.register.Register.{Register}
 use Rattle.bpf_insn.specs.declared.size.Size.{Size}
 use Rattle.bpf_note.specs.Keys.{key_size}
+use Rattle.bpf_note.specs.Constants.{are_constants}
 use Rattle.bpf_note.specs.Shape.{Shape}
 use Rattle.bpf_note.specs.State.{State, packet_start, stack_start, stack_end, context_start}
 use Rattle.bpf_note.specs.Regions.{Place, InPacket, InStack, InContext, InCounter, Nowhere, region, lies_in, counter_at}
 use Rattle.bpf_note.specs.declared.op.Op.{Op}
 use Rattle.bpf_note.specs.declared.op.Op.TheVariants.{Load, Add}
-use Rattle.bpf_flow.specs.Step.{Outcome, Next, Loads, Adds, Exited, Fault, at_slot, with_number, is_frame, written, operand, first_operand, target, jumped, reached, loaded, load_from, store_to, add_to, map_at, key_in, value_or_null, called, looked_up, looked_up_in, row_of, helped, exec, LeadsTo, taken, Alike, Fits}
+use Rattle.bpf_flow.specs.Step.{Outcome, Next, Loads, Adds, Exited, Fault, at_slot, with_number, is_frame, written, operand, first_operand, target, jumped, address, reached, loaded, load_from, load_constants, load_at, store_to, add_to, map_at, key_in, value_or_null, called, looked_up, looked_up_in, row_of, helped, exec, LeadsTo, taken, Alike, Fits}
 use Rattle.bpf_flow.proofs.StepLemmas.{no_fault, needed, exited}
 
 pub labels_alike : (o : Outcome) (l l' : Option Op) (u u' : State) → LeadsTo o l u → LeadsTo o l' u' → Alike l l'
@@ -148,6 +150,18 @@ add_fits Nowhere s fetch src d l u h = absurd (no_fault l u h)
 none_is : (i : Insn) (l : Option Op) → Fits i None → l ≡ None → Fits i l
 none_is i l h e = subst (λ (l : Option Op). Fits i l) (sym e) h
 
+load_at_fits : (s : State) (a : ℕ) (size : Size) (signed : Bool) (dst src : Register) (off : ℤ) (l : Option Op) (u : State) → LeadsTo (load_at s a signed size (number dst)) l u → Fits (Ldx size signed dst src off) l
+load_at_fits s a size signed dst src off l u h = by (are_constants s.shapes a (size_bytes size)) h
+  where
+    sized : (l : Option Op) → LoadFits (region (length s.packet) s.shapes a (size_bytes size)) l → Fits (Ldx size signed dst src off) l
+    sized None h = tt
+    sized (Some (Load m k j v)) h = counter_size _ _ _ (size_bytes size) m k j h
+    sized (Some (Add m k j d v)) h = h
+
+    by : (b : Bool) → LeadsTo (if b then load_constants s a signed size (number dst) else load_from (region (length s.packet) s.shapes a (size_bytes size)) s signed size (number dst)) l u → Fits (Ldx size signed dst src off) l
+    by true h = none_is (Ldx size signed dst src off) l tt (written_plain s (s.pc + 1) (number dst) _ l u h)
+    by false h = sized l (load_fits (region (length s.packet) s.shapes a (size_bytes size)) s signed size (number dst) l u h)
+
 pub exec_fits : (i : Insn) (s : State) (l : Option Op) (u : State) → LeadsTo (exec i s) l u → Fits i l
 exec_fits (Alu op wide dst src) s l u h = none_is (Alu op wide dst src) l tt (needed (operand s src) _ l u (λ x h. needed (first_operand op (s.reg (number dst))) _ l u (λ d h. written_plain s (s.pc + 1) (number dst) _ l u h) h) h)
 exec_fits (Neg wide dst) s l u h = none_is (Neg wide dst) l tt (needed (s.reg (number dst)) _ l u (λ d h. written_plain s (s.pc + 1) (number dst) _ l u h) h)
@@ -155,12 +169,7 @@ exec_fits (End kind width dst) s l u h = none_is (End kind width dst) l tt (need
 exec_fits (MovSx wide bits dst src) s l u h = none_is (MovSx wide bits dst src) l tt (needed (s.reg (number src)) _ l u (λ d h. written_plain s (s.pc + 1) (number dst) _ l u h) h)
 exec_fits (Const dst value) s l u h = none_is (Const dst value) l tt (written_plain s (s.pc + 2) (number dst) value l u h)
 exec_fits (MapRef dst m) s l u h = none_is (MapRef dst m) l tt (written_plain s (s.pc + 2) (number dst) _ l u h)
-exec_fits (Ldx size signed dst src off) s l u h = needed (s.reg (number src)) _ l u (λ a h. by a l (load_fits (reached s a off (size_bytes size)) s signed size (number dst) l u h)) h
-  where
-    by : (a : ℕ) (l : Option Op) → LoadFits (reached s a off (size_bytes size)) l → Fits (Ldx size signed dst src off) l
-    by a None h = tt
-    by a (Some (Load m k j v)) h = counter_size _ _ _ (size_bytes size) m k j h
-    by a (Some (Add m k j d v)) h = h
+exec_fits (Ldx size signed dst src off) s l u h = needed (s.reg (number src)) _ l u (λ a h. load_at_fits s (address a off) size signed dst src off l u h) h
 exec_fits (St size dst off imm) s l u h = none_is (St size dst off imm) l tt (needed (s.reg (number dst)) _ l u (λ a h. store_plain (reached s a off (size_bytes size)) s (size_bytes size) _ l u h) h)
 exec_fits (Stx size dst src off) s l u h = none_is (Stx size dst src off) l tt (needed (s.reg (number src)) _ l u (λ x h. needed (s.reg (number dst)) _ l u (λ a h. store_plain (reached s a off (size_bytes size)) s (size_bytes size) x l u h) h) h)
 exec_fits (AddCounter fetch dst src off) s l u h = needed (s.reg (number src)) _ l u (λ x h. needed (s.reg (number dst)) _ l u (λ a h. by l (add_fits (reached s a off 8) s fetch (number src) x l u h)) h) h

@@ -16,9 +16,9 @@ use Rattle.bpf_flow.specs.Step.{target, is_frame}
 use Rattle.bpf_flow.specs.Graph.{Leads}
 use Rattle.bpf_flow.specs.Edges.{Edges, goes_to, sets}
 use Rattle.bpf_flow.specs.Alu.{exactly, operand_value}
-use Rattle.bpf_flow.specs.Memory.{reach, loaded_value, stores, adds_at}
+use Rattle.bpf_flow.specs.Memory.{reach, load_value, stores, adds_at}
 use Rattle.bpf_flow.specs.Rule.{after_of, is_first_unset, at_target}
-use Rattle.bpf_flow.specs.Call.{is_key, key_bytes, looks_up, is_lookup}
+use Rattle.bpf_flow.specs.Call.{is_key, key_bytes, has_keys, looks_up, is_lookup}
 use Rattle.bpf_flow.specs.declared.access.Access.{Access}
 use Rattle.bpf_flow.specs.declared.access.Access.TheVariants.{InPacket, OnStack, InContext, AtValue}
 use Rattle.bpf_flow.proofs.AnswerLemmas.{unless_ok, and_then_ok, same_ok}
@@ -42,7 +42,7 @@ store_way n pc size v (InContext o) es q h s = absurd (cc)
 store_way n pc size v (AtValue m o) es q h s = absurd (cc)
 
 lookup_way : (shapes : List Shape) (n : Facts) (pc : ℕ) (v key : Val) (es : Edges) (q : ℕ) → looks_up shapes n pc v key ≡ Ok es → Speaks es q → q ≡ pc + 1
-lookup_way shapes n pc (val.Map m) key es q h s = one_way (pc + 1) _ es q (unless_ok (not (is_key n (key_bytes (slice_get shapes m)) key)) cause.Argument _ es h).1 s
+lookup_way shapes n pc (val.Map m) key es q h s = one_way (pc + 1) _ es q (unless_ok (not (has_keys (slice_get shapes m) && is_key n (key_bytes (slice_get shapes m)) key)) cause.Argument _ es h).1 s
 lookup_way shapes n pc val.Unset key es q h s = absurd (cc)
 lookup_way shapes n pc (val.Num lo hi) key es q h s = absurd (cc)
 lookup_way shapes n pc (val.Pkt id off) key es q h s = absurd (cc)
@@ -78,8 +78,7 @@ rule_leads (MapRef dst m) pc n shapes es q h s = sets_way n (pc + 2) (number dst
 rule_leads (Ldx size signed dst src off) pc n shapes es q h s =
     let u = unless_ok (is_unset (n.reg (number src))) cause.Unset _ es h in
     let f = unless_ok (is_frame (number dst)) cause.FramePointer _ es u.1 in
-    let a = and_then_ok (reach n (n.reg (number src)) off (size_bytes size)) _ es f.1 in
-    let v = and_then_ok (loaded_value n shapes signed size a.0) _ es a.2 in
+    let v = and_then_ok (load_value n shapes (n.reg (number src)) off signed size) _ es f.1 in
     one_way (pc + 1) _ es q v.2 s
 rule_leads (St size dst off imm) pc n shapes es q h s =
     let u = unless_ok (is_unset (n.reg (number dst))) cause.Unset _ es h in

@@ -11,6 +11,7 @@ pub mod SumLemmas
 pub mod ResultLemmas
 pub mod ReachLemmas
 pub mod LoadLemmas
+pub mod ConstantLemmas
 pub mod StoreLemmas
 pub mod JumpLemmas
 pub mod CallLemmas

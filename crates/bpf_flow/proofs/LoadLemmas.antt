@@ -28,7 +28,7 @@ use Rattle.bpf_flow.proofs.RegisterLemmas.{sets_sound, one_covers, with_number_d
 use Rattle.bpf_flow.proofs.IdLemmas.{word_below, full_reads}
 use Rattle.bpf_flow.proofs.ReachLemmas.{Reaches}
 
-power_suc : (z : ℕ) → 256 ^ suc z ≡ 256 * 256 ^ z
+pub power_suc : (z : ℕ) → 256 ^ suc z ≡ 256 * 256 ^ z
 power_suc z = omega arith
 
 -- a number of z bytes
@@ -78,11 +78,11 @@ module _ (w : Meaning) where
   size_reads Word x h = (omega arith, omega arith)
   size_reads Double x h = (omega arith, omega arith)
 
-  loaded_reads : (signed : Bool) (size : Size) (x : ℕ) → x < 256 ^ size_bytes size → IsReading w (any_loaded signed size) (taken signed size x)
+  pub loaded_reads : (signed : Bool) (size : Size) (x : ℕ) → x < 256 ^ size_bytes size → IsReading w (any_loaded signed size) (taken signed size x)
   loaded_reads true size x h = full_reads w (extended size x) (extended_fits size x)
   loaded_reads false size x h = size_reads size x h
 
-taken_fits : (signed : Bool) (size : Size) (x : ℕ) → x < 256 ^ size_bytes size → taken signed size x < 2 ^ 64
+pub taken_fits : (signed : Bool) (size : Size) (x : ℕ) → x < 256 ^ size_bytes size → taken signed size x < 2 ^ 64
 taken_fits true size x h = extended_fits size x
 taken_fits false size x h = omega (arith, h, size_limit size)
 

@@ -23,10 +23,10 @@ use Rattle.bpf_flow.specs.Step.{target, is_frame}
 use Rattle.bpf_flow.specs.Graph.{reads, writes, is_operand}
 use Rattle.bpf_flow.specs.Edges.{Edges, Answer, unless, and_then, goes_to, with_computed}
 use Rattle.bpf_flow.specs.Alu.{exactly, operand_value, result_of, negated_value, extended_value, swapped_value}
-use Rattle.bpf_flow.specs.Memory.{place_in, packet_place, in_packet, on_stack, reach, is_word, is_field, is_double, is_counter, all_set, stack_value, field_value, loaded_value, stores, adds_at}
+use Rattle.bpf_flow.specs.Memory.{place_in, packet_place, in_packet, on_stack, reach, is_word, is_field, is_double, is_counter, all_set, any_loaded, stack_value, field_value, loaded_value, is_constant, load_value, stores, adds_at}
 use Rattle.bpf_flow.specs.Branch.{taken, passed}
 use Rattle.bpf_flow.specs.Rule.{is_first_unset, at_target, fetched, after_of}
-use Rattle.bpf_flow.specs.Call.{is_key, key_bytes, with_call, looks_up, is_lookup}
+use Rattle.bpf_flow.specs.Call.{is_key, key_bytes, has_keys, with_call, looks_up, is_lookup}
 use Rattle.bpf_flow.specs.Reading.{IsKnownCall, ReadsUnset}
 use Rattle.bpf_flow.specs.declared.access.Access.{Access}
 use Rattle.bpf_flow.specs.declared.access.Access.TheVariants.{InPacket, OnStack, InContext, AtValue}
@@ -81,6 +81,10 @@ loaded_others n shapes false size (InContext o) = chosen_others (is_word size &&
 loaded_others n shapes true size (AtValue m o) = refl
 loaded_others n shapes false size (AtValue m o) = chosen_others (is_double size && is_counter (slice_get shapes m) o) (Ok full) (Err cause.MapAccess) tt refl
 
+load_others : (n : Facts) (shapes : List Shape) (v : Val) (o : ℤ) (signed : Bool) (size : Size) → is_unset v ≡ false → Others (load_value n shapes v o signed size)
+load_others n shapes v o signed size h = chosen_others (is_constant shapes v o (size_bytes size)) (Ok (any_loaded signed size)) (and_then (reach n v o (size_bytes size)) (loaded_value n shapes signed size)) tt
+    (then_others (reach n v o (size_bytes size)) (loaded_value n shapes signed size) (reach_others n v o (size_bytes size) h) (loaded_others n shapes signed size))
+
 stores_others : (n : Facts) (pc : ℕ) (size : Size) (v : Val) (a : Access) → Others (stores n pc size v a)
 stores_others n pc size v InPacket = tt
 stores_others n pc size v (OnStack p) = tt
@@ -103,7 +107,7 @@ target_others None edges = refl
 target_others (Some q) edges = tt
 
 looks_up_others : (shapes : List Shape) (n : Facts) (pc : ℕ) (v key : Val) → Others (looks_up shapes n pc v key)
-looks_up_others shapes n pc (Map m) key = chosen_others (not (is_key n (key_bytes (slice_get shapes m)) key)) (Err cause.Argument) (goes_to (pc + 1) (with_call (with_id n pc 0) m pc)) refl tt
+looks_up_others shapes n pc (Map m) key = chosen_others (not (has_keys (slice_get shapes m) && is_key n (key_bytes (slice_get shapes m)) key)) (Err cause.Argument) (goes_to (pc + 1) (with_call (with_id n pc 0) m pc)) refl tt
 looks_up_others shapes n pc Unset key = refl
 looks_up_others shapes n pc (Num lo hi) key = refl
 looks_up_others shapes n pc (Pkt id off) key = refl
@@ -242,10 +246,9 @@ form (MapRef dst m) pc n shapes =
     plain_form (MapRef dst m) pc n shapes false (is_frame (number dst)) (goes_to (pc + 2) (with_reg n (number dst) (Map m))) tt (test_none n) (frame_same (number dst)) refl (λ h. tt)
 form (Ldx size signed dst src off) pc n shapes =
     plain_form (Ldx size signed dst src off) pc n shapes (is_unset (n.reg (number src))) (is_frame (number dst))
-    (and_then (reach n (n.reg (number src)) off (size_bytes size)) (λ a. and_then (loaded_value n shapes signed size a) (λ v. goes_to (pc + 1) (with_reg n (number dst) v))))
+    (and_then (load_value n shapes (n.reg (number src)) off signed size) (λ v. goes_to (pc + 1) (with_reg n (number dst) v)))
     tt (test_register n (number src)) (frame_same (number dst)) refl
-    (λ h. then_others (reach n (n.reg (number src)) off (size_bytes size)) _ (reach_others n (n.reg (number src)) off (size_bytes size) h)
-    (λ a. then_others (loaded_value n shapes signed size a) _ (loaded_others n shapes signed size a) (λ v. tt)))
+    (λ h. then_others (load_value n shapes (n.reg (number src)) off signed size) _ (load_others n shapes (n.reg (number src)) off signed size h) (λ v. tt))
 form (St size dst off imm) pc n shapes =
     plain_form (St size dst off imm) pc n shapes (is_unset (n.reg (number dst))) false
     (and_then (reach n (n.reg (number dst)) off (size_bytes size)) (stores n (pc + 1) size (exactly (sign_extended imm))))

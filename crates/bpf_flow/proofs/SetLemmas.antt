@@ -18,10 +18,11 @@ use Rattle.bpf_note.specs.Facts.{Facts, full, is_unset, packet_id, forgotten, re
 use Rattle.bpf_note.specs.Join.{joined_value, joined_kept, is_same_pointer}
 use Rattle.bpf_flow.specs.declared.computed.Computed.{Computed}
 use Rattle.bpf_flow.specs.declared.computed.Computed.TheVariants.{Plain, Fresh}
+use Rattle.bpf_flow.specs.Edges.{and_then}
 use Rattle.bpf_flow.specs.declared.access.Access.{Access}
 use Rattle.bpf_flow.specs.declared.access.Access.TheVariants.{InPacket, OnStack, InContext, AtValue}
 use Rattle.bpf_flow.specs.Alu.{constant, any_number, packet_at, stack_at, packet_sum, stack_sum, sum_of, difference_of, range_by, ranged, unfolded, folded, first_constant, result_of, folded_one, any_of_width, signed, most_base}
-use Rattle.bpf_flow.specs.Memory.{any_of_size, any_loaded, is_slot, kept_or_full, stack_value, field_value, is_word, is_field, is_double, is_counter, all_set, loaded_value}
+use Rattle.bpf_flow.specs.Memory.{any_of_size, any_loaded, is_slot, kept_or_full, stack_value, field_value, is_word, is_field, is_double, is_counter, all_set, reach, loaded_value, is_constant, load_value}
 
 -- a kept value isn't Unset
 abbrev pub IsSet : Option Val → Type 0
@@ -219,5 +220,14 @@ loaded_sets n shapes false size (InContext o) h = chosen_sets (is_word size && i
 loaded_sets n shapes true size (AtValue m o) h = tt
 loaded_sets n shapes false size (AtValue m o) h = chosen_sets (is_double size && is_counter (slice_get shapes m) o) full cause.MapAccess refl
 
-pub loaded_set : (n : Facts) (shapes : List Shape) (signed : Bool) (size : Size) (a : Access) (v : Val) → KeepsSet n → loaded_value n shapes signed size a ≡ Ok v → is_unset v ≡ false
-loaded_set n shapes signed size a v h e = subst Sets e (loaded_sets n shapes signed size a h)
+reached_sets : (n : Facts) (shapes : List Shape) (signed : Bool) (size : Size) (r : Result Access Cause) → KeepsSet n → Sets (and_then r (loaded_value n shapes signed size))
+reached_sets n shapes signed size (Ok a) h = loaded_sets n shapes signed size a h
+reached_sets n shapes signed size (Err c) h = tt
+
+load_sets : (n : Facts) (shapes : List Shape) (v : Val) (o : ℤ) (signed : Bool) (size : Size) (b : Bool) → KeepsSet n →
+    Sets (if b then Ok (any_loaded signed size) else and_then (reach n v o (size_bytes size)) (loaded_value n shapes signed size))
+load_sets n shapes v o signed size true h = any_loaded_set signed size
+load_sets n shapes v o signed size false h = reached_sets n shapes signed size (reach n v o (size_bytes size)) h
+
+pub load_set : (n : Facts) (shapes : List Shape) (v : Val) (o : ℤ) (signed : Bool) (size : Size) (w : Val) → KeepsSet n → load_value n shapes v o signed size ≡ Ok w → is_unset w ≡ false
+load_set n shapes v o signed size w h e = subst Sets e (load_sets n shapes v o signed size (is_constant shapes v o (size_bytes size)) h)

@@ -25,10 +25,10 @@ use Rattle.bpf_note.specs.declared.val.Val.TheVariants as val
 use Rattle.bpf_note.specs.State.{State, packet_start, references_start}
 use Rattle.bpf_note.specs.Facts.{Facts, is_unset, packet_id, with_reg, with_id}
 use Rattle.bpf_note.specs.Describes.{Meaning, meaning, Describes, IsReading, Reads}
-use Rattle.bpf_flow.specs.Step.{Next, Exited, Fault, need, written, at_slot, is_frame, operand, target, jumped, reached, load_from, store_to, add_to, looked_up, exec}
+use Rattle.bpf_flow.specs.Step.{Next, Exited, Fault, need, written, at_slot, is_frame, operand, target, jumped, address, reached, load_at, store_to, add_to, looked_up, exec}
 use Rattle.bpf_flow.specs.Edges.{Edges, unless, and_then, sets, sets_computed}
 use Rattle.bpf_flow.specs.Alu.{exactly, operand_value, result_of, folded, unfolded, constant, negated_value, extended_value, swapped_value}
-use Rattle.bpf_flow.specs.Memory.{reach, loaded_value, stores, adds_at}
+use Rattle.bpf_flow.specs.Memory.{reach, load_value, stores, adds_at}
 use Rattle.bpf_flow.specs.Branch.{taken, passed}
 use Rattle.bpf_flow.specs.Rule.{after_of, IsRuled}
 use Rattle.bpf_flow.specs.Call.{looks_up}
@@ -41,7 +41,7 @@ use Rattle.bpf_flow.proofs.IdLemmas.{with_id_known}
 use Rattle.bpf_flow.proofs.SumLemmas.{IsResult}
 use Rattle.bpf_flow.proofs.ResultLemmas.{both_read, move_read, negated_reads, extended_reads, swapped_reads}
 use Rattle.bpf_flow.proofs.ReachLemmas.{access_reaches}
-use Rattle.bpf_flow.proofs.LoadLemmas.{load_sound}
+use Rattle.bpf_flow.proofs.ConstantLemmas.{value_sound}
 use Rattle.bpf_flow.proofs.StoreLemmas.{store_sound}
 use Rattle.bpf_flow.proofs.JumpLemmas.{taken_describes, passed_describes}
 use Rattle.bpf_flow.proofs.CallLemmas.{lookup_sound, add_sound}
@@ -136,12 +136,10 @@ module _ (n : Facts) (s : State) (d : Describes n s) where
   ldx_sound size signed dst src off es h =
       let u = unless_ok (is_unset (n.reg (number src))) cause.Unset _ es h in
       let f = unless_ok (is_frame (number dst)) cause.FramePointer _ es u.1 in
-      let g = and_then_ok (reach n (n.reg (number src)) off (size_bytes size)) _ es f.1 in
-      let l = and_then_ok (loaded_value n s.shapes signed size g.0) _ es g.2 in
+      let l = and_then_ok (load_value n s.shapes (n.reg (number src)) off signed size) _ es f.1 in
       let a = register (number src) u.0 in
-      subst (λ (o : Option ℕ). Accounts es (need o (λ a. load_from (reached s a off (size_bytes size)) s signed size (number dst)))) (sym a.1)
-      (load_sound n s d g.0 (reached s a.0 off (size_bytes size)) signed size (number dst) l.0 es (number_small dst) f.0
-      (access_reaches n s d a.0 (d.state.words (number src) a.0 a.1) off (size_bytes size) (n.reg (number src)) g.0 a.2 g.1) l.1 l.2)
+      subst (λ (o : Option ℕ). Accounts es (need o (λ a. load_at s (address a off) signed size (number dst)))) (sym a.1)
+      (value_sound n s d (n.reg (number src)) a.0 off signed size (number dst) l.0 es (d.state.words (number src) a.0 a.1) (number_small dst) f.0 a.2 l.1 l.2)
 
   -- a store of x, which is a reading of v
   store_of : (size : Size) (dst : Register) (off : ℤ) (x : ℕ) (v : Val) (es : Edges) → x < 2 ^ 64 → IsReading w v x → is_unset (n.reg (number dst)) ≡ false →

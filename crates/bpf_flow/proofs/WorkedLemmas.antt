@@ -1,5 +1,5 @@
 -- The definitions, computed on small programs. No proof uses these; they are checked with the crate, and show what the definitions say.
-use Rattle.std.proofs.Common.{◌≡◌, ◌^◌, ◌-◌, ℕ, zero, suc, List, [], ◌∷◌, Option, Some, None, refl, true, false}
+use Rattle.std.proofs.Common.{◌≡◌, ◌^◌, ◌-◌, ◌+◌, ◌*◌, ℕ, Bool, zero, suc, List, [], ◌∷◌, Option, Some, None, refl, true, false}
 use Rattle.std.specs.Prelude.{pos, negsuc, if◌then◌else◌, ◌==◌}
 use Rattle.bpf_insn.specs.Arithmetic.{computed}
 use Rattle.bpf_insn.specs.Conditions.{is_met}
@@ -7,15 +7,17 @@ use Rattle.bpf_insn.specs.Extension.{extended}
 use Rattle.bpf_insn.specs.declared.register.Register.TheVariants.{R0, R1, R2, R3, R4, R10}
 use Rattle.bpf_insn.specs.declared.operand.Operand.TheVariants.{Register, Immediate}
 use Rattle.bpf_insn.specs.declared.alu_op.AluOp.TheVariants as ops
+use Rattle.bpf_insn.specs.declared.size.Size.{Size}
 use Rattle.bpf_insn.specs.declared.size.Size.TheVariants.{Byte, Half, Word}
 use Rattle.bpf_insn.specs.declared.condition.Condition.TheVariants.{Greater, Equal}
 use Rattle.bpf_insn.specs.declared.insn.Insn.{Insn}
-use Rattle.bpf_insn.specs.declared.insn.Insn.TheVariants.{Alu, MapRef, Ldx, St, AddCounter, Jump, Call, Exit, Second}
+use Rattle.bpf_insn.specs.declared.insn.Insn.TheVariants.{Alu, Const, MapRef, Ldx, St, AddCounter, Jump, Call, Exit, Second}
 use Rattle.bpf_note.specs.declared.key.Kind.TheVariants.{Exact}
-use Rattle.bpf_note.specs.declared.key.MapKey.TheVariants.{Index, Listed}
+use Rattle.bpf_note.specs.declared.key.MapKey.TheVariants.{Index, Listed, Constants}
 use Rattle.bpf_note.specs.Shape.{Shape}
 use Rattle.bpf_note.specs.State.{State, start_register}
 use Rattle.bpf_note.specs.Bytes.{number_of, put_bytes}
+use Rattle.bpf_note.specs.Constants.{bytes_left}
 use Rattle.bpf_note.specs.Regions.{region, counter_address}
 use Rattle.bpf_flow.specs.Step.{Outcome, Next, Loads, Adds, Exited, Fault, step}
 
@@ -47,11 +49,11 @@ looks =
     ∷ Alu ops.Mov true R0 (Immediate (pos 1)) ∷ Exit ∷ []
 
 fourteen_bytes_pass : after looks 7 (start [] (0 ∷ 1 ∷ 2 ∷ 3 ∷ 4 ∷ 5 ∷ 6 ∷ 7 ∷ 8 ∷ 9 ∷ 10 ∷ 11 ∷ 12 ∷ 13 ∷ [])) ≡ Exited 2
-unfolding computed is_met region extended start next after looks
+unfolding computed is_met region bytes_left extended start next after looks
 fourteen_bytes_pass = refl
 
 thirteen_bytes_drop : after looks 6 (start [] (0 ∷ 1 ∷ 2 ∷ 3 ∷ 4 ∷ 5 ∷ 6 ∷ 7 ∷ 8 ∷ 9 ∷ 10 ∷ 11 ∷ 12 ∷ [])) ≡ Exited 1
-unfolding computed is_met region extended start next after looks
+unfolding computed is_met region bytes_left extended start next after looks
 thirteen_bytes_drop = refl
 
 -- counts in value 1 of a map
@@ -93,6 +95,35 @@ adds_1_to_row_1 = refl
 finds_no_row : after (counts_key 0x1123) 7 (start two_keys []) ≡ Exited 2
 unfolding computed is_met region put_bytes extended start next after counts_key two_keys rows
 finds_no_row = refl
+
+-- constants 0x11 0x22 0x33 0x44 0x55 of map 1, the last byte by its address, then all but the first as a number (RFC 9669, section 5: little-endian)
+constants : ℕ → List ℕ → Option ℕ
+constants m key = if m == 1 then Some (17 + 17 * number_of key) else None
+
+reading : List Shape → State
+reading shapes = record { pc = 0; reg = start_register; stack = λ i. None; packet = []; ifindex = 0; queue = 0; shapes = shapes; find = constants }
+
+array_and_constants : List Shape
+array_and_constants = record { entries = 2; counters = 1; key = Index } ∷ record { entries = 1; counters = 1; key = Constants 5 } ∷ []
+
+reads_at : ℕ → Bool → Size → List Insn
+reads_at address signed size = Const R1 address ∷ Second ∷ Ldx size signed R0 R1 (pos 0) ∷ Exit ∷ []
+
+last_byte : after (reads_at 0x38010004 false Byte) 2 (reading array_and_constants) ≡ Exited 0x55
+unfolding computed is_met region bytes_left extended reading next after reads_at array_and_constants constants
+last_byte = refl
+
+four_bytes : after (reads_at 0x38010001 false Word) 2 (reading array_and_constants) ≡ Exited 0x55443322
+unfolding computed is_met region bytes_left extended reading next after reads_at array_and_constants constants
+four_bytes = refl
+
+past_the_end : after (reads_at 0x38010002 false Word) 2 (reading array_and_constants) ≡ Fault
+unfolding computed is_met region bytes_left extended reading next after reads_at array_and_constants constants
+past_the_end = refl
+
+of_no_constants : after (reads_at 0x38000000 false Byte) 2 (reading array_and_constants) ≡ Fault
+unfolding computed is_met region bytes_left extended reading next after reads_at array_and_constants constants
+of_no_constants = refl
 
 -- small maps lie 64 KiB apart from 0x40000000 on, others 4 MiB apart from 0x40400000 on
 addresses : (counter_address (record { entries = 1024; counters = 8; key = Index }) 3 1023 7 ≡ 0x4003FFF8)

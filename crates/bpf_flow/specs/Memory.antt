@@ -1,6 +1,6 @@
 -- Stated: claims rest on this file.
 -- What an access through a value reaches, what a load makes of it and what a store changes.
-use Rattle.std.specs.Prelude.{ℕ, ◌+◌, ◌*◌, ◌/◌, ◌%◌, zero, suc, min, max, ℤ, pos, negsuc, ◌+ℤ◌, List, Option, None, Some, Bool}
+use Rattle.std.specs.Prelude.{ℕ, ◌+◌, ◌-◌, ◌*◌, ◌/◌, ◌%◌, zero, suc, min, max, ℤ, pos, negsuc, ◌+ℤ◌, List, Option, None, Some, Bool}
 use Rattle.std.specs.Prelude.{true, false, ◌&&◌, ◌||◌, if◌then◌else◌, ◌==◌, nat_le, nat_lt, Result, Ok, Err, slice_get}
 use Rattle.bpf_insn.specs.Size.{size_bytes}
 use Rattle.bpf_insn.specs.declared.size.Size.{Size}
@@ -9,9 +9,11 @@ use Rattle.bpf_insn.specs.declared.refusal.Cause.{Cause}
 use Rattle.bpf_insn.specs.declared.refusal.Cause.TheVariants as cause
 use Rattle.bpf_note.specs.declared.val.Val.{Val}
 use Rattle.bpf_note.specs.declared.val.Val.TheVariants as val
+use Rattle.bpf_note.specs.Constants.{are_constants}
 use Rattle.bpf_note.specs.Shape.{Shape}
 use Rattle.bpf_note.specs.Facts.{Facts, full, packet_id, with_kept}
-use Rattle.bpf_flow.specs.Edges.{Answer, goes_to}
+use Rattle.bpf_flow.specs.Edges.{Answer, and_then, goes_to}
+use Rattle.bpf_flow.specs.Step.{address}
 use Rattle.bpf_flow.specs.declared.access.Access.{Access}
 use Rattle.bpf_flow.specs.declared.access.Access.TheVariants.{InPacket, OnStack, InContext, AtValue}
 
@@ -113,6 +115,17 @@ loaded_value n shapes false size (InContext o) = if is_word size && is_field o t
 loaded_value n shapes true size (AtValue m o) = Err cause.MapAccess
 loaded_value n shapes false size (AtValue m o) = if is_double size && is_counter (slice_get shapes m) o then Ok full
     else Err cause.MapAccess
+
+-- the z bytes that a number and an offset name are constants, whichever number of its range it is
+abbrev pub is_constant : List Shape → Val → ℤ → ℕ → Bool
+is_constant shapes (val.Num lo hi) o z = are_constants shapes (address lo o) (hi - lo + z)
+is_constant shapes v o z = false
+
+-- what a load through a value gives
+abbrev pub load_value : Facts → List Shape → Val → ℤ → Bool → Size → Result Val Cause
+load_value n shapes v o signed size =
+    if is_constant shapes v o (size_bytes size) then Ok (any_loaded signed size)
+    else and_then (reach n v o (size_bytes size)) (loaded_value n shapes signed size)
 
 -- z bytes from p on and the eight of slot j have one in common
 abbrev pub touches : ℕ → ℕ → ℕ → Bool

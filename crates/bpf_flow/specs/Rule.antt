@@ -17,7 +17,7 @@ use Rattle.bpf_note.specs.Facts.{Facts, full, is_unset, with_reg}
 use Rattle.bpf_flow.specs.Step.{target, is_frame}
 use Rattle.bpf_flow.specs.Edges.{Edges, Answer, unless, and_then, goes_to, sets, sets_computed}
 use Rattle.bpf_flow.specs.Alu.{exactly, operand_value, result_of, negated_value, extended_value, swapped_value}
-use Rattle.bpf_flow.specs.Memory.{reach, loaded_value, stores, adds_at}
+use Rattle.bpf_flow.specs.Memory.{reach, load_value, stores, adds_at}
 use Rattle.bpf_flow.specs.Branch.{taken, passed}
 use Rattle.bpf_flow.specs.Call.{is_lookup, looks_up}
 
@@ -51,9 +51,8 @@ after_of (MapRef dst m) pc n shapes = sets n (pc + 2) (number dst) (val.Map m)
 after_of (Ldx size signed dst src off) pc n shapes =
     unless (is_unset (n.reg (number src))) cause.Unset
     (unless (is_frame (number dst)) cause.FramePointer
-    (and_then (reach n (n.reg (number src)) off (size_bytes size)) (λ a.
-    and_then (loaded_value n shapes signed size a) (λ v.
-    goes_to (pc + 1) (with_reg n (number dst) v)))))
+    (and_then (load_value n shapes (n.reg (number src)) off signed size) (λ v.
+    goes_to (pc + 1) (with_reg n (number dst) v))))
 after_of (St size dst off imm) pc n shapes =
     unless (is_unset (n.reg (number dst))) cause.Unset
     (and_then (reach n (n.reg (number dst)) off (size_bytes size)) (stores n (pc + 1) size (exactly (sign_extended imm))))

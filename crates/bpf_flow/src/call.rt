@@ -2,7 +2,7 @@
 ghost use Rattle.std.specs.Prelude.{◌≡◌, ◌<◌, ◌≤◌, option_map, slice_get};
 ghost use Rattle.bpf_insn.specs.declared.insn.Insn.{Insn};
 ghost use Rattle.bpf_note.specs.Parts.{facts};
-ghost use Rattle.bpf_flow.specs.Call.{is_key, key_bytes, is_lookup, looks_up, with_call};
+ghost use Rattle.bpf_flow.specs.Call.{is_key, key_bytes, has_keys, is_lookup, looks_up, with_call};
 ghost use Rattle.bpf_flow.specs.Effect.{Decides};
 ghost use Rattle.bpf_flow.specs.Rule.{after_of};
 
@@ -62,6 +62,22 @@ fn key_bytes_of(shapes: &[MapShape], m: u32) -> u32
     key_bytes(shapes.get(m as usize))
 }
 
+fn is_looked_up(shape: Option<&MapShape>) -> bool
+    ensures { result ≡ has_keys (option_map (λ s. s.now) shape.entry) }
+{
+    match shape {
+        None => true,
+        Some(shape) => !matches!(shape.key(), MapKey::Constants(_)),
+    }
+}
+
+/// Whether the values of map `m` are looked up by keys.
+fn has_keys(shapes: &[MapShape], m: u32) -> bool
+    ensures { result ≡ has_keys (slice_get shapes.now m) }
+{
+    is_looked_up(shapes.get(m as usize))
+}
+
 impl Point<'_> {
     /// A lookup in the map that `map` names.
     fn looks_up(&self, map: Val, key: Val) -> Result<Effect, Cause>
@@ -71,7 +87,9 @@ impl Point<'_> {
     {
         match map {
             Val::Map { m } => {
-                if !is_key(self.note, key_bytes_of(self.shapes, m), key) {
+                if !has_keys(self.shapes, m)
+                    || !is_key(self.note, key_bytes_of(self.shapes, m), key)
+                {
                     return Err(Cause::Argument);
                 }
                 Ok(Effect::LooksUp { m })

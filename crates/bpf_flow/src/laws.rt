@@ -1,16 +1,23 @@
 //! Laws of the steps of a program.
-ghost use Rattle.std.specs.Prelude.{◌≡◌, ◌↔◌, ℕ, List, Option, Err, true};
+ghost use Rattle.std.specs.Prelude.{◌≡◌, ◌↔◌, ℕ, ℤ, List, length, Option, Err, Bool, true};
 ghost use Rattle.bpf_insn.specs.declared.insn.Insn.{Insn};
 ghost use Rattle.bpf_insn.specs.declared.refusal.Cause.TheVariants.{Unset, FramePointer};
+ghost use Rattle.bpf_insn.specs.Size.{size_bytes};
+ghost use Rattle.bpf_insn.specs.declared.size.Size.{Size};
 ghost use Rattle.bpf_note.specs.Facts.{Facts};
 ghost use Rattle.bpf_note.specs.Shape.{AreShapes, Shape};
 ghost use Rattle.bpf_note.specs.State.{State};
 ghost use Rattle.bpf_note.specs.declared.op.Op.{Op};
+ghost use Rattle.bpf_note.specs.Constants.{HaveNoConstants};
+ghost use Rattle.bpf_note.specs.Regions.{region};
+ghost use Rattle.bpf_note.specs.declared.val.Val.{Val};
 ghost use Rattle.bpf_flow.specs.Rule.{after_of};
 ghost use Rattle.bpf_flow.specs.Graph.{Leads, writes};
 ghost use Rattle.bpf_flow.specs.Kept.{Kept, IsLabelOf};
 ghost use Rattle.bpf_flow.specs.Reading.{ReadsUnset};
-ghost use Rattle.bpf_flow.specs.Step.{Outcome, LeadsTo, Alike, Fits, exec, step};
+ghost use Rattle.bpf_flow.specs.Step.{Outcome, LeadsTo, Alike, Fits, exec, load_at, load_from, step};
+ghost use Rattle.bpf_flow.specs.Edges.{and_then};
+ghost use Rattle.bpf_flow.specs.Memory.{load_value, loaded_value, reach};
 
 /// No step changes `r10`, the frame pointer.
 pub fn no_step_writes_the_frame_pointer()
@@ -43,6 +50,14 @@ pub fn unset_exactly_where_read()
 pub fn frame_pointer_exactly_where_written()
     ensures { (i : Insn) (pc : ℕ) (n : Facts) (shapes : List Shape) →
         (after_of i pc n shapes ≡ Err FramePointer) ↔ (writes i 10 ≡ true) × (ReadsUnset i n → ⊥) }
+{}
+
+/// Where no map has constants, a load reads what a region holds, and the rule for it is that of its region.
+pub fn loads_without_constants_are_of_regions()
+    ensures step { (s : State) (a : ℕ) (signed : Bool) (size : Size) (dst : ℕ) → HaveNoConstants s.shapes →
+        load_at s a signed size dst ≡ load_from (region (length s.packet) s.shapes a (size_bytes size)) s signed size dst }
+    ensures rule { (n : Facts) (shapes : List Shape) (v : Val) (o : ℤ) (signed : Bool) (size : Size) → HaveNoConstants shapes →
+        load_value n shapes v o signed size ≡ and_then (reach n v o (size_bytes size)) (loaded_value n shapes signed size) }
 {}
 
 /// No step changes the maps or the length of the packet, and a step reads and adds to counters of the maps alone.

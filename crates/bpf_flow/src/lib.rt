@@ -25,8 +25,8 @@ mod successors;
 pub use graph::{jump_target, next_slot, reads, writes};
 pub use laws::{
     frame_pointer_exactly_where_written, labels_fit_their_instruction,
-    no_step_writes_the_frame_pointer, one_label_one_state, steps_follow_edges, steps_keep_the_maps,
-    unset_exactly_where_read,
+    loads_without_constants_are_of_regions, no_step_writes_the_frame_pointer, one_label_one_state,
+    steps_follow_edges, steps_keep_the_maps, unset_exactly_where_read,
 };
 pub use rule::{after, transfer};
 pub use successors::{Successor, Successors, Ways};

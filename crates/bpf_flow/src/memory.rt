@@ -8,14 +8,14 @@ ghost use Rattle.bpf_flow.specs.Rule.{after_of};
 ghost use Rattle.bpf_flow.specs.Effect.{Allocates, Decides};
 ghost use Rattle.bpf_flow.specs.Gives.{IsInside};
 ghost use Rattle.bpf_flow.specs.Memory.{is_field, is_counter, all_set, any_of_size, any_loaded, is_slot, stack_value, field_value};
-ghost use Rattle.bpf_flow.specs.Memory.{loaded_value, with_bytes, with_store, stores, adds_at};
+ghost use Rattle.bpf_flow.specs.Memory.{is_constant, load_value, loaded_value, with_bytes, with_store, stores, adds_at};
 
-use crate::access::{Access, reach};
+use crate::access::{Access, moved, reach};
 use crate::alu::immediate;
 use crate::effect::Effect;
 use crate::point::{Point, is_frame, is_unset};
 use bpf_insn::{Cause, Register, Size};
-use bpf_note::{MapShape, Note, PACKET_ID, Val};
+use bpf_note::{MapShape, Note, PACKET_ID, Val, constants_left};
 
 fn is_field(off: i16) -> bool
     ensures { result ≡ is_field off }
@@ -153,6 +153,38 @@ fn loaded_value(
     }
 }
 
+/// Whether the bytes at an offset from a number are constants, whichever number of its range it is.
+fn is_constant(shapes: &[MapShape], value: Val, off: i16, bytes: u64) -> bool
+    requires { bytes ≤ 8 }
+    ensures { result ≡ is_constant shapes.now value off bytes }
+{
+    match value {
+        Val::Num { lo, hi } => {
+            let left = constants_left(shapes, moved(lo, off));
+            bytes <= left && hi.saturating_sub(lo) <= left - bytes
+        }
+        _ => false,
+    }
+}
+
+/// What a load through a value gives.
+fn load_value(
+    note: &Note,
+    shapes: &[MapShape],
+    value: Val,
+    off: i16,
+    signed: bool,
+    size: Size,
+) -> Result<Val, Cause>
+    ensures { result ≡ load_value (facts note.now) shapes.now value off signed size }
+{
+    if is_constant(shapes, value, off, size.bytes() as u64) {
+        return Ok(any_loaded(signed, size));
+    }
+    let access = reach(note, value, off, size)?;
+    loaded_value(note, shapes, signed, size, access)
+}
+
 /// Bytes of the stack are stored: they are set, and the slots that they touch keep no value.
 fn store_bytes(note: &mut Note, place: u32, bytes: u32)
     requires { place + bytes ≤ 512 }
@@ -209,8 +241,7 @@ impl Point<'_> {
         if is_frame(dst) {
             return Err(Cause::FramePointer);
         }
-        let access = reach(self.note, pointer, off, size)?;
-        let value = loaded_value(self.note, self.shapes, signed, size, access)?;
+        let value = load_value(self.note, self.shapes, pointer, off, signed, size)?;
         self.sets(self.pc + 1, dst, value)
     }
 

@@ -6,3 +6,5 @@ pub mod OrderLemmas
 pub mod SortLemmas
 pub mod FindLemmas
 pub mod OneLemmas
+pub mod ChainLemmas
+pub mod LeadLemmas

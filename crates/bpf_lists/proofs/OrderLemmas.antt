@@ -1,9 +1,9 @@
 -- Rows in order.
-use Rattle.std.proofs.Common.{◌≡◌, ℕ, ◌-◌, ◌*◌, ◌<◌, ◌≤◌, ◌⊎◌, inl, inr, List, length, slice_index, arith, sym, ◌∙◌, subst}
+use Rattle.std.proofs.Common.{◌≡◌, ℕ, ◌+◌, ◌-◌, ◌*◌, ◌<◌, ◌≤◌, ◌⊎◌, inl, inr, List, length, slice_index, arith, sym, ◌∙◌, subst}
 use Rattle.bpf_note.specs.Keys.{size, width, bits_of, data_of}
 use Rattle.bpf_lists.specs.Keys.{count, value}
 use Rattle.bpf_lists.specs.Refusals.{IsRow}
-use Rattle.bpf_lists.specs.Order.{Ordered, IsOrdered, at, rank, Covers, Reaches, AreParents}
+use Rattle.bpf_lists.specs.Order.{Ordered, IsOrdered, IsSpan, at, rank, Covers, Reaches, AreParents}
 use Rattle.bpf_lists.proofs.RowLemmas.{few_bits}
 use Rattle.bpf_lists.proofs.KeyLemmas.{row_long, first_is}
 use Rattle.bpf_lists.proofs.NestLemmas.{covers_between, covering_below}
@@ -42,6 +42,33 @@ above_rises o is wanted m i h le i_in = let r = values_rise o is m i le i_in in 
 pub below_falls : (o : Ordered) → IsOrdered o → (wanted m i : ℕ) → value (data_of o.kind (at o m)) ≤ wanted → i ≤ m → m < length o.rows →
     value (data_of o.kind (at o i)) ≤ wanted
 below_falls o is wanted m i h le m_in = let r = values_rise o is i m le m_in in omega arith
+
+-- a span whose row at a place is above the number ends there, and begins above it if it isn't
+pub span_below : (o : Ordered) → IsOrdered o → (wanted low high place : ℕ) → IsSpan o wanted low high → low ≤ place → place < high →
+    wanted < value (data_of o.kind (at o place)) → IsSpan o wanted low place
+span_below o is wanted low high place h from to higher = record {
+  in_order = from;
+  most = omega (arith, to, h.most);
+  below = h.below;
+  above = λ i le i_in. above_rises o is wanted place i higher le i_in;
+}
+
+pub span_above : (o : Ordered) → IsOrdered o → (wanted low high place : ℕ) → IsSpan o wanted low high → low ≤ place → place < high →
+    value (data_of o.kind (at o place)) ≤ wanted → IsSpan o wanted (place + 1) high
+span_above o is wanted low high place h from to lower = record {
+  in_order = omega (arith, to);
+  most = h.most;
+  below = λ i lt. below_falls o is wanted place i lower (omega (arith, lt)) (omega (arith, to, h.most));
+  above = h.above;
+}
+
+pub span_of_all : (o : Ordered) (wanted : ℕ) → IsSpan o wanted 0 (length o.rows)
+span_of_all o wanted = record {
+  in_order = omega arith;
+  most = omega arith;
+  below = λ i none. absurd (omega (arith, none));
+  above = λ i le i_in. absurd (omega (arith, le, i_in));
+}
 
 -- one step of the climb: the row below `above` does not cover the key, so what covers the key covers that row
 pub climb_step : (o : Ordered) (parents key : List ℕ) (from above : ℕ) → AreParents o parents → 0 < above → above ≤ from → from ≤ length parents →

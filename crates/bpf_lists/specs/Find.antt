@@ -5,7 +5,10 @@ use Rattle.std.specs.Prelude.{length, drop, slice_get}
 use Rattle.bpf_note.specs.declared.key.Kind.{Kind}
 use Rattle.bpf_note.specs.declared.key.Kind.TheVariants.{Exact, Prefix}
 use Rattle.bpf_note.specs.Keys.{size, word, bits_of}
+use Rattle.bpf_note.specs.Bytes.{number_of}
 use Rattle.bpf_lists.specs.Keys.{Keyed, first, row, count}
+use Rattle.bpf_lists.specs.declared.list.MapList.{MapList}
+use Rattle.bpf_lists.specs.declared.list.MapList.TheVariants.{Rows, Constants}
 
 -- whether two lists of bytes are the same
 abbrev pub are_same : List ℕ → List ℕ → Bool
@@ -34,12 +37,17 @@ found_among kind keys key (suc n) =
 abbrev pub row_for : Keyed → List ℕ → Option ℕ
 row_for keyed key = found_among keyed.kind keyed.keys key (count keyed.kind keyed.keys)
 
--- a list that isn't there has no row for a key, nor has one whose keys are of another size
-abbrev pub found_in : Option (Option Keyed) → List ℕ → Option ℕ
+-- what a list has for a key: a row if its keys are of that size, or of constants the byte at the place that a __u32 names
+abbrev pub listed_in : MapList → List ℕ → Option ℕ
+listed_in (Rows keyed) key = if length key == size keyed.kind then row_for keyed key else None
+listed_in (Constants bytes) key = if length key == 4 then slice_get bytes (number_of key) else None
+
+-- a list that isn't there has nothing
+abbrev pub found_in : Option (Option MapList) → List ℕ → Option ℕ
 found_in None key = None
 found_in (Some None) key = None
-found_in (Some (Some keyed)) key = if length key == size keyed.kind then row_for keyed key else None
+found_in (Some (Some list)) key = listed_in list key
 
 -- what the lists of a program's maps answer, by the number of the map
-abbrev pub find_in : List (Option Keyed) → ℕ → List ℕ → Option ℕ
+abbrev pub find_in : List (Option MapList) → ℕ → List ℕ → Option ℕ
 find_in lists m key = found_in (slice_get lists m) key

@@ -1,7 +1,7 @@
 -- For proofs: no claim rests on this file.
 -- Rows in the order of their data, and of those with the same data the shorter first. So the rows that a row's prefix covers
 -- follow it.
-use Rattle.std.specs.Prelude.{ℕ, ◌≡◌, ◌+◌, ◌-◌, ◌*◌, ◌^◌, ◌<◌, ◌≤◌, List, length, slice_index, min}
+use Rattle.std.specs.Prelude.{ℕ, ◌≡◌, ◌+◌, ◌-◌, ◌*◌, ◌^◌, ◌<◌, ◌≤◌, List, take, length, slice_index, min}
 use Rattle.bpf_note.specs.declared.key.Kind.{Kind}
 use Rattle.bpf_note.specs.Keys.{data_of, bits_of}
 use Rattle.bpf_lists.specs.Keys.{value, first, row, count}
@@ -67,3 +67,19 @@ pub record AreSorted (kind : Kind) (keys : List ℕ) (rows : List ℕ) : Type 0 
 abbrev pub Differ : Kind → List ℕ → List ℕ → Type 0
 Differ kind keys rows = (place : ℕ) → place + 1 < length rows →
     IsSame kind (row kind keys (slice_index rows place)) (row kind keys (slice_index rows (place + 1))) → ⊥
+
+-- the number of the first eight bytes of data, or of all if there are fewer
+abbrev pub lead : List ℕ → ℕ
+lead bytes = value (take 8 bytes)
+
+-- that number for each place
+pub record AreLeads (o : Ordered) (leads : List ℕ) : Type 0 where
+  pub long : length leads ≡ length o.rows
+  pub each : (place : ℕ) → place < length o.rows → slice_index leads place ≡ lead (data_of o.kind (at o place))
+
+-- a search of the first place whose data are above a number goes on from `low` to `high`
+pub record IsSpan (o : Ordered) (wanted low high : ℕ) : Type 0 where
+  pub in_order : low ≤ high
+  pub most : high ≤ length o.rows
+  pub below : (i : ℕ) → i < low → value (data_of o.kind (at o i)) ≤ wanted
+  pub above : (i : ℕ) → high ≤ i → i < length o.rows → wanted < value (data_of o.kind (at o i))

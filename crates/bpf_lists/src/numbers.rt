@@ -2,6 +2,7 @@
 ghost use Rattle.std.specs.Prelude.{◌≡◌, ◌-◌, ◌*◌, ◌%◌, ◌^◌, ◌≤◌, length, ◌↔◌, IsTrue, All};
 ghost use Rattle.std.specs.Ordering.{nat_cmp};
 ghost use Rattle.bpf_lists.specs.Keys.{value, first};
+ghost use Rattle.bpf_lists.specs.Order.{lead};
 
 use std::cmp::Ordering;
 
@@ -11,6 +12,20 @@ pub(crate) fn compare(a: &[u8], b: &[u8]) -> Ordering
     ensures { result ≡ nat_cmp (value a.now) (value b.now) }
 {
     (&a[..]).cmp(&&b[..])
+}
+
+/// How many bytes the number at the front of data has at most.
+const LEADING: usize = 8;
+
+/// The number of the first eight bytes, or of all if there are fewer.
+pub(crate) fn lead(bytes: &[u8]) -> u64
+    ensures { result ≡ lead bytes.now }
+{
+    let mut number = 0;
+    for at in 0..bytes.len().min(LEADING) {
+        number = number * 256 + u64::from(bytes[at]);
+    }
+    number
 }
 
 /// Whether the first `bits` bits of two data of one length are the same.

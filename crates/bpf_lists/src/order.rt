@@ -1,9 +1,10 @@
 //! Rows in the order of their data, and the search among them.
 ghost use Rattle.std.specs.Prelude.{◌≡◌, ◌+◌, ◌-◌, ◌*◌, ◌<◌, ◌≤◌, ℕ, length, slice_index, ◌↔◌, IsTrue, ◌⊎◌};
-ghost use Rattle.bpf_note.specs.Keys.{size as size_of, data_of};
+ghost use Rattle.bpf_note.specs.Keys.{size as size_of, width as width_of, data_of};
 ghost use Rattle.bpf_lists.specs.Keys.{value};
-ghost use Rattle.bpf_lists.specs.Order.{at as key_of, IsOrdered, Covers, Reaches, AreParents};
+ghost use Rattle.bpf_lists.specs.Order.{at as key_of, lead as lead_of, IsOrdered, Covers, Reaches, AreParents, AreLeads, IsSpan};
 
+use crate::starts::Starts;
 use crate::{keys, numbers};
 use bpf_note::Kind;
 use std::marker::Model;
@@ -14,6 +15,13 @@ pub(crate) struct Order {
     pub(crate) kind: Kind,
     pub(crate) keys: Vec<u8>,
     pub(crate) rows: Vec<u32>,
+}
+
+/// The places among which a search goes on.
+#[derive(Clone, Copy)]
+struct Span {
+    low: usize,
+    high: usize,
 }
 
 impl Model for Order {
@@ -43,6 +51,13 @@ impl Order {
         self.kind
     }
 
+    /// The keys, one after the other.
+    pub(crate) fn keys(&self) -> &[u8]
+        ensures { result.now ≡ self.now.keys }
+    {
+        self.keys.as_slice()
+    }
+
     /// The row at a place.
     pub(crate) fn row(&self, place: usize) -> u32
         requires { place < length self.now.rows }
@@ -69,27 +84,81 @@ impl Order {
         keys::covers(self.kind(), self.key(place), key)
     }
 
+    /// The data of the row at a place.
+    pub(crate) fn data_at(&self, place: usize) -> &[u8]
+        requires { place < length self.now.rows }
+        ensures value { result.now ≡ data_of self.now.kind (key_of self.now place) }
+        ensures len { length result.now ≡ width_of self.now.kind }
+    {
+        self.kind().data_bytes(self.key(place))
+    }
+
+    /// Whether the data at a place are above these, by the numbers at their fronts where these differ.
+    fn is_above(&self, leads: &[u64], place: usize, lead: u64, wanted: &[u8]) -> bool
+        requires place { place < length self.now.rows }
+        requires leads { AreLeads self.now leads.now }
+        requires lead { lead ≡ lead_of wanted.now }
+        requires wanted { length wanted.now ≡ width_of self.now.kind }
+        ensures { IsTrue result ↔ (value wanted.now < value (data_of self.now.kind (key_of self.now place))) }
+    {
+        // Only the proof uses what this call ensures: the rows are in order.
+        let _kind = self.kind();
+        if leads[place] != lead {
+            return lead < leads[place];
+        }
+        numbers::compare(self.data_at(place), wanted).is_gt()
+    }
+
+    /// The places that are left of a span once the row at this place is known, or the span if the place isn't in it.
+    fn probed(&self, leads: &[u64], span: Span, place: usize, lead: u64, wanted: &[u8]) -> Span
+        requires leads { AreLeads self.now leads.now }
+        requires lead { lead ≡ lead_of wanted.now }
+        requires wanted { length wanted.now ≡ width_of self.now.kind }
+        requires span { IsSpan self.now (value wanted.now) span.low span.high }
+        ensures span { IsSpan self.now (value wanted.now) result.low result.high }
+        ensures less { span.low ≤ place → place < span.high → result.high - result.low < span.high - span.low }
+    {
+        // Only the proof uses what this call ensures: the rows are in order.
+        let _kind = self.kind();
+        if place < span.low || span.high <= place {
+            return span;
+        }
+        if self.is_above(leads, place, lead, wanted) {
+            Span {
+                low: span.low,
+                high: place,
+            }
+        } else {
+            Span {
+                low: place + 1,
+                high: span.high,
+            }
+        }
+    }
+
     /// The first place whose row's data are above those of the key.
-    pub(crate) fn first_above(&self, key: &[u8]) -> usize
-        requires { length key.now ≡ size_of self.now.kind }
+    pub(crate) fn first_above(&self, leads: &[u64], starts: &Starts, key: &[u8]) -> usize
+        requires leads { AreLeads self.now leads.now }
+        requires key { length key.now ≡ size_of self.now.kind }
         ensures most { result ≤ length self.now.rows }
         ensures low { (i : ℕ) → i < result → value (data_of self.now.kind (key_of self.now i)) ≤ value (data_of self.now.kind key.now) }
         ensures high { (i : ℕ) → result ≤ i → i < length self.now.rows →
             value (data_of self.now.kind key.now) < value (data_of self.now.kind (key_of self.now i)) }
     {
-        let kind = self.kind();
-        let wanted = kind.data_bytes(key);
-        let mut low = 0;
-        let mut high = self.len();
-        while low < high {
-            let middle = low + (high - low) / 2;
-            if numbers::compare(kind.data_bytes(self.key(middle)), wanted).is_gt() {
-                high = middle;
-            } else {
-                low = middle + 1;
-            }
+        let wanted = self.kind().data_bytes(key);
+        let lead = numbers::lead(wanted);
+        let (before, after) = starts.around(lead);
+        let all = Span {
+            low: 0,
+            high: self.len(),
+        };
+        let first = self.probed(leads, all, before, lead, wanted);
+        let mut span = self.probed(leads, first, after, lead, wanted);
+        while span.low < span.high {
+            let middle = span.low + (span.high - span.low) / 2;
+            span = self.probed(leads, span, middle, lead, wanted);
         }
-        low
+        span.low
     }
 
     /// Goes from the place below `from` to the rows that cover its row, up to one that covers the key. One above its place, or 0.

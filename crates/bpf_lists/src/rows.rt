@@ -3,10 +3,13 @@ ghost use Rattle.std.specs.Prelude.{◌≡◌, length, IfOk, IfErr, ℕ, List, O
 ghost use Rattle.bpf_note.specs.Keys.{size as size_of};
 ghost use Rattle.bpf_lists.specs.Keys.{IsFound};
 ghost use Rattle.bpf_lists.specs.Find.{row_for};
+ghost use Rattle.bpf_lists.specs.Chains.{IsTold};
 ghost use Rattle.bpf_lists.specs.Refusals.{AreListed, IsRefused};
 
+use crate::chains::{Chains, Probe};
 use crate::order::Order;
 use crate::refusal::Refusal;
+use crate::starts::Starts;
 use crate::{keys, sorting};
 use bpf_note::Kind;
 use std::alloc::Global;
@@ -17,18 +20,23 @@ use std::marker::Model;
 pub struct KeyedRows {
     order: Order,
     parents: Vec<u32>,
+    leads: Vec<u64>,
+    starts: Starts,
+    chains: Option<Chains>,
 }
 
 impl Model for KeyedRows {
-    ghost use Rattle.std.specs.Prelude.{◌≡◌, length};
+    ghost use Rattle.std.specs.Prelude.{◌≡◌, length, IfSome};
     ghost use Rattle.bpf_lists.specs.Keys.{Keyed};
-    ghost use Rattle.bpf_lists.specs.Order.{AreParents};
+    ghost use Rattle.bpf_lists.specs.Order.{AreParents, AreLeads};
+    ghost use Rattle.bpf_lists.specs.Chains.{AreChained};
 
     ghost Value = { Keyed };
 
     ghost view = { λ t. record { kind = t.order.kind; keys = t.order.keys } };
 
-    ghost invariant = { λ t. (length t.parents.items ≡ length t.order.rows) × AreParents t.order t.parents.items };
+    ghost invariant = { λ t. (length t.parents.items ≡ length t.order.rows) × AreParents t.order t.parents.items × AreLeads t.order t.leads.items
+        × IfSome t.chains (λ c. AreChained t.order.kind t.order.keys c.heads.items c.links.items) };
 }
 
 impl KeyedRows {
@@ -43,7 +51,16 @@ impl KeyedRows {
         keys::check_rows(kind, keys, count)?;
         let order = sorting::order(alloc, kind, keys, count)?;
         let parents = sorting::parents(alloc, &order)?;
-        Ok(KeyedRows { order, parents })
+        let leads = sorting::leads(alloc, &order)?;
+        let starts = Starts::make(alloc, &order, leads.as_slice())?;
+        let chains = Chains::of(alloc, &order)?;
+        Ok(KeyedRows {
+            order,
+            parents,
+            leads,
+            starts,
+            chains,
+        })
     }
 
     /// The kind of the keys.
@@ -68,11 +85,35 @@ impl KeyedRows {
         requires { length key.now ≡ size_of self.now.kind }
         ensures { IsFound self.now.kind self.now.keys key.now result }
     {
+        match self.probe(key) {
+            Probe::Row(row) => Some(row),
+            Probe::Absent => None,
+            Probe::Unknown => self.search(key),
+        }
+    }
+
+    /// What the key's chain says of it. Prefixes have no chains.
+    fn probe(&self, key: &[u8]) -> Probe
+        ensures { IsTold self.now.kind self.now.keys key.now result }
+    {
+        match &self.chains {
+            Some(chains) => chains.find(self.order.kind(), self.order.keys(), key),
+            None => Probe::Unknown,
+        }
+    }
+
+    /// The same by a search among all rows.
+    fn search(&self, key: &[u8]) -> Option<u32>
+        requires { length key.now ≡ size_of self.now.kind }
+        ensures { IsFound self.now.kind self.now.keys key.now result }
+    {
         let kind = self.order.kind();
         if kind.data_bits(key) as usize > 8 * kind.width() {
             return None;
         }
-        let from = self.order.first_above(key);
+        let from = self
+            .order
+            .first_above(self.leads.as_slice(), &self.starts, key);
         let above = self.order.climb(self.parents.as_slice(), from, key);
         if above == 0 {
             return None;

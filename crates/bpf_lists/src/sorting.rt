@@ -5,7 +5,7 @@ ghost use Rattle.std.specs.List.{range_with_len};
 ghost use Rattle.bpf_note.specs.Keys.{size as size_of};
 ghost use Rattle.bpf_lists.specs.Keys.{row as row_of, count as count_of};
 ghost use Rattle.bpf_lists.specs.Refusals.{AreRows, AreListed, IsRefused};
-ghost use Rattle.bpf_lists.specs.Order.{AreParents, AreSorted, spot, Differ};
+ghost use Rattle.bpf_lists.specs.Order.{AreParents, AreLeads, AreSorted, spot, Differ};
 
 use crate::order::Order;
 use crate::refusal::Refusal;
@@ -96,4 +96,15 @@ pub(crate) fn parents(alloc: Global, order: &Order) -> Result<Vec<u32>, AllocErr
         parents.push(parent as u32)?;
     }
     Ok(parents)
+}
+
+/// For each place the number at the front of its row's data.
+pub(crate) fn leads(alloc: Global, order: &Order) -> Result<Vec<u64>, AllocError>
+    ensures { IfOk result (λ leads. AreLeads order.now leads.items) }
+{
+    let mut leads = Vec::with_capacity(alloc, order.len())?;
+    for place in 0..order.len() {
+        leads.push(numbers::lead(order.data_at(place)))?;
+    }
+    Ok(leads)
 }

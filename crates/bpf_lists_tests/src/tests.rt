@@ -1,4 +1,5 @@
 mod exact;
 mod growth;
+mod many;
 mod prefixes;
 mod refusals;

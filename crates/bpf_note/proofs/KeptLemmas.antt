@@ -2,7 +2,7 @@
 use Rattle.std.proofs.Common.{◌≡◌, ℕ, suc, ◌+◌, ◌-◌, ◌<◌, ◌≤◌, refl, None, List, [], ◌∷◌, ◌++◌, sym, ap, ◌∙◌, arith, subst, length, take, drop, set, get_or, Bool, true, append_assoc}
 use Rattle.std.specs.Prelude.{if◌then◌else◌}
 use Rattle.std.proofs.Math.Seq.{take-suc, take-append-add}
-use Rattle.std.proofs.lemmas.List.{take-append-drop, take_more_set, drop-set-lt, take-append-le, take-take, length-take-le, length-append}
+use Rattle.std.proofs.lemmas.List.{take_more_set, drop-set-lt, take-append-le, take-take, length-take-le, length-append}
 use Rattle.bpf_note.specs.declared.bound.Bound.{Bound}
 use Rattle.bpf_note.specs.Parts.{IsNormal}
 use Rattle.bpf_note.specs.Bounds.{AreJoined, IsJoinedFront, says, with_said, alone, paired}

@@ -1,11 +1,12 @@
 -- Stated: claims rest on this file.
 -- By what the values of a map are looked up, as in Linux's bpf.h: an array's by their numbers (BPF_MAP_TYPE_ARRAY, keys of four bytes), a list's by
--- keys of bytes that are all the same (BPF_MAP_TYPE_HASH), or by prefixes (BPF_MAP_TYPE_LPM_TRIE, keys as `bpf_lpm_trie_key`).
+-- keys of bytes that are all the same (BPF_MAP_TYPE_HASH), or by prefixes (BPF_MAP_TYPE_LPM_TRIE, keys as `bpf_lpm_trie_key`). Constants are an array
+-- that programs only read (BPF_F_RDONLY_PROG), by the address of its value.
 use Rattle.std.specs.Prelude.{ℕ, ◌+◌, ◌*◌, ◌≤◌, List, drop, slice_index}
 use Rattle.bpf_note.specs.declared.key.Kind.{Kind}
 use Rattle.bpf_note.specs.declared.key.Kind.TheVariants.{Exact, Prefix}
 use Rattle.bpf_note.specs.declared.key.MapKey.{MapKey}
-use Rattle.bpf_note.specs.declared.key.MapKey.TheVariants.{Index, Listed}
+use Rattle.bpf_note.specs.declared.key.MapKey.TheVariants.{Index, Listed, Constants}
 
 -- how many bytes of data a key has
 abbrev pub width : Kind → ℕ
@@ -39,8 +40,16 @@ bits_of (Prefix bytes) key = word key
 abbrev pub key_size : MapKey → ℕ
 key_size Index = 4
 key_size (Listed kind) = size kind
+key_size (Constants bytes) = 4
+
+-- how many bytes of constants a map has
+abbrev pub constant_bytes : MapKey → ℕ
+constant_bytes Index = 0
+constant_bytes (Listed kind) = 0
+constant_bytes (Constants bytes) = bytes
 
 -- the limits of this profile
 abbrev pub IsKey : MapKey → Type 0
 IsKey Index = Unit {0}
 IsKey (Listed kind) = IsKind kind
+IsKey (Constants bytes) = bytes ≤ 65536

@@ -3,6 +3,7 @@ pub mod Shape
 pub mod State
 pub mod Bytes
 pub mod Regions
+pub mod Constants
 pub mod Narrow
 pub mod History
 pub mod Facts

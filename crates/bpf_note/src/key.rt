@@ -1,6 +1,6 @@
 //! By what the values of a map are looked up.
 ghost use Rattle.std.specs.Prelude.{◌≡◌, ◌≤◌, ◌+◌, length, ◌↔◌, IsTrue};
-ghost use Rattle.bpf_note.specs.Keys.{size as size_of, width as width_of, data_of, bits_of, key_size, IsKind, IsKey};
+ghost use Rattle.bpf_note.specs.Keys.{size as size_of, width as width_of, data_of, bits_of, key_size, constant_bytes, IsKind, IsKey};
 
 /// What the keys of a map with a list are, each with its number of bytes of data, from 1 to 64.
 #[derive(Clone, Copy, Debug, PartialEq, Eq)]
@@ -74,27 +74,43 @@ pub enum MapKey {
     Index,
     /// By the keys of a list that is given beside the program: value `k` is that of the list's row `k`.
     Listed(Kind),
+    /// By nothing: the map is so many bytes of constants, which are given beside the program. A lookup finds nothing.
+    Constants(u32),
 }
 
 impl MapKey {
+    /// The most bytes of constants of a map.
+    pub const MOST_CONSTANTS: u32 = 65536;
+
     /// Returns the number of bytes of a key.
     pub fn size(&self) -> u32
         ensures value { result ≡ key_size self.now }
         ensures few { result ≤ 4 + 255 }
     {
         match self {
-            MapKey::Index => 4,
+            MapKey::Index | MapKey::Constants(_) => 4,
             MapKey::Listed(kind) => kind.size() as u32,
         }
     }
 
-    /// Whether the keys of a list have 1 to 64 bytes of data.
+    /// Returns the number of bytes of constants.
+    pub fn constant_bytes(&self) -> u32
+        ensures { result ≡ constant_bytes self.now }
+    {
+        match self {
+            MapKey::Index | MapKey::Listed(_) => 0,
+            MapKey::Constants(bytes) => *bytes,
+        }
+    }
+
+    /// Whether the keys of a list have 1 to 64 bytes of data, and constants at most 65,536 bytes.
     pub fn is_supported(&self) -> bool
         ensures { IsTrue result ↔ IsKey self.now }
     {
         match self {
             MapKey::Index => true,
             MapKey::Listed(kind) => kind.is_supported(),
+            MapKey::Constants(bytes) => *bytes <= MapKey::MOST_CONSTANTS,
         }
     }
 }

@@ -1,6 +1,7 @@
 //! What the verifier knows at a point of a program, and the machine that it speaks of.
 //!
-//! - `key`, `shape`, `op`, `layout`: the machine: how a map is looked up in and how large it is, what a program does to counters, and where memory lies
+//! - `key`, `shape`, `op`, `layout`, `constants`: the machine: how a map is looked up in and how large it is, what a program does to counters, and where
+//!   memory and constants lie
 //! - `val`, `slot`, `slots`: what is known of a register and of eight bytes of the stack, and what is done to these
 //! - `bound`, `bounds`: what is known of ids, and lists of it; `chunk`, `chunks`, `shared`, `fingerprint`: how notes share
 //!   these lists
@@ -13,6 +14,7 @@ mod bound;
 mod bounds;
 mod chunk;
 mod chunks;
+mod constants;
 mod fingerprint;
 mod joins;
 mod key;
@@ -28,6 +30,9 @@ mod slots;
 mod spares;
 mod val;
 
+pub use constants::{
+    CONSTANTS_START, CONSTANTS_STRIDE, constants_are_found, constants_left, constants_lie_apart,
+};
 pub use joins::{covers, join, join_in_place};
 pub use key::{Kind, MapKey};
 pub use laws::{

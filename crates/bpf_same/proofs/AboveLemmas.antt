@@ -4,9 +4,9 @@ use Rattle.std.specs.Prelude.{if◌then◌else◌, ◌==◌, nat_le, nat_lt, ◌
 use Rattle.std.proofs.lemmas.Bool.Decides.{nat_tests}
 use Rattle.std.proofs.lemmas.Int.{ints}
 use Rattle.bpf_note.specs.declared.val.Val.{Val}
-use Rattle.bpf_note.specs.declared.val.Val.TheVariants.{Pkt, Stack, Ctx, Value}
+use Rattle.bpf_note.specs.declared.val.Val.TheVariants.{Num, Pkt, Stack, Ctx, Value}
 use Rattle.bpf_note.specs.Shape.{Shape, IsShape, AreShapes, most_maps}
-use Rattle.bpf_note.specs.State.{State, packet_start, stack_start, stack_end, context_start, values_start}
+use Rattle.bpf_note.specs.State.{State, packet_start, stack_start, stack_end, context_start, constants_start, values_start}
 use Rattle.bpf_note.specs.Regions.{InPacket, InStack, InContext, InCounter, Nowhere, region, lies_in, map_near, map_offset, counter_address, counter_at, counter_in, counter_past, counter_from}
 use Rattle.bpf_note.specs.Facts.{Facts}
 use Rattle.bpf_note.specs.Describes.{Describes, Meaning, meaning, Reads, IsReading, IsValueOf}
@@ -109,6 +109,12 @@ value_above low n s k m z o d v short = λ a j e is.
     let r = read w (Value m) (s.reg k) a (subst (λ (v : Val). Reads w v (s.reg k)) v (d.regs k)) e in
     let b = value_bounds s.shapes m a (slice_get s.shapes m) refl d.state.shapes d.state.maps r in
     far low s a z j o short (omega (arith, b.0)) b.1 (inr (omega (arith, b.0))) is
+
+pub constants_above : (low : ℕ) (n : Facts) (s : State) (k lo hi z : ℕ) (o : ℤ) → Describes n s → n.reg k ≡ Num lo hi → IsShort o → (constants_start ≤ lo) × (hi < values_start) → IsAbove low s (s.reg k) o z
+constants_above low n s k lo hi z o d v short there = λ a j e is.
+    let w = meaning s d.base d.address in
+    let r = read w (Num lo hi) (s.reg k) a (subst (λ (v : Val). Reads w v (s.reg k)) v (d.regs k)) e in
+    far low s a z j o short (omega (arith, r.0, there.0)) (omega (arith, r.1, there.1)) (inr (omega (arith, r.0, there.0))) is
 
 stack_at : (low x j : ℕ) (at o q : ℤ) (s : State) (z : ℕ) → pos x ≡ pos stack_end +ℤ at → x < 2 ^ 64 → q ≡ (pos 512 +ℤ at) +ℤ o → pos low ≤ℤ q → q ≤ℤ pos 0x100000 → reached s x o z ≡ InStack j → low ≤ j
 stack_at low x j at o (pos q) s z e fits is l most there =

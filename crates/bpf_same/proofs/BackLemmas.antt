@@ -10,7 +10,7 @@ use Rattle.bpf_verify.specs.Consistent.{Accepted, instructions}
 use Rattle.bpf_vm.specs.Course.{IsWhole, course, course_by}
 use Rattle.bpf_vm.specs.Run.{Walk, ends, goes}
 use Rattle.bpf_same.specs.Same.{operations, Runs, IsSame}
-use Rattle.bpf_same.proofs.SimulationLemmas.{before}
+use Rattle.bpf_same.proofs.TraceLemmas.{before}
 
 -- what an operation found
 abbrev pub found : Op → ℕ

@@ -1,9 +1,9 @@
 -- Bounds: what lies in a range before a step, and what a step leaves of that.
-use Rattle.std.proofs.Common.{ℕ, ◌+◌, ◌-◌, ◌%◌, ◌^◌, ◌≡◌, ◌<◌, ◌≤◌, sym, ap, ◌∙◌, subst, arith, Option, None, Some, Bool}
+use Rattle.std.proofs.Common.{ℕ, ◌+◌, ◌-◌, ◌%◌, ◌^◌, ◌≡◌, ◌<◌, ◌≤◌, sym, ◌∙◌, subst, arith, Option, None, Some, Bool}
 use Rattle.std.specs.Prelude.{IfSome}
 use Rattle.bpf_insn.specs.declared.insn.Insn.{Insn}
 use Rattle.bpf_note.specs.declared.val.Val.{Val}
-use Rattle.bpf_note.specs.State.{State, packet_start}
+use Rattle.bpf_note.specs.State.{packet_start}
 use Rattle.bpf_note.specs.Facts.{Facts}
 use Rattle.bpf_same.specs.declared.linear_form.LinearForm.{LinearForm}
 use Rattle.bpf_same.specs.declared.relation.Relation.{Relation}

@@ -1,6 +1,6 @@
 -- A count: a load of a counter, additions and a store, beside one addition.
-use Rattle.std.proofs.Common.{ℕ, ◌+◌, ◌%◌, ◌^◌, ◌≡◌, ◌≢◌, ◌<◌, ◌⊎◌, inl, inr, refl, sym, ap, ◌∙◌, subst, arith, ℤ, pos, List, ◌∷◌, length, Option, None, Some, Bool, true, false}
-use Rattle.std.specs.Prelude.{if◌then◌else◌, ◌==◌, slice_get, IfSome}
+use Rattle.std.proofs.Common.{ℕ, ◌+◌, ◌-◌, ◌%◌, ◌^◌, ◌≡◌, ◌≢◌, ◌<◌, ◌≤◌, ◌⊎◌, inl, inr, refl, sym, ap, ◌∙◌, subst, arith, ℤ, pos, List, ◌∷◌, length, Option, None, Some, Bool, true, false}
+use Rattle.std.specs.Prelude.{if◌then◌else◌, ◌==◌, ◌&&◌, nat_le, slice_get, IfSome}
 use Rattle.std.specs.Bool.{then_some}
 use Rattle.std.proofs.lemmas.Bool.{cases_eq}
 use Rattle.std.proofs.lemmas.Bool.Decides.{nat_tests}
@@ -16,11 +16,11 @@ use Rattle.bpf_insn.specs.declared.size.Size.TheVariants.{Double}
 use Rattle.bpf_insn.specs.declared.insn.Insn.{Insn}
 use Rattle.bpf_insn.specs.declared.insn.Insn.TheVariants.{Alu, Neg, End, MovSx, Const, MapRef, Ldx, St, Stx, AddCounter, Ja, Jump, Call, Exit, Second}
 use Rattle.bpf_note.specs.Shape.{Shape}
-use Rattle.bpf_note.specs.State.{State, put}
-use Rattle.bpf_note.specs.Regions.{Place, InPacket, InStack, InContext, InCounter, Nowhere, region}
+use Rattle.bpf_note.specs.State.{State, put, packet_start, stack_start, stack_end, context_start, values_start}
+use Rattle.bpf_note.specs.Regions.{Place, InPacket, InStack, InContext, InCounter, Nowhere, region, lies_in, counter_from}
 use Rattle.bpf_note.specs.declared.op.Op.{Op}
 use Rattle.bpf_note.specs.declared.op.Op.TheVariants as ops
-use Rattle.bpf_flow.specs.Step.{Outcome, Next, Loads, Exited, Fault, need, at_slot, with_number, is_frame, written, operand, first_operand, address, reached, load_from, add_to, exec, step, LeadsTo}
+use Rattle.bpf_flow.specs.Step.{Outcome, Next, Loads, Exited, Fault, need, at_slot, with_number, is_frame, written, operand, first_operand, address, reached, load_from, load_at, add_to, exec, step, LeadsTo}
 use Rattle.bpf_flow.specs.Graph.{Leads, next_slot}
 use Rattle.bpf_flow.proofs.EdgeLemmas.{exec_leads}
 use Rattle.bpf_flow.proofs.KeptLemmas.{kept}
@@ -37,8 +37,10 @@ use Rattle.bpf_same.specs.Stepped.{alters, AreAlike}
 use Rattle.bpf_same.specs.Fused as fused
 use Rattle.bpf_same.specs.Fused.{Plan, Alike, Ahead, Shadows, live_at, IsOutside, IsWalked, ReachesAddition, IsInside, Counted, IsCount, ReadsWithin, Leaves, IsPlain, IsWritten, IsCounted, IsAddition, IsAdded, IsStep, IsLoaded}
 use Rattle.bpf_same.proofs.StepLemmas.{needed_is, written_is, put_here}
-use Rattle.bpf_same.proofs.SimulationLemmas.{load_exits}
-use Rattle.bpf_same.proofs.OwnLemmas.{load_is, counter_size}
+use Rattle.bpf_same.proofs.SimulationLemmas.{load_at_exits}
+use Rattle.bpf_note.proofs.ConstantLemmas.{none_above}
+use Rattle.bpf_flow.proofs.ConstantLemmas.{plain_load}
+use Rattle.bpf_same.proofs.OwnLemmas.{read_is, counter_size}
 use Rattle.bpf_same.proofs.PairLemmas.{put_left}
 use Rattle.bpf_same.proofs.TogetherLemmas.{together, next_is, alike_reads, step_is}
 
@@ -75,7 +77,7 @@ no_label (MovSx wide bits dst src) s l u p h = needed (s.reg (number src)) _ l u
 no_label (Const dst value) s l u p h = (written_is s (s.pc + 2) (number dst) value l u h).0
 no_label (MapRef dst m) s l u p h = (written_is s (s.pc + 2) (number dst) _ l u h).0
 no_label (Ldx size signed dst src off) s l u p h = needed (s.reg (number src)) _ l u (λ a h.
-    (load_is (reached s a off (size_bytes size)) s signed size (number dst) l u (λ m k j at. p (counter_size (length s.packet) s.shapes (address a off) (size_bytes size) m k j at)) h).done.0) h
+    (read_is s (address a off) signed size (number dst) l u (λ m k j at. p (counter_size (length s.packet) s.shapes (address a off) (size_bytes size) m k j at)) h).done.0) h
 no_label (St size dst off imm) s l u p h = absurd p
 no_label (Stx size dst src off) s l u p h = absurd p
 no_label (AddCounter fetch dst src off) s l u p h = absurd p
@@ -104,7 +106,7 @@ not_ended (End kind width dst) s r0 h e = need_exits (s.reg (number dst)) _ r0 (
 not_ended (MovSx wide bits dst src) s r0 h e = need_exits (s.reg (number src)) _ r0 (λ x e. written_exits s (s.pc + 1) (number dst) _ r0 e) e
 not_ended (Const dst value) s r0 h e = written_exits s (s.pc + 2) (number dst) value r0 e
 not_ended (MapRef dst m) s r0 h e = written_exits s (s.pc + 2) (number dst) _ r0 e
-not_ended (Ldx size signed dst src off) s r0 h e = need_exits (s.reg (number src)) _ r0 (λ a e. load_exits (reached s a off (size_bytes size)) s signed size (number dst) r0 e) e
+not_ended (Ldx size signed dst src off) s r0 h e = need_exits (s.reg (number src)) _ r0 (λ a e. load_at_exits s (address a off) signed size (number dst) r0 e) e
 not_ended (St size dst off imm) s r0 h e = h
 not_ended (Stx size dst src off) s r0 h e = h
 not_ended (AddCounter fetch dst src off) s r0 h e = h
@@ -436,12 +438,27 @@ zero_moved = refl
 as_loaded : (found x : ℕ) → found < 2 ^ 64 → x ≡ 0 → Some found ≡ Some ((found + x) % 2 ^ 64)
 as_loaded found x l e = ap Some (omega (arith, l, e))
 
+-- a counter lies where the maps' values do
+counter_low : (len : ℕ) (shapes : List Shape) (a z m k j : ℕ) → region len shapes a z ≡ InCounter m k j → values_start ≤ a
+unfolding region
+counter_low len shapes a z m k j e = by (lies_in packet_start (packet_start + len) a z) (lies_in stack_start stack_end a z) (lies_in context_start (context_start + 20) a z && z == 4 && a % 4 == 0) (z == 8) (nat_le values_start a) refl e
+  where
+    by : (p s c t v : Bool) → nat_le values_start a ≡ v → (if p then InPacket (a - packet_start) else if s then InStack (a - stack_start) else if c then InContext (a - context_start) else if t then (if v then counter_from shapes (a - values_start) else Nowhere) else Nowhere) ≡ InCounter m k j → values_start ≤ a
+    by true s c t v f e = cc
+    by false true c t v f e = cc
+    by false false true t v f e = cc
+    by false false false true true f e = grind (arith, nat_tests)
+    by false false false true false f e = cc
+    by false false false false v f e = cc
+
 load_leads : (t : State) (dst base : Register) (off : ℤ) (a m k j found : ℕ) → t.reg (number base) ≡ Some a → reached t a off 8 ≡ InCounter m k j → is_frame (number dst) ≡ false → found < 2 ^ 64 →
     LeadsTo (exec (Ldx Double false dst base off) t) (Some (ops.Load m k j found)) (with_number t (t.pc + 1) (number dst) found)
 load_leads t dst base off a m k j found held place frame l =
-    subst (λ (o : Option ℕ). LeadsTo (need o (λ a. load_from (reached t a off 8) t false Double (number dst))) (Some (ops.Load m k j found)) (with_number t (t.pc + 1) (number dst) found)) (sym held)
+    let none = none_above t.shapes (address a off) (counter_low (length t.packet) t.shapes (address a off) 8 m k j place) in
+    subst (λ (o : Option ℕ). LeadsTo (need o (λ a. load_at t (address a off) false Double (number dst))) (Some (ops.Load m k j found)) (with_number t (t.pc + 1) (number dst) found)) (sym held)
+    (subst (λ (o : Outcome). LeadsTo o (Some (ops.Load m k j found)) (with_number t (t.pc + 1) (number dst) found)) (sym (plain_load t (address a off) false Double (number dst) none))
     (subst (λ (p : Place). LeadsTo (load_from p t false Double (number dst)) (Some (ops.Load m k j found)) (with_number t (t.pc + 1) (number dst) found)) (sym place)
-    (subst (λ (b : Bool). LeadsTo (if b then Fault else Loads m k j (λ x. with_number t (t.pc + 1) (number dst) x)) (Some (ops.Load m k j found)) (with_number t (t.pc + 1) (number dst) found)) (sym frame) (refl, refl, refl, l, refl)))
+    (subst (λ (b : Bool). LeadsTo (if b then Fault else Loads m k j (λ x. with_number t (t.pc + 1) (number dst) x)) (Some (ops.Load m k j found)) (with_number t (t.pc + 1) (number dst) found)) (sym frame) (refl, refl, refl, l, refl))))
 
 not_frame : (s : State) (pc k x : ℕ) (l : Option Op) (u : State) → LeadsTo (written s pc k x) l u → is_frame k ≡ false
 not_frame s pc k x l u h = by (is_frame k) h

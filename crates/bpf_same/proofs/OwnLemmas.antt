@@ -1,5 +1,5 @@
 -- What a step of the new program's own makes of what terms hold.
-use Rattle.std.proofs.Common.{ℕ, zero, suc, ◌+◌, ◌-◌, ◌*◌, ◌/◌, ◌%◌, ◌≡◌, ◌<◌, ◌≤◌, ◌^◌, ◌⊎◌, inl, inr, refl, sym, ap, ◌∙◌, subst, arith, ℤ, List, length, Option, None, Some, Bool, true, false, ◌&&◌, add-zero}
+use Rattle.std.proofs.Common.{ℕ, zero, suc, ◌+◌, ◌-◌, ◌*◌, ◌/◌, ◌%◌, ◌≡◌, ◌≢◌, ◌<◌, ◌≤◌, ◌^◌, ◌⊎◌, inl, inr, refl, sym, ap, ◌∙◌, subst, arith, ℤ, List, length, Option, None, Some, Bool, true, false, ◌&&◌, add-zero}
 use Rattle.std.specs.Prelude.{if◌then◌else◌, ◌==◌}
 use Rattle.std.proofs.lemmas.Bool.{cases_lt}
 use Rattle.std.proofs.lemmas.Bool.Decides.{nat_tests}
@@ -12,14 +12,17 @@ use Rattle.bpf_insn.specs.declared.size.Size.{Size}
 use Rattle.bpf_insn.specs.declared.size.Size.TheVariants.{Double}
 use Rattle.bpf_insn.specs.declared.insn.Insn.{Insn}
 use Rattle.bpf_insn.specs.declared.insn.Insn.TheVariants.{Alu, Neg, End, MovSx, Const, MapRef, Ldx, St, Stx, AddCounter, Ja, Jump, Call, Exit, Second}
+use Rattle.bpf_note.specs.Constants.{are_constants, constants_at}
+use Rattle.bpf_note.proofs.ConstantLemmas.{none_elsewhere}
+use Rattle.bpf_flow.proofs.ConstantLemmas.{plain_load}
 use Rattle.bpf_note.specs.State.{State, IsState, put, packet_start, stack_start, stack_end, context_start}
-use Rattle.bpf_note.specs.Bytes.{word_at, higher, byte_of, put_bytes}
+use Rattle.bpf_note.specs.Bytes.{number_of, word_at, higher, byte_of, put_bytes}
 use Rattle.bpf_note.specs.Regions.{Place, InPacket, InStack, InContext, InCounter, Nowhere, region, lies_in, counter_at}
 use Rattle.bpf_note.specs.Facts.{Facts}
 use Rattle.bpf_note.specs.Describes.{Describes}
 use Rattle.bpf_note.specs.declared.op.Op.{Op}
 use Rattle.bpf_note.specs.declared.op.Op.TheVariants as ops
-use Rattle.bpf_flow.specs.Step.{Next, need, with_number, with_stack, written, operand, first_operand, address, reached, loaded, load_from, store_to, exec, LeadsTo, taken}
+use Rattle.bpf_flow.specs.Step.{Outcome, Next, need, with_number, with_stack, written, operand, first_operand, address, reached, loaded, load_from, load_constants, load_at, store_to, exec, LeadsTo, taken}
 use Rattle.bpf_flow.proofs.StepLemmas.{no_fault, needed}
 use Rattle.bpf_flow.proofs.ReachLemmas.{region_stack}
 use Rattle.bpf_flow.proofs.RegisterLemmas.{number_small}
@@ -108,6 +111,19 @@ load_is (InContext i) s signed size dst l u e h = plain_is (InContext i) s signe
 load_is (InCounter m k j) s signed size dst l u e h = absurd (e m k j refl)
 load_is Nowhere s signed size dst l u e h = absurd (no_fault l u h)
 
+-- such a load, or one of constants
+pub record Read (s : State) (signed : Bool) (size : Size) (dst : ℕ) (l : Option Op) (u : State) : Type 0 where
+  pub x : ℕ
+  pub done : (l ≡ None) × (u ≡ with_number s (s.pc + 1) dst (taken signed size x))
+
+pub read_is : (s : State) (a : ℕ) (signed : Bool) (size : Size) (dst : ℕ) (l : Option Op) (u : State) → ((m k j : ℕ) → region (length s.packet) s.shapes a (size_bytes size) ≡ InCounter m k j → ⊥) →
+    LeadsTo (load_at s a signed size dst) l u → Read s signed size dst l u
+read_is s a signed size dst l u e h = by (are_constants s.shapes a (size_bytes size)) h
+  where
+    by : (b : Bool) → LeadsTo (if b then load_constants s a signed size dst else load_from (region (length s.packet) s.shapes a (size_bytes size)) s signed size dst) l u → Read s signed size dst l u
+    by true h = record { x = number_of (constants_at s.find a (size_bytes size)); done = written_is s (s.pc + 1) dst _ l u h }
+    by false h = let got = load_is (region (length s.packet) s.shapes a (size_bytes size)) s signed size dst l u e h in record { x = got.x; done = got.done }
+
 -- where a word of the new program's own lies
 word_reached : (s : State) (base : Register) (off : ℤ) (low w a : ℕ) → IsState s → IsWordAt base off low w → s.reg 10 ≡ Some stack_end → s.reg (number base) ≡ Some a → reached s a off 8 ≡ InStack (592 - 8 * w)
 word_reached s base off low w a st at frame e =
@@ -120,6 +136,9 @@ word_reached s base off low w a st at frame e =
 no_counter : (i m k j : ℕ) → InStack i ≡ InCounter m k j → ⊥
 no_counter i m k j e = cc
 
+not_nowhere : (i : ℕ) → InStack i ≡ Nowhere → ⊥
+not_nowhere i e = cc
+
 some_same : {x y : ℕ} → Some x ≡ Some y → x ≡ y
 some_same e = cc
 
@@ -128,7 +147,10 @@ own_loaded : (dst src : Register) (off : ℤ) (low w : ℕ) (s : State) (l : Opt
     held u (number dst) ≡ held s w
 own_loaded dst src off low w s l u st at frame h = needed_is (s.reg (number src)) _ l u (λ a e h.
     let r = word_reached s src off low w a st at frame e in
-    let got = load_is (InStack (592 - 8 * w)) s false Double (number dst) l u (no_counter (592 - 8 * w)) (subst (λ (place : Place). LeadsTo (load_from place s false Double (number dst)) l u) r h) in
+    let there : region (length s.packet) s.shapes (address a off) 8 ≢ Nowhere = λ e. not_nowhere (592 - 8 * w) (sym r ∙ e) in
+    let none = none_elsewhere (length s.packet) s.shapes (address a off) 8 st.packet_size there in
+    let plain = subst (λ (o : Outcome). LeadsTo o l u) (plain_load s (address a off) false Double (number dst) none) h in
+    let got = load_is (InStack (592 - 8 * w)) s false Double (number dst) l u (no_counter (592 - 8 * w)) (subst (λ (place : Place). LeadsTo (load_from place s false Double (number dst)) l u) r plain) in
     held_register u (number dst) (number_small dst) ∙ (ap (λ (t : State). t.reg (number dst)) got.done.1 ∙ (put_here s.reg (number dst) (Some got.x) ∙ (sym got.is ∙ sym (held_word s w at.within.first at.within.last))))) h
 
 -- a store to such a word
@@ -233,7 +255,7 @@ load_alone : (size : Size) (signed : Bool) (dst src : Register) (off : ℤ) (low
     ((a i j k : ℕ) → s.reg (number src) ≡ Some a → reached s a off (size_bytes size) ≡ InCounter i j k → ⊥) → ((dst' src' : Register) (off' : ℤ) (w : ℕ) → Ldx size signed dst src off ≡ Ldx Double false dst' src' off' → IsWordAt src' off' low w → held u (number dst') ≡ held s w) →
     Alone (Ldx size signed dst src off) low m s g l u
 load_alone size signed dst src off low m s g l u d h differs load = needed_is (s.reg (number src)) _ l u (λ a e step.
-    let got = load_is (reached s a off (size_bytes size)) s signed size (number dst) l u (λ i j k at. differs a i j k e at) step in
+    let got = read_is s (address a off) signed size (number dst) l u (λ i j k at. differs a i j k e at) step in
     number_alone (Ldx size signed dst src off) low m s g l u (s.pc + 1) (number dst) (taken signed size got.x) (λ j. refl) refl refl d h load got.done) h
 
 -- a step of the new program's own

@@ -10,15 +10,16 @@ use Rattle.bpf_insn.specs.declared.operand.Operand.{Operand}
 use Rattle.bpf_insn.specs.declared.operand.Operand.TheVariants as operands
 use Rattle.bpf_insn.specs.declared.insn.Insn.{Insn}
 use Rattle.bpf_insn.specs.declared.insn.Insn.TheVariants.{Alu, Neg, End, MovSx, Const, MapRef, Ldx, St, Stx, AddCounter, Ja, Jump, Call, Exit, Second}
+use Rattle.bpf_note.specs.Constants.{are_constants}
 use Rattle.bpf_note.specs.State.{State, put}
 use Rattle.bpf_note.specs.Bytes.{word_at, higher, bytes_at, before, byte_of, put_bytes}
 use Rattle.bpf_note.specs.Keys.{key_size}
 use Rattle.bpf_note.specs.declared.key.MapKey.{MapKey}
-use Rattle.bpf_note.specs.declared.key.MapKey.TheVariants.{Index, Listed}
+use Rattle.bpf_note.specs.declared.key.MapKey.TheVariants.{Index, Listed, Constants}
 use Rattle.bpf_note.specs.Regions.{Place, InPacket, InStack, InContext, InCounter, Nowhere, region}
 use Rattle.bpf_note.specs.declared.op.Op.{Op}
 use Rattle.bpf_note.specs.declared.op.Op.TheVariants as ops
-use Rattle.bpf_flow.specs.Step.{Outcome, Next, Loads, Adds, Exited, Fault, need, at_slot, with_number, is_frame, written, operand, first_operand, address, reached, loaded, load_from, store_to, add_to, map_at, key_in, value_or_null, after_call, called, looked_up, looked_up_in, row_of, helped, exec, LeadsTo, taken}
+use Rattle.bpf_flow.specs.Step.{Outcome, Next, Loads, Adds, Exited, Fault, need, at_slot, with_number, is_frame, written, operand, first_operand, address, reached, loaded, load_from, load_constants, load_at, store_to, add_to, map_at, key_in, value_or_null, after_call, called, looked_up, looked_up_in, row_of, helped, exec, LeadsTo, taken}
 use Rattle.bpf_flow.specs.Graph.{next_slot}
 use Rattle.bpf_flow.proofs.StepLemmas.{no_fault, exited}
 use Rattle.bpf_same.specs.LinearForms.{plus}
@@ -192,6 +193,16 @@ module _ (s : State) (p low : ℕ) (g h : ℕ → Option ℕ) (above : (i : ℕ)
       by false = ((λ x. with_number (parted s p g h) (p + 1) dst (taken signed size x)), refl, λ x. number_behind (s.pc + 1) (p + 1) dst (taken signed size x))
   load_pairs Nowhere signed size dst e = tt
 
+  load_at_pairs : (a : ℕ) (signed : Bool) (size : Size) (dst : ℕ) → ((j : ℕ) → region (length s.packet) s.shapes a (size_bytes size) ≡ InStack j → low ≤ j) →
+      Pairs (Behind (λ j. j == dst) (p + 1) low s g) (load_at s a signed size dst) (load_at (parted s p g h) a signed size dst)
+  load_at_pairs a signed size dst e = by (are_constants s.shapes a (size_bytes size))
+    where
+      by : (b : Bool) → Pairs (Behind (λ j. j == dst) (p + 1) low s g)
+          (if b then load_constants s a signed size dst else load_from (region (length s.packet) s.shapes a (size_bytes size)) s signed size dst)
+          (if b then load_constants (parted s p g h) a signed size dst else load_from (region (length s.packet) s.shapes a (size_bytes size)) (parted s p g h) signed size dst)
+      by true = written_pairs (s.pc + 1) (p + 1) dst _
+      by false = load_pairs (region (length s.packet) s.shapes a (size_bytes size)) signed size dst e
+
   store_pairs : (place : Place) (z x : ℕ) → ((j : ℕ) → place ≡ InStack j → low ≤ j) → Pairs (Behind (λ j. false) (p + 1) low s g) (store_to place s z x) (store_to place (parted s p g h) z x)
   store_pairs (InPacket i) z x e = (
     _,
@@ -266,6 +277,7 @@ module _ (s : State) (p low : ℕ) (g h : ℕ → Option ℕ) (above : (i : ℕ)
   row_same : (m : ℕ) (by : MapKey) (key : List ℕ) → row_of (parted s p g h) m by key ≡ row_of s m by key
   row_same m Index key = refl
   row_same m (Listed kind) key = refl
+  row_same m (Constants bytes) key = refl
 
   called_behind : (x : ℕ) → Behind (λ k. nat_le k 5) (p + 1) low s g (called s x) (called (parted s p g h) x)
   called_behind x = record {
@@ -311,7 +323,7 @@ module _ (s : State) (p low : ℕ) (g h : ℕ → Option ℕ) (above : (i : ℕ)
   exec_pairs (MovSx wide bits dst src) j a e = need_pairs _ (s.reg (number src)) (g (number src)) _ _ a (λ d is. written_pairs (s.pc + 1) (p + 1) (number dst) _)
   exec_pairs (Const dst value) j a e = written_pairs (s.pc + 2) (p + 2) (number dst) value
   exec_pairs (MapRef dst m) j a e = written_pairs (s.pc + 2) (p + 2) (number dst) _
-  exec_pairs (Ldx size signed dst src off) j a e = need_pairs _ (s.reg (number src)) (g (number src)) _ _ a (λ x is. load_pairs (reached s x off (size_bytes size)) signed size (number dst) (λ i at. e x i is at))
+  exec_pairs (Ldx size signed dst src off) j a e = need_pairs _ (s.reg (number src)) (g (number src)) _ _ a (λ x is. load_at_pairs (address x off) signed size (number dst) (λ i at. e x i is at))
   exec_pairs (St size dst off imm) j a e = need_pairs _ (s.reg (number dst)) (g (number dst)) _ _ a (λ x is. store_pairs (reached s x off (size_bytes size)) (size_bytes size) (sign_extended imm) (λ i at. e x i is at))
   exec_pairs (Stx size dst src off) j a e =
       need_pairs _ (s.reg (number src)) (g (number src)) _ _ a.1 (λ y there.
@@ -328,10 +340,9 @@ module _ (s : State) (p low : ℕ) (g h : ℕ → Option ℕ) (above : (i : ℕ)
   -- an access of the same address by another register or offset
   pub moved_pairs : (i old : Insn) → IsMoved i old s.reg g → AreShared i low s → Pairs (Behind (λ k. alters i k) (next_slot i p) low s g) (exec i s) (exec old (parted s p g h))
   moved_pairs (Ldx size signed dst src off) old m e =
-      let z = size_bytes size in
       subst (λ (o : Insn). Pairs (Behind (λ k. k == number dst) (p + 1) low s g) (exec (Ldx size signed dst src off) s) (exec o (parted s p g h))) (sym m.2)
-      (address_pairs _ (s.reg (number src)) (g (number m.0)) off m.1 (λ a. load_from (region (length s.packet) s.shapes a z) s signed size (number dst)) (λ a. load_from (region (length s.packet) s.shapes a z) (parted s p g h) signed size (number dst)) m.3
-      (λ x is. load_pairs (reached s x off z) signed size (number dst) (λ i at. e x i is at)))
+      (address_pairs _ (s.reg (number src)) (g (number m.0)) off m.1 (λ a. load_at s a signed size (number dst)) (λ a. load_at (parted s p g h) a signed size (number dst)) m.3
+      (λ x is. load_at_pairs (address x off) signed size (number dst) (λ i at. e x i is at)))
   moved_pairs (Stx size dst src off) old m e =
       let z = size_bytes size in
       subst (λ (o : Insn). Pairs (Behind (λ k. false) (p + 1) low s g) (exec (Stx size dst src off) s) (exec o (parted s p g h))) (sym m.3)

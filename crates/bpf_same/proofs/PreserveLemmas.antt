@@ -1,5 +1,5 @@
 -- What is shown of linear forms after a step.
-use Rattle.std.proofs.Common.{ℕ, suc, ◌+◌, ◌-◌, ◌*◌, ◌%◌, ◌^◌, ◌≡◌, ◌<◌, ◌≤◌, sym, ap, ◌∙◌, subst, arith, ℤ, negsuc, Option, None, Some, Bool, true, false}
+use Rattle.std.proofs.Common.{ℕ, suc, ◌+◌, ◌-◌, ◌*◌, ◌%◌, ◌^◌, ◌≡◌, ◌<◌, ◌≤◌, refl, sym, ap, ◌∙◌, subst, arith, ℤ, negsuc, Option, None, Some, Bool, true, false}
 use Rattle.std.specs.Prelude.{IfSome, ◌==◌}
 use Rattle.std.proofs.lemmas.Bool.Decides.{nat_tests}
 use Rattle.bpf_insn.specs.Register.{number}
@@ -121,3 +121,25 @@ none_before i stutters low m e there all l h = λ f g f' g' t holds. none_yet th
 
 pub same_form : {x y : LinearForm} → Some x ≡ Some y → x ≡ y
 same_form e = cc
+
+-- a difference and what was subtracted come to what was there
+sum_back : (l : Option ℕ) (x y : ℕ) → x < 2 ^ 64 → y < 2 ^ 64 → plus (plus l (Some y)) (Some (computed op.Sub true x y)) ≡ plus l (Some x)
+unfolding computed
+sum_back None x y p q = refl
+sum_back (Some l) x y p q = ap Some (omega (arith, p, q))
+
+pub difference_back : (i : Insn) (stutters : Bool) (low : ℕ) (m : Facts) (e : Relation) (dst src : Register) (term : ℕ) (form held rest there less subtracted first : LinearForm) (o : Option LinearForm) → i ≡ Alu op.Sub true dst (operands.Register src) → term ≡ number dst →
+    ((f : ℕ → Option ℕ) → total f form ≡ plus (total f rest) (total f held)) → ((f : ℕ → Option ℕ) → IsWord (f term) → total f held ≡ f term) → IsPulledBack i stutters low m e rest there →
+    ((f : ℕ → Option ℕ) → total f there ≡ plus (total f less) (total f subtracted)) → ((f g : ℕ → Option ℕ) → Hold e f g → f (number src) ≡ total f subtracted) → ((f g : ℕ → Option ℕ) → Hold e f g → f term ≡ total f first) →
+    IfSome o (λ s. (f : ℕ → Option ℕ) → total f s ≡ plus (total f less) (total f first)) → IfSome o (IsPulledBack i stutters low m e form)
+difference_back i stutters low m e dst src term form held rest there less subtracted first None is at p q r s t u v = tt
+difference_back i stutters low m e dst src term form held rest there less subtracted first (Some whole) is at p q r s t u v = λ f g f' g' h holds.
+    let k = h.made op.Sub true dst (operands.Register src) is in
+    let x_is : total f first ≡ Some k.x = sym (u f g holds) ∙ (ap f at ∙ k.first) in
+    let y_is : total f subtracted ≡ Some k.y = sym (t f g holds) ∙ k.second in
+    let after : f' term ≡ Some (computed op.Sub true k.x k.y) = ap f' at ∙ k.is in
+    let small_x : k.x < 2 ^ 64 = holds.words (number dst) k.x k.first in
+    let small_y : k.y < 2 ^ 64 = holds.words (number src) k.y k.second in
+    p f' ∙ (ap (plus (total f' rest)) (q f' (h.fits term) ∙ after)
+    ∙ (ap (λ (o : Option ℕ). plus o (Some (computed op.Sub true k.x k.y))) (r f g f' g' h holds ∙ (s f ∙ ap (plus (total f less)) y_is))
+    ∙ (sum_back (total f less) k.x k.y small_x small_y ∙ (sym (ap (plus (total f less)) x_is) ∙ sym (v f)))))

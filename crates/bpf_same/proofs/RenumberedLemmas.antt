@@ -20,12 +20,13 @@ use Rattle.bpf_flow.proofs.StepLemmas.{no_fault, needed, exited}
 use Rattle.bpf_vm.specs.Run.{Walk, ends, goes}
 use Rattle.bpf_same.specs.declared.witness.Witness.{Witness}
 use Rattle.bpf_same.specs.Same.{operations, Runs, IsSame}
-use Rattle.bpf_same.specs.Simulated.{in_front, is_jump}
+use Rattle.bpf_same.specs.Simulated.{is_jump}
 use Rattle.bpf_same.specs.Renumbered.{IsWitnessed, AreWitnessed, IsRenumbered, IsRenumberedFrom, IsRenumbering}
 use Rattle.bpf_same.specs.Stepped.{alters, AreAlike}
 use Rattle.bpf_same.proofs.PairLemmas.{parted, Behind, Pairs, pairs_lead, pairs_exit, operand_is, exec_pairs}
 use Rattle.bpf_same.proofs.StepLemmas.{needed_is, alike_of}
-use Rattle.bpf_same.proofs.SimulationLemmas.{before, jumped_exits, branch_exits}
+use Rattle.bpf_same.proofs.SimulationLemmas.{jumped_exits, branch_exits}
+use Rattle.bpf_same.proofs.TraceLemmas.{in_front, before}
 use Rattle.bpf_same.proofs.TogetherLemmas.{all_shared, next_is}
 
 -- the old program's state t at slot p, which is the new one's state s but for the slot

@@ -11,7 +11,6 @@ use Rattle.bpf_insn.specs.declared.operand.Operand.{Operand}
 use Rattle.bpf_insn.specs.declared.operand.Operand.TheVariants as operands
 use Rattle.bpf_insn.specs.declared.insn.Insn.{Insn}
 use Rattle.bpf_insn.specs.declared.insn.Insn.TheVariants.{Jump}
-use Rattle.bpf_note.specs.declared.val.Val.{Val}
 use Rattle.bpf_note.specs.declared.val.Val.TheVariants.{Pkt, PktEnd}
 use Rattle.bpf_flow.proofs.JumpLemmas.{met_is}
 use Rattle.bpf_same.specs.declared.address.Order.{Order}
@@ -21,7 +20,7 @@ use Rattle.bpf_same.specs.declared.linear_form.LinearForm.{LinearForm}
 use Rattle.bpf_same.specs.declared.relation.Relation.{Relation}
 use Rattle.bpf_same.specs.declared.room.Room.{Room}
 use Rattle.bpf_same.specs.LinearForms.{plus, gathered, total, first_form, last_form, IsAddress, IsRoom, Hold}
-use Rattle.bpf_same.specs.Ranges.{IsLeastLength, IsRead}
+use Rattle.bpf_same.specs.Ranges.{IsLeastLength}
 use Rattle.bpf_same.specs.Stepped.{alters, IsNewAfter, IsPulledBack, IsAddressAfter, IsOrder, IsOrderOf, IsBelowEnd, IsDistance, IsComparedAddress, PreservesAddress, PreservesRoom}
 use Rattle.bpf_same.proofs.LinearFormLemmas.{apart, total_small, gathered_none}
 

@@ -6,7 +6,7 @@ use Rattle.std.proofs.lemmas.Nat.{le_or_l}
 use Rattle.bpf_insn.specs.Arithmetic.{computed}
 use Rattle.bpf_insn.specs.declared.alu_op.AluOp.{AluOp}
 use Rattle.bpf_same.specs.declared.range.Range.{Range}
-use Rattle.bpf_same.specs.Stepped.{Computes, IsCombined}
+use Rattle.bpf_same.specs.Stepped.{IsCombined}
 use Rattle.std.proofs.Common.{inl, inr}
 use Rattle.std.proofs.lemmas.Bool.Decides.{nat_tests}
 use Rattle.bpf_insn.specs.Register.{number}

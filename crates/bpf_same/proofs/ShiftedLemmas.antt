@@ -1,5 +1,5 @@
 -- Numbers below 2 ^ 31 that are shifted to the upper half of a register, and back.
-use Rattle.std.proofs.Common.{ℕ, ◌+◌, ◌-◌, ◌*◌, ◌/◌, ◌%◌, ◌^◌, ◌≡◌, ◌<◌, ◌≤◌, refl, sym, ap, ◌∙◌, subst, arith, ℤ, pos, negsuc, Option, None, Some, Bool, true, false, nat_lt}
+use Rattle.std.proofs.Common.{ℕ, ◌*◌, ◌/◌, ◌%◌, ◌^◌, ◌≡◌, ◌<◌, refl, sym, ap, ◌∙◌, arith, pos, Option, None, Some, Bool, true, false, nat_lt}
 use Rattle.std.specs.Prelude.{if◌then◌else◌, ◌-ℤ◌, IfSome}
 use Rattle.std.proofs.lemmas.Bool.Decides.{nat_tests}
 use Rattle.bpf_insn.specs.Register.{number}
@@ -17,7 +17,7 @@ use Rattle.bpf_same.specs.declared.linear_form.LinearForm.{LinearForm}
 use Rattle.bpf_same.specs.declared.relation.Relation.{Relation}
 use Rattle.bpf_same.specs.declared.range.Range.{Range}
 use Rattle.bpf_same.specs.LinearForms.{total, shifted_of, Hold}
-use Rattle.bpf_same.specs.Stepped.{operand_in, IsNewAfter, IsPulledBack, LiesBefore, IsShift, IsSmallAfter, PreservesShifted, BringsBack}
+use Rattle.bpf_same.specs.Stepped.{IsNewAfter, IsPulledBack, LiesBefore, IsShift, IsSmallAfter, PreservesShifted, BringsBack}
 
 some_is : {x y : ℕ} → Some x ≡ Some y → x ≡ y
 some_is e = cc

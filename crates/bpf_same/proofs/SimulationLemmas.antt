@@ -1,11 +1,13 @@
 -- Where the old program simulates each instruction, each walk of the new program is one of the old.
-use Rattle.std.proofs.Common.{ℕ, ◌+◌, ◌^◌, ◌≡◌, ◌<◌, ◌≤◌, arith, pos, negsuc, not, inl, inr, refl, sym, ap, ◌∙◌, subst, ℤ, List, [], ◌∷◌, Option, None, Some, Bool, true, false}
+use Rattle.std.proofs.Common.{ℕ, ◌+◌, ◌%◌, ◌^◌, ◌≡◌, ◌<◌, ◌≤◌, arith, pos, negsuc, not, inl, inr, refl, sym, ap, ◌∙◌, subst, ℤ, List, [], ◌∷◌, length, Option, None, Some, Bool, true, false, ◌⊎◌}
 use Rattle.std.specs.Prelude.{if◌then◌else◌, slice_get, IfSome}
 use Rattle.std.specs.Global.{Box, Vec}
 use Rattle.bpf_insn.specs.Register.{number}
 use Rattle.bpf_insn.specs.Conditions.{is_met}
 use Rattle.bpf_insn.specs.declared.condition.Condition.{Condition}
 use Rattle.bpf_insn.specs.declared.register.Register.{Register}
+use Rattle.bpf_insn.specs.declared.register.Register.TheVariants.{R10}
+use Rattle.bpf_insn.specs.declared.size.Size.TheVariants.{Double}
 use Rattle.bpf_insn.specs.Signed.{sign_extended}
 use Rattle.bpf_insn.specs.declared.operand.Operand.{Operand}
 use Rattle.bpf_insn.specs.declared.operand.Operand.TheVariants as operands
@@ -15,14 +17,15 @@ use Rattle.bpf_note.specs.Shape.{Shape}
 use Rattle.bpf_insn.specs.Size.{size_bytes}
 use Rattle.bpf_insn.specs.declared.size.Size.{Size}
 use Rattle.bpf_note.specs.Regions as regions
-use Rattle.bpf_note.specs.Regions.{InPacket, InStack, InContext, InCounter, Nowhere}
-use Rattle.bpf_note.specs.State.{State, IsState, IsStart}
+use Rattle.bpf_note.specs.Regions.{InPacket, InStack, InContext, InCounter, Nowhere, region}
+use Rattle.bpf_note.specs.Constants.{are_constants}
+use Rattle.bpf_note.specs.State.{State, IsState, IsStart, put}
 use Rattle.bpf_note.specs.Parts.{Noted, facts}
 use Rattle.bpf_note.specs.Facts.{Facts, entry}
 use Rattle.bpf_note.specs.Describes.{Describes}
 use Rattle.bpf_note.specs.declared.op.Op.{Op}
 use Rattle.bpf_note.specs.declared.op.Op.TheVariants as ops
-use Rattle.bpf_flow.specs.Step.{Outcome, Next, Loads, Adds, Exited, Fault, need, at_slot, with_number, is_frame, written, operand, first_operand, reached, loaded, load_from, store_to, taken, target, jumped, exec, step, LeadsTo}
+use Rattle.bpf_flow.specs.Step.{Outcome, Next, Loads, Adds, Exited, Fault, need, at_slot, with_number, is_frame, written, operand, first_operand, address, reached, loaded, load_from, load_constants, load_at, store_to, taken, target, jumped, exec, step, LeadsTo, add_to}
 use Rattle.bpf_flow.specs.Graph.{next_slot}
 use Rattle.bpf_flow.specs.Edges.{Edges}
 use Rattle.bpf_flow.specs.Sound.{Accounts, Covers}
@@ -30,7 +33,13 @@ use Rattle.bpf_flow.proofs.StepLemmas.{no_fault, needed, exited}
 use Rattle.bpf_flow.proofs.KeptLemmas.{kept}
 use Rattle.bpf_vm.specs.Run.{Walk, ends, goes}
 use Rattle.bpf_same.specs.declared.witness.Witness.{Witness}
-use Rattle.bpf_same.specs.Same.{operations, Runs, IsSame}
+use Rattle.bpf_same.specs.Same.{operations, IsSame}
+use Rattle.bpf_same.specs.Alone.{FindsAndLeaves, IsSameAlone}
+use Rattle.bpf_same.specs.Traces.{Trace, Has, IsNext, Follows, does, standing, numbers}
+use Rattle.bpf_same.specs.Contents.{Contain, Changes, IsAddedStore}
+use Rattle.bpf_same.specs.declared.content.Content.{Content}
+use Rattle.bpf_verify.specs.Consistent.{Accepted, instructions}
+use Rattle.bpf_vm.specs.Course.{IsWhole, course}
 use Rattle.bpf_same.specs.Decided.{Compared, IsDecided, opposed, on_way}
 use Rattle.bpf_flow.specs.Branch.{opposite}
 use Rattle.bpf_flow.proofs.JumpLemmas.{met_is, opposite_holds}
@@ -38,24 +47,16 @@ use Rattle.bpf_flow.proofs.RegisterLemmas.{number_small}
 use Rattle.bpf_same.specs.declared.relation.Relation.{Relation}
 use Rattle.bpf_same.specs.LinearForms.{held, Hold}
 use Rattle.bpf_same.specs.Stepped.{alters, operand_in, Stepped, AreAlike, AreShared, ReadsAlike, IsOwnStep}
-use Rattle.bpf_same.specs.Moved.{DoesAlike, IsMoved}
+use Rattle.bpf_same.specs.Moved.{DoesAlike, IsMoved, address_in}
 use Rattle.bpf_insn.specs.declared.alu_op.AluOp.{AluOp}
-use Rattle.bpf_same.specs.Simulated.{Candidate, IsKnown, IsRelated, IsSimulated, ReachesSilently, SimulatesFrom, Establishes, IsSharedStep, SimulatesStep, SimulatesPlain, SimulatesWay, SimulatesWays, AreSameJump, SimulatesBranch, IsBranch, IsAccounted, in_front, Simulates, IsSilent, SimulatesSlot, is_jump, IsSimulation}
-use Rattle.bpf_same.proofs.PairLemmas.{parted, Behind, Pairs, pairs_lead, pairs_exit, operand_is, exec_pairs, moved_pairs}
-use Rattle.bpf_same.proofs.StepLemmas.{needed_is, held_register, held_fits, alike_of, noted_within, noted_long, noted_end, noted_range, noted_is, moved_of, copied_stepped}
-use Rattle.bpf_same.proofs.OwnLemmas.{own_alone}
-
-operations_front : (label : Option Op) (labels : List (Option Op)) → operations (label ∷ labels) ≡ in_front label (operations labels)
-operations_front None labels = refl
-operations_front (Some op) labels = refl
-
--- a step in front of a run
-pub before : (code : List Insn) (r0 : ℕ) (bytes : List ℕ) (t u : State) (label : Option Op) (done : List Op) → LeadsTo (step code t) label u → Runs code r0 bytes u done → Runs code r0 bytes t (in_front label done)
-before code r0 bytes t u label done h r = record {
-  labels = label ∷ r.labels;
-  walk = goes t u label r.labels h r.walk;
-  did = operations_front label r.labels ∙ ap (in_front label) r.did;
-}
+use Rattle.bpf_same.specs.Simulated.{Candidate, IsStoredSum, IsOwnLoad, IsKnown, IsRelated, IsSimulated, ReachesSilently, SimulatesFrom, Establishes, IsSharedStep, SimulatesStep, SimulatesPlain, SimulatesWay, SimulatesWays, AreSameJump, SimulatesBranch, IsBranch, IsAccounted, Simulates, IsSilent, SimulatesSlot, is_jump, IsSimulation}
+use Rattle.bpf_same.proofs.PairLemmas.{parted, put_left, Behind, Pairs, pairs_lead, pairs_exit, operand_is, exec_pairs, moved_pairs}
+use Rattle.bpf_same.proofs.StepLemmas.{needed_is, written_is, held_register, held_fits, end_kept, word_kept, alike_of, noted_within, noted_long, noted_end, noted_range, noted_is, moved_of, copied_stepped}
+use Rattle.bpf_same.proofs.OwnLemmas.{own_alone, load_is}
+use Rattle.bpf_same.proofs.AdditionLemmas.{only_additions}
+use Rattle.bpf_same.proofs.AloneLemmas.{operates}
+use Rattle.bpf_same.proofs.TraceLemmas.{silently, stepping, unmoved, loaded_alone, stored_alone, following, ended}
+use Rattle.bpf_same.proofs.ChangeLemmas.{changes, jump_changes, adding_is, adding_left, address_is, based_in}
 
 step_at : (code : List Insn) (s : State) (i : Insn) (label : Option Op) (u : State) → slice_get code s.pc ≡ Some i → LeadsTo (exec i s) label u → LeadsTo (step code s) label u
 step_at code s i label u e h = subst (λ (o : Option Insn). LeadsTo (need o (λ i. exec i s)) label u) (sym e) h
@@ -93,13 +94,13 @@ compared_old e low p cond wide dst src off s t c b alike k =
     record { x = k.x; y = k.y; first = a.0 ∙ k.first; second = operand_is t src ∙ (a.1 ∙ (sym (operand_is s src) ∙ k.second)); met = k.met }
 
 -- one silent step more
-pub silent_further : (old : List Insn) (e : Relation) (low : ℕ) (n : Facts) (p q r : ℕ) (i : Insn) → ReachesSilently old e low n p q → slice_get old q ≡ Some i → IsSilent i e low n q r → ReachesSilently old e low n p r
-silent_further old e low n p q r i before_that there h = λ s t d b r0 bytes done run.
+pub silent_further : (alone : Bool) (old : List Insn) (e : Relation) (low : ℕ) (n : Facts) (p q r : ℕ) (i : Insn) → ReachesSilently alone old e low n p q → slice_get old q ≡ Some i → IsSilent i e low n q r → ReachesSilently alone old e low n p r
+silent_further alone old e low n p q r i before_that there h = λ s t d b to run.
     let moved : IsRelated e low q s (at_slot t q) = record { pc = refl; packet = b.packet; ifindex = b.ifindex; queue = b.queue; shapes = b.shapes; find = b.find; stack = b.stack; relation = b.relation } in
-    before_that s t d b r0 bytes done (before old r0 bytes (at_slot t q) (at_slot t r) None done (step_at old (at_slot t q) i None (at_slot t r) there (h s (at_slot t q) d moved)) run)
+    before_that s t d b to (silently alone old to (at_slot t q) (at_slot t r) (step_at old (at_slot t q) i None (at_slot t r) there (h s (at_slot t q) d moved)) run)
 
-pub stay : (old : List Insn) (e : Relation) (low : ℕ) (n : Facts) (p : ℕ) → ReachesSilently old e low n p p
-stay old e low n p = λ s t d b r0 bytes done run. subst (λ (t : State). Runs old r0 bytes t done) (at_same e low p s t b) run
+pub stay : (alone : Bool) (old : List Insn) (e : Relation) (low : ℕ) (n : Facts) (p : ℕ) → ReachesSilently alone old e low n p p
+stay alone old e low n p = λ s t d b r run. subst (λ (t : State). Has alone old r t) (at_same e low p s t b) run
 
 target_leads : (t : State) (o : Option ℕ) (r : ℕ) → o ≡ Some r → LeadsTo (need o (λ p. Next (at_slot t p))) None (at_slot t r)
 target_leads t o r e = subst (λ (o : Option ℕ). LeadsTo (need o (λ p. Next (at_slot t p))) None (at_slot t r)) (sym e) refl
@@ -126,12 +127,12 @@ left_silent cond wide dst src off e low n p alike k = λ s t d b.
     jump_leads cond wide dst src off t false (at_slot t (p + 1)) (compared_old e low p cond wide dst src off s t false b alike (k s t.reg d b.relation)) (ap (λ (pc : ℕ). at_slot t (pc + 1)) b.pc)
 
 -- where silent steps lead to the witness, and one of the notes there describes what this describes, the old program simulates the slot
-pub meet : (b : Candidate) (n : Facts) (p q : ℕ) (witness : Witness) (e : Relation) → slice_get b.witnesses q ≡ Some witness → slice_get b.relations q ≡ Some e → ReachesSilently b.old e b.low n p witness.at → ((s : State) → Describes n s → IsKnown b.notes q s) → SimulatesFrom b n p q
-meet b n p q witness e here claimed way known = λ e' claimed' s t pc d beside r0 bytes done go.
+pub meet : (b : Candidate) (n : Facts) (p q : ℕ) (witness : Witness) (e : Relation) → slice_get b.witnesses q ≡ Some witness → slice_get b.relations q ≡ Some e → ReachesSilently b.alone b.old e b.low n p witness.at → ((s : State) → Describes n s → IsKnown b.notes q s) → SimulatesFrom b n p q
+meet b n p q witness e here claimed way known = λ e' claimed' s t pc d beside r contain go.
     let same : e' ≡ e = some_is (sym claimed' ∙ claimed) in
     let there : IsRelated e b.low p s t = subst (λ (e : Relation). IsRelated e b.low p s t) same beside in
-    way s t d there r0 bytes done (go witness e (at_slot t witness.at) (ap (slice_get b.witnesses) pc ∙ here) (ap (slice_get b.relations) pc ∙ claimed) (subst (λ (q : ℕ). IsKnown b.notes q s) (sym pc) (known s d))
-    (record { pc = refl; packet = there.packet; ifindex = there.ifindex; queue = there.queue; shapes = there.shapes; find = there.find; stack = there.stack; relation = there.relation }))
+    way s t d there r (go witness e (at_slot t witness.at) (ap (slice_get b.witnesses) pc ∙ here) (ap (slice_get b.relations) pc ∙ claimed) (subst (λ (q : ℕ). IsKnown b.notes q s) (sym pc) (known s d))
+    (record { pc = refl; packet = there.packet; ifindex = there.ifindex; queue = there.queue; shapes = there.shapes; find = there.find; stack = there.stack; relation = there.relation }) (subst (λ (e : Relation). Contain e (held s) (numbers b.alone r s)) same contain))
 
 -- a state that a step leads to is covered by the edges
 covered : (es : Edges) (o : Outcome) (label : Option Op) (u : State) → Accounts es o → LeadsTo o label u → Covers es u
@@ -183,6 +184,13 @@ load_exits (InCounter m k j) s signed size dst r0 e = by (is_frame dst) e
     by false e = cc
 load_exits Nowhere s signed size dst r0 e = cc
 
+pub load_at_exits : (s : State) (a : ℕ) (signed : Bool) (size : Size) (dst r0 : ℕ) → load_at s a signed size dst ≡ Exited r0 → ⊥
+load_at_exits s a signed size dst r0 e = by (are_constants s.shapes a (size_bytes size)) e
+  where
+    by : (b : Bool) → (if b then load_constants s a signed size dst else load_from (regions.region (length s.packet) s.shapes a (size_bytes size)) s signed size dst) ≡ Exited r0 → ⊥
+    by true e = written_exits s (s.pc + 1) dst _ r0 e
+    by false e = load_exits (regions.region (length s.packet) s.shapes a (size_bytes size)) s signed size dst r0 e
+
 store_exits : (place : regions.Place) (s : State) (z x r0 : ℕ) → store_to place s z x ≡ Exited r0 → ⊥
 store_exits (InPacket i) s z x r0 e = cc
 store_exits (InStack i) s z x r0 e = cc
@@ -197,7 +205,7 @@ own_exits (End kind width dst) low n s r0 o e = need_exits (s.reg (number dst)) 
 own_exits (MovSx wide bits dst src) low n s r0 o e = need_exits (s.reg (number src)) _ r0 (λ x e. written_exits s (s.pc + 1) (number dst) _ r0 e) e
 own_exits (Const dst value) low n s r0 o e = written_exits s (s.pc + 2) (number dst) value r0 e
 own_exits (MapRef dst m) low n s r0 o e = written_exits s (s.pc + 2) (number dst) _ r0 e
-own_exits (Ldx size signed dst src off) low n s r0 o e = need_exits (s.reg (number src)) _ r0 (λ a e. load_exits (reached s a off (size_bytes size)) s signed size (number dst) r0 e) e
+own_exits (Ldx size signed dst src off) low n s r0 o e = need_exits (s.reg (number src)) _ r0 (λ a e. load_at_exits s (address a off) signed size (number dst) r0 e) e
 own_exits (St size dst off imm) low n s r0 o e = o
 own_exits (Stx size dst src off) low n s r0 o e = need_exits (s.reg (number src)) _ r0 (λ x e. need_exits (s.reg (number dst)) _ r0 (λ a e. store_exits (reached s a off (size_bytes size)) s (size_bytes size) x r0 e) e) e
 own_exits (AddCounter fetch dst src off) low n s r0 o e = o
@@ -209,9 +217,10 @@ own_exits Second low n s r0 o e = o
 
 -- after a step of both, or one in which the old program stutters, its state v is related to the new one's state u
 established : (b : Candidate) (i : Insn) (stutters : Bool) (e : Relation) (low : ℕ) (m : Facts) (p q : ℕ) → Establishes b i stutters e m p q → (s t u v : State) → Hold e (held s) t.reg → Stepped i stutters b.low m (held s) t.reg (held u) v.reg → Describes m u → u.pc ≡ q → v.pc ≡ p →
-    v.packet ≡ u.packet → v.ifindex ≡ u.ifindex → v.queue ≡ u.queue → v.shapes ≡ u.shapes → v.find ≡ u.find → ((j : ℕ) → b.low ≤ j → v.stack j ≡ u.stack j) → (r0 : ℕ) (bytes : List ℕ) (done : List Op) → IsSimulated b r0 bytes done u → Runs b.old r0 bytes v done
-established b i stutters e low m p q l s t u v hold stepped d at pc packet ifindex queue shapes find stack r0 bytes done go =
-    l.simulated l.next l.here u v at d (record { pc = pc; packet = packet; ifindex = ifindex; queue = queue; shapes = shapes; find = find; stack = stack; relation = l.preserves (held s) t.reg (held u) v.reg stepped hold }) r0 bytes done go
+    v.packet ≡ u.packet → v.ifindex ≡ u.ifindex → v.queue ≡ u.queue → v.shapes ≡ u.shapes → v.find ≡ u.find → ((j : ℕ) → b.low ≤ j → v.stack j ≡ u.stack j) → (r to : Trace) → Contain e (held s) (numbers b.alone r s) → Changes i (held s) (held u) (numbers b.alone r s) (numbers b.alone to u) → IsSimulated b to u → Has b.alone b.old to v
+established b i stutters e low m p q l s t u v hold stepped d at pc packet ifindex queue shapes find stack r to contain changes go =
+    l.simulated l.next l.here u v at d (record { pc = pc; packet = packet; ifindex = ifindex; queue = queue; shapes = shapes; find = find; stack = stack; relation = l.preserves (held s) t.reg (held u) v.reg stepped hold }) to
+    (λ k content small is. l.contents k content small is (held s) t.reg (held u) v.reg (numbers b.alone r s) (numbers b.alone to u) stepped hold contain changes) go
 
 -- the numbers of a jump that is taken
 abbrev Taking : Insn → State → Type 0
@@ -282,15 +291,15 @@ does_operation e low p i old s t v l beside (inr moved) h op wide dst src is = a
 -- a step that both programs take
 both_step : (b : Candidate) (shapes : List Shape) (p : ℕ) (i : Insn) (e : Relation) (n m : Facts) (pc q : ℕ) → is_jump i ≡ false → IsSharedStep b p i e n m q → IsAccounted ((q, m) ∷ []) shapes i n pc → Simulates b shapes p i e n pc
 both_step b shapes p i e n m pc q j st sound = record {
-  goes = λ s t beside at sh d label u h r0 bytes done go.
+  goes = λ s t beside at sh d label u h r to next contain go.
       let cover : (u.pc ≡ q) × Describes m u = by_one q m u (covered ((q, m) ∷ []) (exec i s) label u (sound s d at sh) h) in
       let v = pairs_lead (Behind (λ k. alters i k) (next_slot i p) b.low s t.reg) (exec i s) (exec st.copied.old t) label u (does_pairs e b.low p i st.copied.old s t j (st.copied.shares s d) beside st.copied.does) h in
       let there : slice_get b.old t.pc ≡ Some st.copied.old = ap (slice_get b.old) beside.pc ∙ st.copied.there in
       let behind = v.2 in
-      before b.old r0 bytes t v.0 label done (step_at b.old t st.copied.old label v.0 there v.1)
+      stepping b.alone b.old r to t v.0 label (step_at b.old t st.copied.old label v.0 there v.1) next
       (established b i false e b.low m (next_slot i p) q st.establishes s t u v.0 beside.relation
       (copied_stepped i s u t v.0 b.low (next_slot i p) m label h (does_operation e b.low p i st.copied.old s t v.0 label beside st.copied.does v.1) j cover.1 behind) cover.1 cover.0 behind.pc
-      behind.packet behind.ifindex behind.queue behind.shapes behind.find behind.stack r0 bytes done go);
+      behind.packet behind.ifindex behind.queue behind.shapes behind.find behind.stack r to contain (changes b.alone i s u label r to d.state.shapes h next) go);
   ends = λ s t beside d r0 x.
       ap (λ (o : Option Insn). need o (λ i. exec i t)) (ap (slice_get b.old) beside.pc ∙ st.copied.there)
       ∙ pairs_exit (Behind (λ k. alters i k) (next_slot i p) b.low s t.reg) (exec i s) (exec st.copied.old t) r0 (does_pairs e b.low p i st.copied.old s t j (st.copied.shares s d) beside st.copied.does) x;
@@ -299,22 +308,209 @@ both_step b shapes p i e n m pc q j st sound = record {
 -- a step of the new program's own
 own_step : (b : Candidate) (shapes : List Shape) (p : ℕ) (i : Insn) (e : Relation) (n m : Facts) (pc q : ℕ) → IsOwnStep i b.low n → Establishes b i true e m p q → IsAccounted ((q, m) ∷ []) shapes i n pc → Simulates b shapes p i e n pc
 own_step b shapes p i e n m pc q o l sound = record {
-  goes = λ s t beside at sh d label u h r0 bytes done go.
+  goes = λ s t beside at sh d label u h r to next contain go.
       let cover : (u.pc ≡ q) × Describes m u = by_one q m u (covered ((q, m) ∷ []) (exec i s) label u (sound s d at sh) h) in
       let a = own_alone i b.low n m s t.reg label u o d cover.1 h in
-      let run : Runs b.old r0 bytes t done = established b i true e b.low m p q l s t u t beside.relation a.stepped cover.1 cover.0 beside.pc (beside.packet ∙ sym a.packet) (beside.ifindex ∙ sym a.ifindex) (beside.queue ∙ sym a.queue)
-      (beside.shapes ∙ sym a.shapes) (beside.find ∙ sym a.find) (λ j above. beside.stack j above ∙ sym (a.stack j above)) r0 bytes done go in
-      subst (λ (label : Option Op). Runs b.old r0 bytes t (in_front label done)) (sym a.label) run;
+      let run : Has b.alone b.old to t = established b i true e b.low m p q l s t u t beside.relation a.stepped cover.1 cover.0 beside.pc (beside.packet ∙ sym a.packet) (beside.ifindex ∙ sym a.ifindex) (beside.queue ∙ sym a.queue)
+      (beside.shapes ∙ sym a.shapes) (beside.find ∙ sym a.find) (λ j above. beside.stack j above ∙ sym (a.stack j above)) r to contain (changes b.alone i s u label r to d.state.shapes h next) go in
+      unmoved b.alone b.old r to t (subst (λ (label : Option Op). IsNext b.alone label r to) a.label next) run;
   ends = λ s t beside d r0 x. absurd (own_exits i b.low n s r0 o x);
 }
 
+-- the old program's store of what an addition leaves
+sum_in_front : (alone : Bool) (old : List Insn) (e : Relation) (there i : Insn) (k : IsAddedStore e there i) (p low : ℕ) (s t : State) (r to : Trace) (label : Option Op) (m q j delta found a : ℕ) → alone ≡ true → slice_get old t.pc ≡ Some there → IsRelated e low p s t → Contain e (held s) (numbers alone r s) →
+    s.reg (number k.src) ≡ Some delta → s.reg (number k.dst) ≡ Some a → reached s a k.off 8 ≡ InCounter m q j → label ≡ Some (ops.Add m q j delta found) → IsNext alone label r to → Has alone old to (at_slot t (t.pc + 1)) → Has alone old r t
+sum_in_front false old e there i k p low s t r to label m q j delta found a is here beside contain value held_at place labelled next run = cc
+sum_in_front true old e there i k p low s t r to label m q j delta found a is here beside contain value held_at place labelled next run =
+    let added : IsNext true (Some (ops.Add m q j delta found)) r to = subst (λ (l : Option Op). IsNext true l r to) labelled next in
+    let new_address : address_in (held s) k.dst k.off ≡ Some (address a k.off) = address_is s k.dst k.off a held_at in
+    let base = based_in t.reg k.base k.from (address a k.off) (k.address (held s) t.reg beside.relation ∙ new_address) in
+    let stands : numbers true r s (address a k.off) ≡ Some found = ap (standing r.found) place ∙ ap Some (sym added.0) in
+    let stored : t.reg (number k.value) ≡ Some ((found + delta) % 2 ^ 64) = k.sum (held s) t.reg (numbers true r s) beside.relation contain (address a k.off) found delta new_address stands (held_register s (number k.src) (number_small k.src) ∙ value) in
+    stored_alone old r to t (at_slot t (t.pc + 1)) m q j delta found
+    (record {
+      dst = k.base;
+      src = k.value;
+      off = k.from;
+      here = here ∙ ap Some k.stores;
+      value = stored;
+      base = base.0;
+      address = base.1;
+      place = ap (λ (x : ℕ). region (length t.packet) t.shapes x 8) base.2 ∙ (ap (λ (x : List ℕ). region (length x) t.shapes (address a k.off) 8) beside.packet ∙ (ap (λ (m : List Shape). region (length s.packet) m (address a k.off) 8) beside.shapes ∙ place));
+      next = refl;
+    }) added run
+
+-- a load of the new program's own
+record LoadedAlone (i : Insn) (low : ℕ) (m : Facts) (s : State) (g : ℕ → Option ℕ) (u : State) : Type 0 where
+  packet : u.packet ≡ s.packet
+  ifindex : u.ifindex ≡ s.ifindex
+  queue : u.queue ≡ s.queue
+  shapes : u.shapes ≡ s.shapes
+  find : u.find ≡ s.find
+  stack : (j : ℕ) → u.stack j ≡ s.stack j
+  stepped : Stepped i true low m (held s) g (held u) g
+
+load_written : (place : regions.Place) (s u : State) (dst : ℕ) (l : Option Op) → LeadsTo (load_from place s false Double dst) l u → (x : ℕ) × (u ≡ with_number s (s.pc + 1) dst x)
+load_written (InCounter m k j) s u dst l h = by (is_frame dst) l h
+  where
+    by : (b : Bool) (l : Option Op) → LeadsTo (if b then Fault else Loads m k j (λ x. with_number s (s.pc + 1) dst x)) l u → (x : ℕ) × (u ≡ with_number s (s.pc + 1) dst x)
+    by true l h = absurd (no_fault l u h)
+    by false None h = absurd h
+    by false (Some (ops.Load m' k' j' v)) h = (v, sym h.4)
+    by false (Some (ops.Add m' k' j' d v)) h = absurd h
+load_written (InPacket i) s u dst l h = let a = load_is (InPacket i) s false Double dst l u (λ m k j e. cc (e)) h in (a.x, a.done.1)
+load_written (InStack i) s u dst l h = let a = load_is (InStack i) s false Double dst l u (λ m k j e. cc (e)) h in (a.x, a.done.1)
+load_written (InContext i) s u dst l h = let a = load_is (InContext i) s false Double dst l u (λ m k j e. cc (e)) h in (a.x, a.done.1)
+load_written Nowhere s u dst l h = absurd (no_fault l u h)
+
+load_at_written : (s u : State) (a dst : ℕ) (l : Option Op) → LeadsTo (load_at s a false Double dst) l u → (x : ℕ) × (u ≡ with_number s (s.pc + 1) dst x)
+load_at_written s u a dst l h = by (are_constants s.shapes a 8) h
+  where
+    by : (b : Bool) → LeadsTo (if b then load_constants s a false Double dst else load_from (region (length s.packet) s.shapes a 8) s false Double dst) l u → (x : ℕ) × (u ≡ with_number s (s.pc + 1) dst x)
+    by true h = let w = written_is s (s.pc + 1) dst _ l u h in (_, w.1)
+    by false h = load_written (region (length s.packet) s.shapes a 8) s u dst l h
+
+load_alone : (low : ℕ) (m : Facts) (dst src : Register) (off : ℤ) (s u : State) (g : ℕ → Option ℕ) (l : Option Op) → (src ≡ R10 → ⊥) → Describes m u → LeadsTo (exec (Ldx Double false dst src off) s) l u → LoadedAlone (Ldx Double false dst src off) low m s g u
+load_alone low m dst src off s u g l other d h =
+    let w = needed (s.reg (number src)) _ l u (λ a h. load_at_written s u (address a off) (number dst) l h) h in
+    let reg : u.reg ≡ put s.reg (number dst) (Some w.0) = ap (λ (t : State). t.reg) w.1 in
+    let at : (j : ℕ) → u.stack j ≡ s.stack j = λ j. ap (λ (t : State). t.stack j) w.1 in
+    record {
+      packet = ap (λ (t : State). t.packet) w.1;
+      ifindex = ap (λ (t : State). t.ifindex) w.1;
+      queue = ap (λ (t : State). t.queue) w.1;
+      shapes = ap (λ (t : State). t.shapes) w.1;
+      find = ap (λ (t : State). t.find) w.1;
+      stack = at;
+      stepped = record {
+        fits = held_fits u d.state;
+        kept = λ j small e. held_register u j small ∙ (ap (λ (f : ℕ → Option ℕ). f j) reg ∙ (put_left s.reg (number dst) j (Some w.0) e ∙ sym (held_register s j small)));
+        words = λ n o differs. word_kept s u low n o (λ j lt. at j);
+        beside = λ dst' src' off' w' n o e. absurd (no_store e);
+        stored = λ dst' src' off' w' o e. absurd (no_store e);
+        loaded = λ dst' src' off' w' o e word. absurd (other (ap (source_of R10) e ∙ word.frame));
+        made = λ op wide dst' src' e. absurd (no_operation e);
+        noted = λ k x e small. held_register u k small ∙ noted_is m u k x d e;
+        packet = end_kept s u (ap (λ (t : State). length t.packet) w.1);
+        addresses = λ k id off' safe v e small. noted_within m u k id off' safe d v e small;
+        long = λ least e. noted_long m u least d e;
+        ends = λ k v small. noted_end m u k d v small;
+        ranged = λ k lo hi r small. noted_range m u k lo hi d r small;
+        met = λ cond wide dst' src' off' e. absurd (no_jump e);
+        stays = λ k e. refl;
+        old_kept = λ k e. refl;
+        old_made = λ op wide dst' src' e. absurd (true_false e);
+        alike = λ k small e. absurd (true_false e);
+      };
+    }
+  where
+    source_of : Register → Insn → Register
+    source_of r (Ldx size signed dst src off) = src
+    source_of r i = r
+
+    no_store : {d r : Register} {o : ℤ} → Ldx Double false dst src off ≡ Stx Double d r o → ⊥
+    no_store e = cc
+
+    no_operation : {op : AluOp} {wide : Bool} {d : Register} {o : Operand} → Ldx Double false dst src off ≡ Alu op wide d o → ⊥
+    no_operation e = cc
+
+    no_jump : {c : Condition} {wide : Bool} {d : Register} {o : Operand} {z : ℤ} → Ldx Double false dst src off ≡ Jump c wide d o z → ⊥
+    no_jump e = cc
+
+unloaded : (alone : Bool) (code : List Insn) (r to : Trace) (t : State) (l : Option Op) (dst src : Register) (off : ℤ) → alone ≡ true → ((m k j d v : ℕ) → l ≡ Some (ops.Add m k j d v) → ⊥) → IsNext alone l r to → Has alone code to t → Has alone code r t
+unloaded alone code r to t None dst src off is f n run = unmoved alone code r to t n run
+unloaded false code r to t (Some op) dst src off is f n run = cc
+unloaded true code r to t (Some (ops.Load m k j v)) dst src off is f n run = loaded_alone code r to t m k j v n run
+unloaded true code r to t (Some (ops.Add m k j d v)) dst src off is f n run = absurd (f m k j d v refl)
+
+load_step : (b : Candidate) (shapes : List Shape) (p : ℕ) (i : Insn) (e : Relation) (n m : Facts) (pc q : ℕ) → IsOwnLoad b i → Establishes b i true e m p q → IsAccounted ((q, m) ∷ []) shapes i n pc → Simulates b shapes p i e n pc
+load_step b shapes p i e n m pc q o l sound = subst (λ (i : Insn). Establishes b i true e m p q → IsAccounted ((q, m) ∷ []) shapes i n pc → Simulates b shapes p i e n pc) (sym o.is) by l sound
+  where
+    i' : Insn
+    i' = Ldx Double false o.dst o.src o.off
+
+    by : Establishes b i' true e m p q → IsAccounted ((q, m) ∷ []) shapes i' n pc → Simulates b shapes p i' e n pc
+    by l sound = record {
+      goes = λ s t beside at sh d label u h r to next contain go.
+          let cover : (u.pc ≡ q) × Describes m u = by_one q m u (covered ((q, m) ∷ []) (exec i' s) label u (sound s d at sh) h) in
+          let a = load_alone b.low m o.dst o.src o.off s u t.reg label o.other cover.1 h in
+          let run : Has b.alone b.old to t = established b i' true e b.low m p q l s t u t beside.relation a.stepped cover.1 cover.0 beside.pc (beside.packet ∙ sym a.packet) (beside.ifindex ∙ sym a.ifindex) (beside.queue ∙ sym a.queue)
+          (beside.shapes ∙ sym a.shapes) (beside.find ∙ sym a.find) (λ j above. beside.stack j above ∙ sym (a.stack j)) r to contain (changes b.alone i' s u label r to d.state.shapes h next) go in
+          unloaded b.alone b.old r to t label o.dst o.src o.off o.alone (λ m k j d v is. only_additions i' s u m k j d v refl (subst (λ (l : Option Op). LeadsTo (exec i' s) l u) is h)) next run;
+      ends = λ s t beside d r0 x. absurd (need_exits (s.reg (number o.src)) _ r0 (λ a e. load_at_exits s (address a o.off) false Double (number o.dst) r0 e) x);
+    }
+
+-- the old program's store in place of an addition
+sum_stepped : (low : ℕ) (m : Facts) (dst src : Register) (off : ℤ) (s u : State) (g : ℕ → Option ℕ) → u ≡ at_slot s (s.pc + 1) → Describes m u → Stepped (AddCounter false dst src off) false low m (held s) g (held u) g
+sum_stepped low m dst src off s u g is d = record {
+  fits = held_fits u d.state;
+  kept = λ k small e. ap (λ (u : State). held u k) is;
+  words = λ k own other. ap (λ (u : State). held u k) is;
+  beside = λ dst' src' off' w k stutters e. absurd (false_true stutters);
+  stored = λ dst' src' off' w stutters e. absurd (false_true stutters);
+  loaded = λ dst' src' off' w stutters e. absurd (false_true stutters);
+  made = λ op wide dst' src' e. absurd (no_operation e);
+  noted = λ k x e small. held_register u k small ∙ noted_is m u k x d e;
+  packet = ap (λ (u : State). held u 64) is;
+  addresses = λ k id off' safe v e small. noted_within m u k id off' safe d v e small;
+  long = λ least e. noted_long m u least d e;
+  ends = λ k v small. noted_end m u k d v small;
+  ranged = λ k lo hi r small. noted_range m u k lo hi d r small;
+  met = λ cond wide dst' src' off' e. absurd (no_jump e);
+  stays = λ k e. refl;
+  old_kept = λ k e. refl;
+  old_made = λ op wide dst' src' stutters e. absurd (no_operation e);
+  alike = λ k small e altered. absurd (false_true altered);
+}
+  where
+    no_operation : {op : AluOp} {wide : Bool} {d : Register} {o : Operand} → AddCounter false dst src off ≡ Alu op wide d o → ⊥
+    no_operation e = cc
+
+    no_jump : {c : Condition} {wide : Bool} {d : Register} {o : Operand} {z : ℤ} → AddCounter false dst src off ≡ Jump c wide d o z → ⊥
+    no_jump e = cc
+
+add_exits : (place : regions.Place) (s : State) (src x r0 : ℕ) → add_to place s false src x ≡ Exited r0 → ⊥
+add_exits (InCounter m k j) s src x r0 e = cc
+add_exits (InPacket i) s src x r0 e = cc
+add_exits (InStack i) s src x r0 e = cc
+add_exits (InContext i) s src x r0 e = cc
+add_exits Nowhere s src x r0 e = cc
+
+sum_step : (b : Candidate) (shapes : List Shape) (p : ℕ) (i : Insn) (e : Relation) (n m : Facts) (pc q : ℕ) → IsStoredSum b p i e → Establishes b i false e m (p + 1) q → IsAccounted ((q, m) ∷ []) shapes i n pc → Simulates b shapes p i e n pc
+sum_step b shapes p i e n m pc q o l sound = subst (λ (i : Insn). Establishes b i false e m (p + 1) q → IsAccounted ((q, m) ∷ []) shapes i n pc → Simulates b shapes p i e n pc) (sym o.does.adds) by l sound
+  where
+    k : IsAddedStore e o.old i
+    k = o.does
+
+    i' : Insn
+    i' = AddCounter false k.dst k.src k.off
+
+    by : Establishes b i' false e m (p + 1) q → IsAccounted ((q, m) ∷ []) shapes i' n pc → Simulates b shapes p i' e n pc
+    by l sound = record {
+      goes = λ s t beside at sh d label u h r to next contain go.
+          let cover : (u.pc ≡ q) × Describes m u = by_one q m u (covered ((q, m) ∷ []) (exec i' s) label u (sound s d at sh) h) in
+          let a = adding_is false k.src k.dst k.off s u label h in
+          let left : u ≡ at_slot s (s.pc + 1) = adding_left k.src k.dst k.off s u label h in
+          let v : State = at_slot t (t.pc + 1) in
+          let run : Has b.alone b.old to v = established b i' false e b.low m (p + 1) q l s t u v beside.relation (sum_stepped b.low m k.dst k.src k.off s u t.reg left cover.1) cover.1 cover.0 (ap (λ (p : ℕ). p + 1) beside.pc)
+          (beside.packet ∙ sym (ap (λ (u : State). u.packet) left)) (beside.ifindex ∙ sym (ap (λ (u : State). u.ifindex) left)) (beside.queue ∙ sym (ap (λ (u : State). u.queue) left)) (beside.shapes ∙ sym (ap (λ (u : State). u.shapes) left))
+          (beside.find ∙ sym (ap (λ (u : State). u.find) left)) (λ j above. beside.stack j above ∙ sym (ap (λ (u : State). u.stack j) left)) r to contain (changes b.alone i' s u label r to d.state.shapes h next) go in
+          sum_in_front b.alone b.old e o.old i k p b.low s t r to label a.m a.k a.j a.delta a.found a.address o.alone (ap (slice_get b.old) beside.pc ∙ o.there) beside contain a.value a.held a.place a.label next run;
+      ends = λ s t beside d r0 x. absurd (need_exits (s.reg (number k.src)) _ r0 (λ y e. need_exits (s.reg (number k.dst)) _ r0 (λ a e. add_exits (reached s a k.off 8) s (number k.src) y r0 e) e) x);
+    }
+
 by_owner : (b : Candidate) (shapes : List Shape) (stutters : Bool) (p : ℕ) (i : Insn) (e : Relation) (n m : Facts) (pc q : ℕ) → is_jump i ≡ false → SimulatesStep b stutters p i e n m q → IsAccounted ((q, m) ∷ []) shapes i n pc → Simulates b shapes p i e n pc
-by_owner b shapes true p i e n m pc q j f sound = own_step b shapes p i e n m pc q f.0 f.1 sound
-by_owner b shapes false p i e n m pc q j f sound = both_step b shapes p i e n m pc q j f sound
+by_owner b shapes true p i e n m pc q j f sound = by f.0
+  where
+    by : IsOwnStep i b.low n ⊎ IsOwnLoad b i → Simulates b shapes p i e n pc
+    by (inl own) = own_step b shapes p i e n m pc q own f.1 sound
+    by (inr load) = load_step b shapes p i e n m pc q load f.1 sound
+by_owner b shapes false p i e n m pc q j (inl both) sound = both_step b shapes p i e n m pc q j both sound
+by_owner b shapes false p i e n m pc q j (inr sum) sound = sum_step b shapes p i e n m pc q sum.0 sum.1 sound
 
 pub exit_simulates : (b : Candidate) (shapes : List Shape) (p : ℕ) (e : Relation) (n : Facts) (pc : ℕ) → slice_get b.old p ≡ Some Exit → ReadsAlike e Exit → Simulates b shapes p Exit e n pc
 exit_simulates b shapes p e n pc there alike = record {
-  goes = λ s t beside at sh d label u h r0 bytes done go. absurd (needed (s.reg 0) Exited label u (λ x h. exited x label u h) h);
+  goes = λ s t beside at sh d label u h r to next contain go. absurd (needed (s.reg 0) Exited label u (λ x h. exited x label u h) h);
   ends = λ s t beside d r0 x. ap (λ (o : Option Insn). need o (λ i. exec i t)) (ap (slice_get b.old) beside.pc ∙ there) ∙ (ap (λ (o : Option ℕ). need o Exited) (alike_there e b.low p Exit s t beside alike) ∙ x);
 }
 
@@ -326,11 +522,12 @@ next_does P t (Some (ops.Add m k j d v)) u p h = absurd h
 -- a jump at which the old program stutters
 ja_simulates : (b : Candidate) (shapes : List Shape) (p : ℕ) (wide : Bool) (to : ℤ) (e : Relation) (n m : Facts) (pc q : ℕ) → IsAccounted ((q, m) ∷ []) shapes (Ja wide to) n pc → Establishes b (Ja wide to) true e m p q → Simulates b shapes p (Ja wide to) e n pc
 ja_simulates b shapes p wide to e n m pc q sound l = record {
-  goes = λ s t beside at sh d label u h r0 bytes done go.
+  goes = λ s t beside at sh d label u h r later next contain go.
       let cover : (u.pc ≡ q) × Describes m u = by_one q m u (covered ((q, m) ∷ []) (exec (Ja wide to) s) label u (sound s d at sh) h) in
-      needed (target s.pc to) _ label u (λ r h. next_does (λ (label : Option Op) (u : State). u.pc ≡ q → Describes m u → IsSimulated b r0 bytes done u → Runs b.old r0 bytes t (in_front label done)) (at_slot s r) label u
-      (λ here known go. established b (Ja wide to) true e b.low m p q l s t (at_slot s r) t beside.relation (jump_stepped (Ja wide to) b.low r m s t.reg refl (λ cond wide dst src off e. absurd (cc (e))) known) known here beside.pc beside.packet beside.ifindex beside.queue beside.shapes beside.find beside.stack r0 bytes done go)
-      h cover.0 cover.1 go) h;
+      needed (target s.pc to) _ label u (λ z h. next_does (λ (label : Option Op) (u : State). u.pc ≡ q → Describes m u → IsNext b.alone label r later → IsSimulated b later u → Has b.alone b.old r t) (at_slot s z) label u
+      (λ here known next go. unmoved b.alone b.old r later t next (established b (Ja wide to) true e b.low m p q l s t (at_slot s z) t beside.relation (jump_stepped (Ja wide to) b.low z m s t.reg refl (λ cond wide dst src off e. absurd (cc (e))) known) known here
+      beside.pc beside.packet beside.ifindex beside.queue beside.shapes beside.find beside.stack r later contain (jump_changes b.alone (Ja wide to) s z r later refl next) go))
+      h cover.0 cover.1 next go) h;
   ends = λ s t beside d r0 x. absurd (jumped_exits s to r0 x);
 }
 
@@ -366,9 +563,9 @@ not_ruled_out cond wide o p b c h k =
     sym h.met ∙ (ap (λ (x : ℕ). is_met cond wide x h.y) a ∙ (ap (λ (y : ℕ). is_met cond wide k.x y) d ∙ k.met))
 
 -- the old program's ways from slot p lead to a, or to b where the jump is taken
-abbrev Leads : List Insn → ℕ → Relation → ℕ → Condition → Bool → Register → Operand → Option ℕ → Option ℕ → Type 0
-Leads old low e p cond wide dst src a c = (s t : State) (way : Bool) → IsRelated e low p s t → Compared cond wide (s.reg (number dst)) (operand s src) way → (z : ℕ) → (if way then c else a) ≡ Some z → (r0 : ℕ) (bytes : List ℕ) (done : List Op) →
-    Runs old r0 bytes (at_slot t z) done → Runs old r0 bytes t done
+abbrev Leads : Bool → List Insn → ℕ → Relation → ℕ → Condition → Bool → Register → Operand → Option ℕ → Option ℕ → Type 0
+Leads alone old low e p cond wide dst src a c = (s t : State) (way : Bool) → IsRelated e low p s t → Compared cond wide (s.reg (number dst)) (operand s src) way → (z : ℕ) → (if way then c else a) ≡ Some z → (r : Trace) →
+    Has alone old r (at_slot t z) → Has alone old r t
 
 -- what is known of the numbers on each way
 taken_way : (cond : Condition) (wide : Bool) (dst : Register) (src : Operand) (off : ℤ) (s : State) → Compared cond wide (s.reg (number dst)) (operand s src) true → IsTakenIn (Jump cond wide dst src off) s
@@ -395,45 +592,45 @@ way_jumps cond true dst src off = opposed_jumps (opposite cond) dst src off
 way_jumps cond false dst src off = refl
 
 -- where a way leads to what the old program simulates, and is one that may be taken
-arrives : (b : Candidate) (i : Insn) (e : Relation) (p : ℕ) (n m : Facts) (way : Bool) (o : Option ℕ) (q q' : ℕ) (s t : State) (P : Type 0) (r0 : ℕ) (bytes : List ℕ) (done : List Op) → is_jump (on_way i way) ≡ true → IsTakenIn (on_way i way) s → IsRelated e b.low p s t → q' ≡ q → Describes m (at_slot s q') →
-    (IsDecided i e n (not way) → ⊥) → SimulatesWay b i e n way o m q → ((z : ℕ) → o ≡ Some z → Runs b.old r0 bytes (at_slot t z) done → P) → IsSimulated b r0 bytes done (at_slot s q') → P
-arrives b i e p n m way o q q' s t P r0 bytes done j met beside at d never (inl decided) f go = absurd (never decided)
-arrives b i e p n m way None q q' s t P r0 bytes done j met beside at d never (inr establishes) f go = absurd establishes
-arrives b i e p n m way (Some z) q q' s t P r0 bytes done j met beside at d never (inr establishes) f go =
-    f z refl (established b (on_way i way) true e b.low m z q establishes s t (at_slot s q') (at_slot t z) beside.relation (jump_stepped (on_way i way) b.low q' m s t.reg j met d) d at refl beside.packet beside.ifindex beside.queue beside.shapes beside.find beside.stack r0 bytes done go)
+arrives : (b : Candidate) (i : Insn) (e : Relation) (p : ℕ) (n m : Facts) (way : Bool) (o : Option ℕ) (q q' : ℕ) (s t : State) (P : Type 0) (r : Trace) → is_jump (on_way i way) ≡ true → IsTakenIn (on_way i way) s → IsRelated e b.low p s t → q' ≡ q → Describes m (at_slot s q') →
+    (IsDecided i e n (not way) → ⊥) → SimulatesWay b i e n way o m q → ((z : ℕ) → o ≡ Some z → Has b.alone b.old r (at_slot t z) → P) → Contain e (held s) (numbers b.alone r s) → IsSimulated b r (at_slot s q') → P
+arrives b i e p n m way o q q' s t P r j met beside at d never (inl decided) f contain go = absurd (never decided)
+arrives b i e p n m way None q q' s t P r j met beside at d never (inr establishes) f contain go = absurd establishes
+arrives b i e p n m way (Some z) q q' s t P r j met beside at d never (inr establishes) f contain go =
+    f z refl (established b (on_way i way) true e b.low m z q establishes s t (at_slot s q') (at_slot t z) beside.relation (jump_stepped (on_way i way) b.low q' m s t.reg j met d) d at refl beside.packet beside.ifindex beside.queue beside.shapes beside.find beside.stack r r contain (jump_changes b.alone (on_way i way) s q' r r j refl) go)
 
 ways_simulate : (b : Candidate) (shapes : List Shape) (p : ℕ) (a c : Option ℕ) (cond : Condition) (wide : Bool) (dst : Register) (src : Operand) (off : ℤ) (e : Relation) (n l m : Facts) (pc q r : ℕ) →
-    q ≡ pc + 1 → target pc off ≡ Some r → (q ≡ r → ⊥) → IsAccounted ((q, l) ∷ (r, m) ∷ []) shapes (Jump cond wide dst src off) n pc → SimulatesWays b (Jump cond wide dst src off) e n a c l q m r → Leads b.old b.low e p cond wide dst src a c →
+    q ≡ pc + 1 → target pc off ≡ Some r → (q ≡ r → ⊥) → IsAccounted ((q, l) ∷ (r, m) ∷ []) shapes (Jump cond wide dst src off) n pc → SimulatesWays b (Jump cond wide dst src off) e n a c l q m r → Leads b.alone b.old b.low e p cond wide dst src a c →
     Simulates b shapes p (Jump cond wide dst src off) e n pc
 ways_simulate b shapes p a c cond wide dst src off e n l m pc q r next to apart sound ways leads = record {
-  goes = λ s t beside at sh d label u h r0 bytes done go.
+  goes = λ s t beside at sh d label u h from later step contain go.
       let next_there : q ≡ s.pc + 1 = next ∙ ap (λ (pc : ℕ). pc + 1) (sym at) in
-      by s t beside at next_there d label u r0 bytes done
+      by s t beside at next_there d label u from later step contain
       (goes_by cond wide dst src off l m s r label u (ap (λ (pc : ℕ). target pc off) at ∙ to) (λ x. apart (next_there ∙ x))
       (subst (λ (x : ℕ). Accounts ((x, l) ∷ (r, m) ∷ []) (exec (Jump cond wide dst src off) s)) next_there (sound s d at sh)) h) go;
   ends = λ s t beside d r0 x. absurd (branch_exits s cond wide dst src off r0 x);
 }
   where
-    by : (s t : State) → IsRelated e b.low p s t → s.pc ≡ pc → q ≡ s.pc + 1 → Describes n s → (label : Option Op) (u : State) (r0 : ℕ) (bytes : List ℕ) (done : List Op) → Ways cond wide dst src off l m s label u → IsSimulated b r0 bytes done u →
-        Runs b.old r0 bytes t (in_front label done)
-    by s t beside at here d _ _ r0 bytes done (takes q' k x dm) go =
-        arrives b (Jump cond wide dst src off) e p n m true c r q' s t (Runs b.old r0 bytes t done) r0 bytes done refl (taken_way cond wide dst src off s k) beside (some_is (sym x ∙ (ap (λ (pc : ℕ). target pc off) at ∙ to))) dm
-        (λ never. true_false (not_ruled_out cond wide (s.reg (number dst)) (operand s src) true false k (never s t.reg d beside.relation))) ways.taken (λ z f run. leads s t true beside k z f r0 bytes done run) go
-    by s t beside at here d _ _ r0 bytes done (leaves k dl) go =
-        arrives b (Jump cond wide dst src off) e p n l false a q (s.pc + 1) s t (Runs b.old r0 bytes t done) r0 bytes done (way_jumps cond wide dst src off) (left_way cond wide dst src off s d.state k) beside (sym here) dl
-        (λ never. true_false (not_ruled_out cond wide (s.reg (number dst)) (operand s src) true false (never s t.reg d beside.relation) k)) ways.next (λ z f run. leads s t false beside k z f r0 bytes done run) go
+    by : (s t : State) → IsRelated e b.low p s t → s.pc ≡ pc → q ≡ s.pc + 1 → Describes n s → (label : Option Op) (u : State) (from later : Trace) → IsNext b.alone label from later → Contain e (held s) (numbers b.alone from s) → Ways cond wide dst src off l m s label u → IsSimulated b later u →
+        Has b.alone b.old from t
+    by s t beside at here d _ _ from later step contain (takes q' k x dm) go =
+        arrives b (Jump cond wide dst src off) e p n m true c r q' s t (Has b.alone b.old from t) from refl (taken_way cond wide dst src off s k) beside (some_is (sym x ∙ (ap (λ (pc : ℕ). target pc off) at ∙ to))) dm
+        (λ never. true_false (not_ruled_out cond wide (s.reg (number dst)) (operand s src) true false k (never s t.reg d beside.relation))) ways.taken (λ z f run. leads s t true beside k z f from run) contain (subst (λ (r : Trace). IsSimulated b r (at_slot s q')) (sym step) go)
+    by s t beside at here d _ _ from later step contain (leaves k dl) go =
+        arrives b (Jump cond wide dst src off) e p n l false a q (s.pc + 1) s t (Has b.alone b.old from t) from (way_jumps cond wide dst src off) (left_way cond wide dst src off s d.state k) beside (sym here) dl
+        (λ never. true_false (not_ruled_out cond wide (s.reg (number dst)) (operand s src) true false (never s t.reg d beside.relation) k)) ways.next (λ z f run. leads s t false beside k z f from run) contain (subst (λ (r : Trace). IsSimulated b r (at_slot s (s.pc + 1))) (sym step) go)
 
-stays_leads : (old : List Insn) (low : ℕ) (e : Relation) (p : ℕ) (cond : Condition) (wide : Bool) (dst : Register) (src : Operand) → Leads old low e p cond wide dst src (Some p) (Some p)
-stays_leads old low e p cond wide dst src = λ s t c beside k z x r0 bytes done run. subst (λ (t : State). Runs old r0 bytes t done) (ap (at_slot t) (sym (by c z x)) ∙ at_same e low p s t beside) run
+stays_leads : (alone : Bool) (old : List Insn) (low : ℕ) (e : Relation) (p : ℕ) (cond : Condition) (wide : Bool) (dst : Register) (src : Operand) → Leads alone old low e p cond wide dst src (Some p) (Some p)
+stays_leads alone old low e p cond wide dst src = λ s t c beside k z x r run. subst (λ (t : State). Has alone old r t) (ap (at_slot t) (sym (by c z x)) ∙ at_same e low p s t beside) run
   where
     by : (c : Bool) (z : ℕ) → (if c then Some p else Some p) ≡ Some z → p ≡ z
     by true z x = some_is x
     by false z x = some_is x
 
-jump_leads_on : (old : List Insn) (low : ℕ) (e : Relation) (p : ℕ) (cond : Condition) (wide : Bool) (dst : Register) (src : Operand) (off : ℤ) → ReadsAlike e (Jump cond wide dst src off) → slice_get old p ≡ Some (Jump cond wide dst src off) →
-    Leads old low e p cond wide dst src (Some (p + 1)) (target p off)
-jump_leads_on old low e p cond wide dst src off alike there = λ s t c beside k z x r0 bytes done run.
-    before old r0 bytes t (at_slot t z) None done (step_at old t (Jump cond wide dst src off) None (at_slot t z) (ap (slice_get old) beside.pc ∙ there)
+jump_leads_on : (alone : Bool) (old : List Insn) (low : ℕ) (e : Relation) (p : ℕ) (cond : Condition) (wide : Bool) (dst : Register) (src : Operand) (off : ℤ) → ReadsAlike e (Jump cond wide dst src off) → slice_get old p ≡ Some (Jump cond wide dst src off) →
+    Leads alone old low e p cond wide dst src (Some (p + 1)) (target p off)
+jump_leads_on alone old low e p cond wide dst src off alike there = λ s t c beside k z x r run.
+    silently alone old r t (at_slot t z) (step_at old t (Jump cond wide dst src off) None (at_slot t z) (ap (slice_get old) beside.pc ∙ there)
     (jump_leads cond wide dst src off t c (at_slot t z) (compared_old e low p cond wide dst src off s t c beside alike k) (by t c z beside.pc x))) run
   where
     by : (t : State) (c : Bool) (z : ℕ) → t.pc ≡ p → (if c then target p off else Some (p + 1)) ≡ Some z → LeadsTo (if c then jumped t off else Next (at_slot t (t.pc + 1))) None (at_slot t z)
@@ -441,33 +638,33 @@ jump_leads_on old low e p cond wide dst src off alike there = λ s t c beside k 
     by t false z pc x = ap (λ (pc : ℕ). at_slot t (pc + 1)) pc ∙ ap (at_slot t) (some_is x)
 
 -- what the old program has at slot p is the same jump but for its offset
-same_jump_leads : (old : List Insn) (low : ℕ) (e : Relation) (p : ℕ) (cond : Condition) (wide : Bool) (dst : Register) (src : Operand) (off : ℤ) (t : Option ℕ) (o : Option Insn) → ReadsAlike e (Jump cond wide dst src off) → slice_get old p ≡ o →
-    AreSameJump o p (Jump cond wide dst src off) t → Leads old low e p cond wide dst src (Some (p + 1)) t
-same_jump_leads old low e p cond wide dst src off t None alike there h = absurd h
-same_jump_leads old low e p cond wide dst src off t (Some (Jump cond' wide' dst' src' off')) alike there h =
+same_jump_leads : (alone : Bool) (old : List Insn) (low : ℕ) (e : Relation) (p : ℕ) (cond : Condition) (wide : Bool) (dst : Register) (src : Operand) (off : ℤ) (t : Option ℕ) (o : Option Insn) → ReadsAlike e (Jump cond wide dst src off) → slice_get old p ≡ o →
+    AreSameJump o p (Jump cond wide dst src off) t → Leads alone old low e p cond wide dst src (Some (p + 1)) t
+same_jump_leads alone old low e p cond wide dst src off t None alike there h = absurd h
+same_jump_leads alone old low e p cond wide dst src off t (Some (Jump cond' wide' dst' src' off')) alike there h =
     let same : Jump cond' wide' dst' src' off' ≡ Jump cond wide dst src off' = let x = h.1 in cc in
-    subst (λ (t : Option ℕ). Leads old low e p cond wide dst src (Some (p + 1)) t) h.2 (jump_leads_on old low e p cond wide dst src off' alike (there ∙ ap Some same))
-same_jump_leads old low e p cond wide dst src off t (Some (Alu op wide' dst' src')) alike there h = absurd h
-same_jump_leads old low e p cond wide dst src off t (Some (Neg wide' dst')) alike there h = absurd h
-same_jump_leads old low e p cond wide dst src off t (Some (End kind width dst')) alike there h = absurd h
-same_jump_leads old low e p cond wide dst src off t (Some (MovSx wide' bits dst' src')) alike there h = absurd h
-same_jump_leads old low e p cond wide dst src off t (Some (Const dst' value)) alike there h = absurd h
-same_jump_leads old low e p cond wide dst src off t (Some (MapRef dst' m)) alike there h = absurd h
-same_jump_leads old low e p cond wide dst src off t (Some (Ldx size signed dst' src' off')) alike there h = absurd h
-same_jump_leads old low e p cond wide dst src off t (Some (St size dst' off' imm)) alike there h = absurd h
-same_jump_leads old low e p cond wide dst src off t (Some (Stx size dst' src' off')) alike there h = absurd h
-same_jump_leads old low e p cond wide dst src off t (Some (AddCounter fetch dst' src' off')) alike there h = absurd h
-same_jump_leads old low e p cond wide dst src off t (Some (Ja wide' to)) alike there h = absurd h
-same_jump_leads old low e p cond wide dst src off t (Some (Call helper)) alike there h = absurd h
-same_jump_leads old low e p cond wide dst src off t (Some Exit) alike there h = absurd h
-same_jump_leads old low e p cond wide dst src off t (Some Second) alike there h = absurd h
+    subst (λ (t : Option ℕ). Leads alone old low e p cond wide dst src (Some (p + 1)) t) h.2 (jump_leads_on alone old low e p cond wide dst src off' alike (there ∙ ap Some same))
+same_jump_leads alone old low e p cond wide dst src off t (Some (Alu op wide' dst' src')) alike there h = absurd h
+same_jump_leads alone old low e p cond wide dst src off t (Some (Neg wide' dst')) alike there h = absurd h
+same_jump_leads alone old low e p cond wide dst src off t (Some (End kind width dst')) alike there h = absurd h
+same_jump_leads alone old low e p cond wide dst src off t (Some (MovSx wide' bits dst' src')) alike there h = absurd h
+same_jump_leads alone old low e p cond wide dst src off t (Some (Const dst' value)) alike there h = absurd h
+same_jump_leads alone old low e p cond wide dst src off t (Some (MapRef dst' m)) alike there h = absurd h
+same_jump_leads alone old low e p cond wide dst src off t (Some (Ldx size signed dst' src' off')) alike there h = absurd h
+same_jump_leads alone old low e p cond wide dst src off t (Some (St size dst' off' imm)) alike there h = absurd h
+same_jump_leads alone old low e p cond wide dst src off t (Some (Stx size dst' src' off')) alike there h = absurd h
+same_jump_leads alone old low e p cond wide dst src off t (Some (AddCounter fetch dst' src' off')) alike there h = absurd h
+same_jump_leads alone old low e p cond wide dst src off t (Some (Ja wide' to)) alike there h = absurd h
+same_jump_leads alone old low e p cond wide dst src off t (Some (Call helper)) alike there h = absurd h
+same_jump_leads alone old low e p cond wide dst src off t (Some Exit) alike there h = absurd h
+same_jump_leads alone old low e p cond wide dst src off t (Some Second) alike there h = absurd h
 
 jump_simulates : (b : Candidate) (shapes : List Shape) (stutters : Bool) (p : ℕ) (cond : Condition) (wide : Bool) (dst : Register) (src : Operand) (off : ℤ) (e : Relation) (n l m : Facts) (pc q r : ℕ) → IsBranch (Jump cond wide dst src off) pc q r →
     IsAccounted ((q, l) ∷ (r, m) ∷ []) shapes (Jump cond wide dst src off) n pc → SimulatesBranch b stutters p (Jump cond wide dst src off) e n l q m r → Simulates b shapes p (Jump cond wide dst src off) e n pc
 jump_simulates b shapes true p cond wide dst src off e n l m pc q r split sound f =
-    ways_simulate b shapes p (Some p) (Some p) cond wide dst src off e n l m pc q r split.0 split.1 split.2 sound f (stays_leads b.old b.low e p cond wide dst src)
+    ways_simulate b shapes p (Some p) (Some p) cond wide dst src off e n l m pc q r split.0 split.1 split.2 sound f (stays_leads b.alone b.old b.low e p cond wide dst src)
 jump_simulates b shapes false p cond wide dst src off e n l m pc q r split sound f =
-    ways_simulate b shapes p (Some (p + 1)) f.to cond wide dst src off e n l m pc q r split.0 split.1 split.2 sound f.both (same_jump_leads b.old b.low e p cond wide dst src off f.to (slice_get b.old p) f.alike refl f.same_target)
+    ways_simulate b shapes p (Some (p + 1)) f.to cond wide dst src off e n l m pc q r split.0 split.1 split.2 sound f.both (same_jump_leads b.alone b.old b.low e p cond wide dst src off f.to (slice_get b.old p) f.alike refl f.same_target)
 
 pub branch_simulates : (b : Candidate) (shapes : List Shape) (stutters : Bool) (p : ℕ) (i : Insn) (e : Relation) (n l m : Facts) (pc q r : ℕ) → IsBranch i pc q r → IsAccounted ((q, l) ∷ (r, m) ∷ []) shapes i n pc → SimulatesBranch b stutters p i e n l q m r → Simulates b shapes p i e n pc
 branch_simulates b shapes stutters p (Jump cond wide dst src off) e n l m pc q r split sound f = jump_simulates b shapes stutters p cond wide dst src off e n l m pc q r split sound f
@@ -520,23 +717,42 @@ claimed b new shapes pc i witness e list a c x y f = λ i' witness' e' list' k b
     (subst (λ (p : Witness). Simulates b shapes p.at i e (facts box.value) pc) same_witness (f k box (subst (λ (l : Vec (Box Noted)). slice_get l.items k ≡ Some box) same_list at))))
 
 -- of each state of a walk
-pub walks : (b : Candidate) (new : List Insn) (shapes : List Shape) (r0 : ℕ) (bytes : List ℕ) (s : State) (labels : List (Option Op)) → IsSimulation b new shapes → Walk new r0 bytes s labels → s.shapes ≡ shapes → IsSimulated b r0 bytes (operations labels) s
-walks b new shapes r0 bytes _ _ k (ends s e same) sh = λ witness eqs t here claimed known beside.
+pub walks : (b : Candidate) (new : List Insn) (shapes : List Shape) (r0 : ℕ) (bytes : List ℕ) (r : Trace) (s : State) (labels : List (Option Op)) → IsSimulation b new shapes → Walk new r0 bytes s labels → r.r0 ≡ r0 → r.bytes ≡ bytes →
+    Follows b.alone labels r → s.shapes ≡ shapes → IsSimulated b r s
+walks b new shapes r0 bytes r _ _ k (ends s e same) one packet f sh = λ witness eqs t here claimed known beside contain.
     let there = needed_exit (slice_get new s.pc) s r0 (step b.old t ≡ Exited r0)
     (λ i f e. (k.each s.pc i witness eqs known.list known.k known.note f here claimed known.here known.at).ends s t beside known.describes r0 e) e in
-    record { labels = None ∷ []; walk = ends t there (beside.packet ∙ same); did = refl }
-walks b new shapes r0 bytes _ _ k (goes s u label labels h w) sh = λ witness eqs t here claimed known beside.
-    let go = walks b new shapes r0 bytes u labels k w ((kept new s label u h).shapes ∙ sh) in
-    subst (λ (done : List Op). Runs b.old r0 bytes t done) (sym (operations_front label labels))
-    (needed_is (slice_get new s.pc) _ label u (λ i e h. (k.each s.pc i witness eqs known.list known.k known.note e here claimed known.here known.at).goes s t beside refl sh known.describes label u h r0 bytes (operations labels) go) h)
+    ended b.alone b.old r t (there ∙ ap Exited (sym one)) (beside.packet ∙ (same ∙ sym packet)) f
+walks b new shapes r0 bytes r _ _ k (goes s u label labels h w) one packet f sh = λ witness eqs t here claimed known beside contain.
+    let n = following b.alone label labels r f in
+    let go = walks b new shapes r0 bytes n.trace u labels k w (sym n.number ∙ one) (sym n.packet ∙ packet) n.follows ((kept new s label u h).shapes ∙ sh) in
+    needed_is (slice_get new s.pc) _ label u (λ i e h. (k.each s.pc i witness eqs known.list known.k known.note e here claimed known.here known.at).goes s t beside refl sh known.describes label u h r n.trace n.next contain go) h
+
+-- from a start
+begins : (b : Candidate) (new : List Insn) (shapes : List Shape) → ((s : State) → IsStart s → Describes entry s) → IsSimulation b new shapes → (s : State) → IsStart s → (r : Trace) → IsSimulated b r s → Has b.alone b.old r s
+begins b new shapes begun k = λ s is r go.
+    k.initial.start k.initial.first k.initial.here s s is.pc (begun s is)
+    (record { pc = is.pc; packet = refl; ifindex = refl; queue = refl; shapes = refl; find = refl; stack = λ i l. refl; relation = k.initial.at_start (held s) s.reg (held_fits s is.state) (λ j l. sym (held_register s j l)) }) r
+    (λ j content small e. absurd (none_content (sym (k.initial.contents j small) ∙ e))) go
+  where
+    none_content : {content : Content} → None ≡ Some content → ⊥
+    none_content e = cc
 
 -- a program that the old one simulates has its runs
-pub same_runs : (b : Candidate) (new : List Insn) (shapes : List Shape) → ((s : State) → IsStart s → Describes entry s) → IsSimulation b new shapes → IsSame shapes b.old new
-same_runs b new shapes begun k = λ s is e r0 bytes done run.
-    let go : IsSimulated b r0 bytes (operations run.labels) s = walks b new shapes r0 bytes s run.labels k run.walk e in
-    let there : Runs b.old r0 bytes s (operations run.labels) = k.initial.start k.initial.first k.initial.here s s is.pc (begun s is)
-    (record { pc = is.pc; packet = refl; ifindex = refl; queue = refl; shapes = refl; find = refl; stack = λ i l. refl; relation = k.initial.at_start (held s) s.reg (held_fits s is.state) (λ j l. sym (held_register s j l)) }) r0 bytes (operations run.labels) go in
-    subst (λ (done : List Op). Runs b.old r0 bytes s done) run.did there
+pub same_runs : (b : Candidate) (new : List Insn) (shapes : List Shape) → ((s : State) → IsStart s → Describes entry s) → b.alone ≡ false → IsSimulation b new shapes → IsSame shapes b.old new
+same_runs b new shapes begun exact k = λ s is e r0 bytes done run.
+    let r : Trace = record { r0 = r0; bytes = bytes; done = done; found = λ m k j. 0; left = λ m k j. 0 } in
+    let follows : Follows b.alone run.labels r = subst (λ (alone : Bool). Follows alone run.labels r) (sym exact) run.did in
+    subst (λ (alone : Bool). Has alone b.old r s) exact (begins b new shapes begun k s is r (walks b new shapes r0 bytes r s run.labels k run.walk refl refl follows e))
+
+-- alone it does what the program that it simulates does
+pub alone_runs : (b : Candidate) (p : Accepted) → ((s : State) → IsStart s → Describes entry s) → ((s : State) → IsStart s → s.shapes ≡ p.shapes → IsWhole (course (instructions p.code) p.code s)) → b.alone ≡ true → IsSimulation b p.code p.shapes → IsSameAlone p.shapes b.old p.code
+alone_runs b p begun whole alone k = λ s is e c d w r0 bytes run.
+    let a = operates (instructions p.code) p.code r0 bytes s c d w (whole s is e) run in
+    let r : Trace = record { r0 = r0; bytes = bytes; done = a.done; found = c; left = d } in
+    let finds : FindsAndLeaves c (does (operations a.run.labels)) d = subst (λ (done : List Op). FindsAndLeaves c (does done) d) (sym a.run.did) a.leaves in
+    let follows : Follows b.alone a.run.labels r = subst (λ (alone : Bool). Follows alone a.run.labels r) (sym alone) finds in
+    subst (λ (alone : Bool). Has alone b.old r s) alone (begins b p.code p.shapes begun k s is r (walks b p.code p.shapes r0 bytes r s a.run.labels k a.run.walk refl refl follows e))
 
 pub taken_if : (i : Insn) (cond : Condition) (wide : Bool) (dst : Register) (src : Operand) (off : ℤ) (e : Relation) (low : ℕ) (n : Facts) (p : ℕ) (o : Option ℕ) → i ≡ Jump cond wide dst src off → ReadsAlike e (Jump cond wide dst src off) →
     IsDecided (Jump cond wide dst src off) e n true → o ≡ target p off → IfSome o (IsSilent i e low n p)

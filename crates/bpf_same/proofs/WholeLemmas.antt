@@ -53,21 +53,21 @@ store_faults code s t m k j v c =
     ap (λ (o : Option Insn). need o (λ i. exec i s)) c.here ∙ (ap (λ (o : Option ℕ). need o (λ x. need (s.reg (number c.dst)) (λ a. store_to (reached s a c.off 8) s 8 x))) c.value
     ∙ (ap (λ (o : Option ℕ). need o (λ a. store_to (reached s a c.off 8) s 8 v)) c.address ∙ ap (λ (p : Place). store_to p s 8 v) c.place))
 
-no_step : (code : List Insn) (s t u : State) (m k j v : ℕ) (l : Option Op) → IsCounterStore code s m k j v t → LeadsTo (step code s) l u → ⊥
+pub no_step : (code : List Insn) (s t u : State) (m k j v : ℕ) (l : Option Op) → IsCounterStore code s m k j v t → LeadsTo (step code s) l u → ⊥
 no_step code s t u m k j v l c h = no_fault l u (subst (λ (o : Outcome). LeadsTo o l u) (store_faults code s t m k j v c) h)
 
-no_end : (code : List Insn) (s t : State) (m k j v r0 : ℕ) → IsCounterStore code s m k j v t → step code s ≡ Exited r0 → ⊥
+pub no_end : (code : List Insn) (s t : State) (m k j v r0 : ℕ) → IsCounterStore code s m k j v t → step code s ≡ Exited r0 → ⊥
 no_end code s t m k j v r0 c e = by (sym (store_faults code s t m k j v c) ∙ e)
   where
     by : Fault ≡ Exited r0 → ⊥
     by e = cc
 
 -- two stores of one step
-record AreOneStore (m k j v m' k' j' v' : ℕ) (t t' : State) : Type 0 where
-  same : Stores m k j v ≡ Stores m' k' j' v'
-  next : t' ≡ t
+pub record AreOneStore (m k j v m' k' j' v' : ℕ) (t t' : State) : Type 0 where
+  pub same : Stores m k j v ≡ Stores m' k' j' v'
+  pub next : t' ≡ t
 
-one_store : (code : List Insn) (s t t' : State) (m k j v m' k' j' v' : ℕ) → IsCounterStore code s m k j v t → IsCounterStore code s m' k' j' v' t' → AreOneStore m k j v m' k' j' v' t t'
+pub one_store : (code : List Insn) (s t t' : State) (m k j v m' k' j' v' : ℕ) → IsCounterStore code s m k j v t → IsCounterStore code s m' k' j' v' t' → AreOneStore m k j v m' k' j' v' t t'
 one_store code s t t' m k j v m' k' j' v' c d =
     let insn : Stx Double c.dst c.src c.off ≡ Stx Double d.dst d.src d.off = some_is (sym c.here ∙ d.here) in
     let dst : c.dst ≡ d.dst = cc in
@@ -78,12 +78,12 @@ one_store code s t t' m k j v m' k' j' v' c d =
     let place : InCounter m k j ≡ InCounter m' k' j' = sym c.place ∙ (ap (λ (a : ℕ). reached s a c.off 8) base ∙ (ap (λ (o : ℤ). reached s d.base o 8) off ∙ d.place)) in
     record { same = cc (value, place); next = d.next ∙ sym c.next }
 
-record AreOne (r0 r0' : ℕ) (bytes bytes' : List ℕ) (effects effects' : List Effect) : Type 0 where
-  number : r0 ≡ r0'
-  packet : bytes ≡ bytes'
-  did : effects ≡ effects'
+pub record AreOne (r0 r0' : ℕ) (bytes bytes' : List ℕ) (effects effects' : List Effect) : Type 0 where
+  pub number : r0 ≡ r0'
+  pub packet : bytes ≡ bytes'
+  pub did : effects ≡ effects'
 
-in_front : (e e' : Effect) (r0 r0' : ℕ) (bytes bytes' : List ℕ) (effects effects' : List Effect) → e ≡ e' → AreOne r0 r0' bytes bytes' effects effects' → AreOne r0 r0' bytes bytes' (e ∷ effects) (e' ∷ effects')
+pub in_front : (e e' : Effect) (r0 r0' : ℕ) (bytes bytes' : List ℕ) (effects effects' : List Effect) → e ≡ e' → AreOne r0 r0' bytes bytes' effects effects' → AreOne r0 r0' bytes bytes' (e ∷ effects) (e' ∷ effects')
 in_front e e' r0 r0' bytes bytes' effects effects' same a = record { number = a.number; packet = a.packet; did = ap (λ (e : Effect). e ∷ effects) same ∙ ap (λ (l : List Effect). e' ∷ l) a.did }
 
 -- two walks of one program from one state, of which the second finds what the first found

@@ -1,9 +1,12 @@
 -- For proofs: no claim rests on this file.
 -- When an old program simulates what a new one does.
-use Rattle.std.specs.Prelude.{ℕ, ℤ, ◌+◌, ◌≡◌, ◌<◌, ◌≤◌, ◌⊎◌, List, ◌∷◌, Option, None, Some, Bool, true, false, not, slice_get}
+use Rattle.std.specs.Prelude.{ℕ, ℤ, ◌+◌, ◌≡◌, ◌<◌, ◌≤◌, ◌⊎◌, List, Option, None, Some, Bool, true, false, not, slice_get}
 use Rattle.std.specs.Global.{Box, Vec}
+use Rattle.bpf_insn.specs.declared.register.Register.{Register}
+use Rattle.bpf_insn.specs.declared.register.Register.TheVariants.{R10}
+use Rattle.bpf_insn.specs.declared.size.Size.TheVariants.{Double}
 use Rattle.bpf_insn.specs.declared.insn.Insn.{Insn}
-use Rattle.bpf_insn.specs.declared.insn.Insn.TheVariants.{Ja, Jump}
+use Rattle.bpf_insn.specs.declared.insn.Insn.TheVariants.{Ldx, Ja, Jump}
 use Rattle.bpf_note.specs.Shape.{Shape}
 use Rattle.bpf_note.specs.State.{State}
 use Rattle.bpf_note.specs.Parts.{Noted, facts}
@@ -17,7 +20,8 @@ use Rattle.bpf_flow.specs.Step.{Exited, at_slot, exec, step, target, LeadsTo}
 use Rattle.bpf_same.specs.declared.witness.Witness.{Witness}
 use Rattle.bpf_same.specs.declared.relation.Relation.{Relation}
 use Rattle.bpf_same.specs.Decided.{IsDecided, on_way}
-use Rattle.bpf_same.specs.Same.{Runs}
+use Rattle.bpf_same.specs.Traces.{Trace, Has, IsNext, numbers}
+use Rattle.bpf_same.specs.Contents.{content_of, Contain, IsAddedStore, PreservesContents}
 use Rattle.bpf_same.specs.LinearForms.{held, IsWord, Hold}
 use Rattle.bpf_same.specs.Stepped.{Preserves, ReadsAlike, Shares, IsOwnStep}
 use Rattle.bpf_same.specs.Moved.{DoesAlike}
@@ -26,13 +30,15 @@ abbrev pub Notes : Type 0
 Notes = List (Vec (Box Noted))
 
 -- a candidate for a simulation: of each slot of a new program its witness, notes of which one describes the state, and the relation of
--- both states; and below which byte of the stack the new program's own words lie
+-- both states; below which byte of the stack the new program's own words lie; and whether the programs alone have
+-- the counters
 pub record Candidate : Type 0 where
   pub old : List Insn
   pub witnesses : List Witness
   pub notes : Notes
   pub relations : List Relation
   pub low : ℕ
+  pub alone : Bool
 
 -- one of the notes at slot q describes the state
 pub record IsKnown (notes : Notes) (q : ℕ) (s : State) : Type 0 where
@@ -54,28 +60,30 @@ pub record IsRelated (e : Relation) (low p : ℕ) (s t : State) : Type 0 where
   pub stack : (i : ℕ) → low ≤ i → t.stack i ≡ s.stack i
   pub relation : Hold e (held s) t.reg
 
--- from each state of the old program at the witness that is related to the new one's state it has this run
-abbrev pub IsSimulated : Candidate → ℕ → List ℕ → List Op → State → Type 0
-IsSimulated b r0 bytes done u = (witness : Witness) (e : Relation) (t : State) → slice_get b.witnesses u.pc ≡ Some witness → slice_get b.relations u.pc ≡ Some e → IsKnown b.notes u.pc u → IsRelated e b.low witness.at u t → Runs b.old r0 bytes t done
+-- from each state of the old program at the witness that is related to the new one's state it has such a run
+abbrev pub IsSimulated : Candidate → Trace → State → Type 0
+IsSimulated b r u = (witness : Witness) (e : Relation) (t : State) → slice_get b.witnesses u.pc ≡ Some witness → slice_get b.relations u.pc ≡ Some e → IsKnown b.notes u.pc u → IsRelated e b.low witness.at u t →
+    Contain e (held u) (numbers b.alone r u) → Has b.alone b.old r t
 
 -- where this is known, the instruction is a silent step: it leads from slot p to slot q and does nothing else
 abbrev pub IsSilent : Insn → Relation → ℕ → Facts → ℕ → ℕ → Type 0
 IsSilent i e low n p q = (s t : State) → Describes n s → IsRelated e low p s t → LeadsTo (exec i t) None (at_slot t q)
 
 -- where this is known, silent steps lead the old program from slot p to slot q
-abbrev pub ReachesSilently : List Insn → Relation → ℕ → Facts → ℕ → ℕ → Type 0
-ReachesSilently old e low n p q = (s t : State) → Describes n s → IsRelated e low p s t → (r0 : ℕ) (bytes : List ℕ) (done : List Op) → Runs old r0 bytes (at_slot t q) done → Runs old r0 bytes t done
+abbrev pub ReachesSilently : Bool → List Insn → Relation → ℕ → Facts → ℕ → ℕ → Type 0
+ReachesSilently alone old e low n p q = (s t : State) → Describes n s → IsRelated e low p s t → (r : Trace) → Has alone old r (at_slot t q) → Has alone old r t
 
 -- where this is known at slot q of the new program, the old one simulates it from slot p on
 abbrev pub SimulatesFrom : Candidate → Facts → ℕ → ℕ → Type 0
-SimulatesFrom b n p q = (e : Relation) → slice_get b.relations q ≡ Some e → (s t : State) → s.pc ≡ q → Describes n s → IsRelated e b.low p s t → (r0 : ℕ) (bytes : List ℕ) (done : List Op) →
-    IsSimulated b r0 bytes done s → Runs b.old r0 bytes t done
+SimulatesFrom b n p q = (e : Relation) → slice_get b.relations q ≡ Some e → (s t : State) → s.pc ≡ q → Describes n s → IsRelated e b.low p s t → (r : Trace) →
+    Contain e (held s) (numbers b.alone r s) → IsSimulated b r s → Has b.alone b.old r t
 
 -- after the instruction the relation of slot q of the new program holds, and the old one simulates it from slot p on
 pub record Establishes (b : Candidate) (i : Insn) (stutters : Bool) (e : Relation) (n : Facts) (p q : ℕ) : Type 0 where
   pub next : Relation
   pub here : slice_get b.relations q ≡ Some next
   pub preserves : Preserves i stutters b.low n e next
+  pub contents : PreservesContents i stutters b.low n e next
   pub simulated : SimulatesFrom b n p q
 
 -- the relation of slot q holds after the instruction
@@ -83,6 +91,7 @@ pub record PreservesAt (b : Candidate) (i : Insn) (stutters : Bool) (e : Relatio
   pub next : Relation
   pub here : slice_get b.relations q ≡ Some next
   pub preserves : Preserves i stutters b.low n e next
+  pub contents : PreservesContents i stutters b.low n e next
 
 abbrev pub EstablishesAt : Candidate → Insn → Bool → Relation → Facts → Option ℕ → ℕ → Type 0
 EstablishesAt b i stutters e n (Some p) q = Establishes b i stutters e n p q
@@ -100,10 +109,26 @@ pub record IsSharedStep (b : Candidate) (p : ℕ) (i : Insn) (e : Relation) (n m
   pub copied : IsCopied b p i e n
   pub establishes : Establishes b i false e m (next_slot i p) q
 
+-- the old program, alone, stores at slot p to the counter that this adds to
+pub record IsStoredSum (b : Candidate) (p : ℕ) (i : Insn) (e : Relation) : Type 0 where
+  pub alone : b.alone ≡ true
+  pub old : Insn
+  pub there : slice_get b.old p ≡ Some old
+  pub does : IsAddedStore e old i
+
+-- the new program, alone, loads what a counter may hold, and no word of its own
+pub record IsOwnLoad (b : Candidate) (i : Insn) : Type 0 where
+  pub alone : b.alone ≡ true
+  pub dst : Register
+  pub src : Register
+  pub off : ℤ
+  pub is : i ≡ Ldx Double false dst src off
+  pub other : src ≡ R10 → ⊥
+
 -- a step in which the old program stutters, or which both take
 abbrev pub SimulatesStep : Candidate → Bool → ℕ → Insn → Relation → Facts → Facts → ℕ → Type 0
-SimulatesStep b true p i e n m q = IsOwnStep i b.low n × Establishes b i true e m p q
-SimulatesStep b false p i e n m q = IsSharedStep b p i e n m q
+SimulatesStep b true p i e n m q = (IsOwnStep i b.low n ⊎ IsOwnLoad b i) × Establishes b i true e m p q
+SimulatesStep b false p i e n m q = IsSharedStep b p i e n m q ⊎ IsStoredSum b p i e × Establishes b i false e m (p + 1) q
 
 -- an instruction that leads to slot q alone
 abbrev pub SimulatesPlain : Candidate → Bool → ℕ → Insn → Relation → Facts → Facts → ℕ → Type 0
@@ -146,15 +171,10 @@ IsBranch i pc q r = ⊥
 abbrev pub IsAccounted : Edges → List Shape → Insn → Facts → ℕ → Type 0
 IsAccounted es shapes i n pc = (s : State) → Describes n s → s.pc ≡ pc → s.shapes ≡ shapes → Accounts es (exec i s)
 
--- an operation in front, if the label has one
-abbrev pub in_front : Option Op → List Op → List Op
-in_front None done = done
-in_front (Some op) done = op ∷ done
-
 -- the old program at slot p simulates the new one's instruction at slot pc
 pub record Simulates (b : Candidate) (shapes : List Shape) (p : ℕ) (i : Insn) (e : Relation) (n : Facts) (pc : ℕ) : Type 0 where
-  pub goes : (s t : State) → IsRelated e b.low p s t → s.pc ≡ pc → s.shapes ≡ shapes → Describes n s → (label : Option Op) (u : State) → LeadsTo (exec i s) label u → (r0 : ℕ) (bytes : List ℕ) (done : List Op) →
-      IsSimulated b r0 bytes done u → Runs b.old r0 bytes t (in_front label done)
+  pub goes : (s t : State) → IsRelated e b.low p s t → s.pc ≡ pc → s.shapes ≡ shapes → Describes n s → (label : Option Op) (u : State) → LeadsTo (exec i s) label u → (r d : Trace) → IsNext b.alone label r d →
+      Contain e (held s) (numbers b.alone r s) → IsSimulated b d u → Has b.alone b.old r t
   pub ends : (s t : State) → IsRelated e b.low p s t → Describes n s → (r0 : ℕ) → exec i s ≡ Exited r0 → step b.old t ≡ Exited r0
 
 -- the instruction may lead elsewhere than to the next slot
@@ -177,6 +197,7 @@ pub record IsInitial (b : Candidate) : Type 0 where
   pub first : Relation
   pub here : slice_get b.relations 0 ≡ Some first
   pub at_start : HoldsAtStart first
+  pub contents : (k : ℕ) → k < 8 → content_of first k ≡ None
   pub start : SimulatesFrom b entry 0 0
 
 -- a simulation: the base, and each step

@@ -3,20 +3,30 @@ ghost use Rattle.std.specs.Prelude.{◌≡◌, ◌<◌, ◌≤◌, ◌≤ℤ◌,
 ghost use Rattle.bpf_insn.specs.Register.{number};
 ghost use Rattle.bpf_note.specs.Describes.{Describes};
 ghost use Rattle.bpf_note.specs.Parts.{facts};
-ghost use Rattle.bpf_note.specs.State.{State};
+ghost use Rattle.bpf_note.specs.State.{State, constants_start, values_start};
 ghost use Rattle.bpf_same.specs.LinearForms.{Hold};
 ghost use Rattle.bpf_same.specs.Stepped.{IsAbove, IsOwnAccess, IsOwnStep, ReadsAlike, Shares, operand_in};
 
 use crate::relation::Relation;
 use crate::step::own_word;
 use bpf_insn::{AluOp, Insn, Operand, Register, Size};
-use bpf_note::{Note, Val};
+use bpf_note::{CONSTANTS_START, CONSTANTS_STRIDE, Note, Val};
 
 /// Returns whether offsets from the stack's end lie at or above a byte.
 fn is_at_least(low: u32, at: i16, off: i16) -> bool
     ensures { IsTrue result → pos low ≤ℤ ((pos 512 +ℤ at) +ℤ off) }
 {
     i64::from(low) <= 512 + i64::from(at) + i64::from(off)
+}
+
+/// The first address past the constants of all maps.
+const CONSTANTS_END: u64 = CONSTANTS_START + 16 * CONSTANTS_STRIDE;
+
+/// Returns whether all numbers of a range are addresses of constants. So no offset leads from there to the stack.
+fn are_of_constants(lo: u64, hi: u64) -> bool
+    ensures { IsTrue result → (constants_start ≤ lo) × (hi < values_start) }
+{
+    CONSTANTS_START <= lo && hi < CONSTANTS_END
 }
 
 /// Returns whether an access doesn't touch the stack below `low`.
@@ -28,6 +38,7 @@ fn is_above(note: &Note, base: Register, off: i16, low: u32) -> bool
         Val::Pkt { .. } => true,
         Val::Ctx => true,
         Val::Value { .. } => true,
+        Val::Num { lo, hi } if are_of_constants(lo, hi) => true,
         _ => low == 0,
     }
 }

@@ -7,10 +7,11 @@ use crate::relation::Relation;
 use crate::room::{LONGEST, ROOMS, Room};
 use crate::shifted::is_shift;
 use crate::step::{PACKET_START, Step, alters};
+use bpf_insn::{AluOp, Insn, Operand, Register};
 use bpf_note::Val;
 
 /// A linear form before a step, by terms that hold the same after it.
-fn moved(step: &Step, form: LinearForm) -> Option<LinearForm> {
+pub(crate) fn moved(step: &Step, form: LinearForm) -> Option<LinearForm> {
     let mut total = LinearForm::constant(form.constant);
     for part in 0..TERMS {
         if form.has(part) {
@@ -52,7 +53,12 @@ fn form_after(step: &Step, found: &Relation, term: u8) -> Option<LinearForm>
 }
 
 /// The form of a term after a step, by an earlier one that differs by a constant.
-fn form_beside(step: &Step, found: &Relation, here: LinearForm, term: u8) -> Option<LinearForm>
+pub(crate) fn form_beside(
+    step: &Step,
+    found: &Relation,
+    here: LinearForm,
+    term: u8,
+) -> Option<LinearForm>
     requires { term ≤ 64 }
 {
     for other in 0..term {
@@ -66,12 +72,44 @@ fn form_beside(step: &Step, found: &Relation, here: LinearForm, term: u8) -> Opt
     None
 }
 
+/// Makes registers that held what another one was subtracted from the sum of that one and the difference.
+fn add_sums(step: &Step, found: &mut Relation, dst: Register, src: Register) {
+    let difference = dst.number();
+    if dst == src || step.new_after(difference).is_some() {
+        return;
+    }
+    let whole = Some(step.before.new_form(difference));
+    let part = found.new_form(src.number());
+    let Some(sum) = LinearForm::held(difference).plus(part) else {
+        return;
+    };
+    for register in 0..REGISTERS {
+        if register != difference && register != src.number() && step.new_after(register) == whole {
+            found.new[register as usize] = Some(sum);
+        }
+    }
+}
+
+/// Makes registers sums after a step that makes a difference.
+fn add_differences(step: &Step, found: &mut Relation) {
+    match step.insn {
+        Insn::Alu {
+            op: AluOp::Sub,
+            wide: true,
+            dst,
+            src: Operand::Register(src),
+        } => add_sums(step, found, dst, src),
+        _ => {}
+    }
+}
+
 /// The relation after a step.
 pub(crate) fn relation_after(step: &Step) -> Relation {
     let mut found = Relation::none();
     for term in 0..TERMS {
         found.new[term as usize] = form_after(step, &found, term);
     }
+    add_differences(step, &mut found);
     for register in 0..REGISTERS {
         found.old[register as usize] = old_claim_after(step, &found, register);
     }

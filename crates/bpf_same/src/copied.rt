@@ -10,10 +10,11 @@ ghost use Rattle.bpf_same.specs.Simulated.{IsCopied};
 ghost use Rattle.bpf_same.specs.Moved.{DoesAlike, IsMovedAccess, address_in};
 
 use crate::access::{is_shared, reads_alike};
+use crate::at_slot::insn_at;
 use crate::equal::{is_load, is_register_store, is_same_insn};
 use crate::linear_form::LinearForm;
 use crate::relation::Relation;
-use crate::simulation::{Point, Simulation, insn_at};
+use crate::simulation::{Point, Simulation};
 use bpf_insn::{Insn, Register, Size};
 
 /// An offset, extended by its sign.
@@ -24,14 +25,14 @@ fn offset(off: i16) -> u64
 }
 
 /// Returns what an offset added to a form comes to.
-fn at_offset(form: LinearForm, off: i16) -> LinearForm
+pub(crate) fn at_offset(form: LinearForm, off: i16) -> LinearForm
     ensures { (f : ℕ → Option ℕ) → total f result ≡ plus (total f form) (Some (sign_extended off)) }
 {
     form.moved(offset(off))
 }
 
 /// Returns whether a number of the old program and an offset are the address that one of the new program and another offset are.
-fn is_same_address(
+pub(crate) fn is_same_address(
     relation: &Relation,
     there: Register,
     from: i16,

@@ -1,8 +1,8 @@
 //! A program with its counts made atomic additions. Nothing is promised of it: `fused` judges.
 ghost use Rattle.std.specs.Prelude.{◌≤◌, length};
 
+use crate::at_slot::witness_at;
 use crate::fused::{MOST_COUNTED, Role};
-use crate::simulation::witness_at;
 use crate::witness::Witness;
 use bpf_insn::{AluOp, Insn, Operand, Register, Size};
 use std::alloc::{AllocError, Global};

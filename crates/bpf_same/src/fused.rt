@@ -11,10 +11,10 @@ ghost use Rattle.bpf_same.specs.Fused.{AreFused, IsCount, IsInside, IsLoaded, Is
 ghost use Rattle.bpf_same.specs.Plans.{plan_of};
 ghost use Rattle.bpf_same.specs.Same.{IsSame};
 
+use crate::at_slot::{insn_at, is_at};
 use crate::count::Count;
 use crate::equal::is_same_insn;
 use crate::live::{is_set, leaves, reads_within, with, without};
-use crate::simulation::{insn_at, is_at};
 use bpf_flow::{jump_target, next_slot};
 use bpf_insn::{AluOp, Insn, Operand, Register, Size};
 

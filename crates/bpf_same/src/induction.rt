@@ -6,9 +6,10 @@ ghost use Rattle.bpf_note.specs.Parts.{Noted, facts};
 ghost use Rattle.bpf_same.specs.Candidates.{candidate_of};
 ghost use Rattle.bpf_same.specs.Simulated.{IsSimulation, IsInitial, Simulates, SimulatesSlot, SimulatesFrom};
 
+use crate::at_slot::{insn_at, relation_at, witness_at};
 use crate::relation::Relation;
-use crate::simulation::{Point, Simulation, insn_at, relation_at, witness_at};
-use crate::start::holds_at_entry;
+use crate::simulation::{Point, Simulation};
+use crate::start::{holds_at_entry, is_without_contents};
 use crate::witness::Witness;
 use bpf_insn::Insn;
 use bpf_note::{MapShape, Note};
@@ -90,7 +91,10 @@ impl Simulation<'_> {
         let Some(relation) = relation_at(self.relations, 0) else {
             return false;
         };
-        holds_at_entry(&relation) && self.simulates_start(alloc)
+        if !holds_at_entry(&relation) {
+            return false;
+        }
+        is_without_contents(&relation) && self.simulates_start(alloc)
     }
 
     /// Returns whether the candidate is a simulation.

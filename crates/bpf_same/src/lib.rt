@@ -3,7 +3,7 @@
 //! - `same`: the comparison
 //! - `witness`: the slot of the old program that is claimed to match a slot of the new one
 //! - `find`: notes and a relation for each slot, as instructions leave them (`sharper`); `simulation`: whether the old program
-//!   simulates an instruction; `induction`: whether the relations hold at the start and each instruction is simulated
+//!   simulates an instruction (`at_slot`, `jump`); `induction`: whether the relations hold at the start and each instruction is simulated
 //! - `relation`: the old program's registers, as a `linear_form` of the new one's terms: at the `start`, `after` a `step`, where ways
 //!   `meet`; `room`: forms that are addresses in the packet; `bound`: the ranges of registers; `shifted`: what they hold in their upper
 //!   halves; `preserve`: whether a step preserves the relations, `address`: of rooms
@@ -20,15 +20,19 @@
 mod access;
 mod address;
 mod after;
+mod at_slot;
 mod bound;
+mod content;
 mod copied;
 mod count;
 mod decide;
 mod equal;
 mod find;
+mod found_content;
 mod fuse;
 mod fused;
 mod induction;
+mod jump;
 mod laws;
 mod linear_form;
 mod live;
@@ -48,7 +52,7 @@ mod step;
 mod way;
 mod witness;
 
-pub use laws::{same_both_ways, same_by_counts_both_ways};
+pub use laws::{same_alone, same_both_ways, same_by_counts_both_ways};
 pub use obstacle::{Obstacle, ObstacleKind};
 pub use same::{Comparison, compare, first_obstacle};
 pub use witness::Witness;

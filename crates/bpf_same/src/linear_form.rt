@@ -1,5 +1,5 @@
 //! Linear forms of what the new program holds, modulo 2 ^ 64.
-ghost use Rattle.std.specs.Prelude.{◌≡◌, ◌<◌, ℕ, Option, Some, IsTrue, IsFalse, IfSome};
+ghost use Rattle.std.specs.Prelude.{◌≡◌, ◌≢◌, ◌<◌, ℕ, Option, Some, IsTrue, IsFalse, IfSome};
 ghost use Rattle.bpf_insn.specs.Signed.{sign_extended};
 ghost use Rattle.bpf_same.specs.LinearForms.{IsWord, bit, plus, total};
 
@@ -91,5 +91,12 @@ impl LinearForm {
         ensures { IsTrue result → self ≡ other }
     {
         self.constant == other.constant && self.terms == other.terms
+    }
+
+    /// Returns whether the forms never come to one number.
+    pub(crate) fn is_apart(self, other: LinearForm) -> bool
+        ensures { IsTrue result → (f : ℕ → Option ℕ) (a b : ℕ) → total f self ≡ Some a → total f other ≡ Some b → a ≢ b }
+    {
+        self.constant != other.constant && self.terms == other.terms
     }
 }

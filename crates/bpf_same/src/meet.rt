@@ -2,6 +2,7 @@
 ghost use Rattle.std.specs.Prelude.{◌<◌};
 
 use crate::after::{add_room, in_order};
+use crate::found_content::add_common_contents;
 use crate::linear_form::{LinearForm, REGISTERS, TERMS};
 use crate::range::Range;
 use crate::relation::Relation;
@@ -65,9 +66,9 @@ fn add_common_rooms(met: &mut Relation, one: &Relation, other: &Relation) {
 
 /// What is one linear form in both, by terms that hold themselves where they meet.
 #[derive(Drop)]
-struct Meeting<'a> {
-    one: &'a Relation,
-    other: &'a Relation,
+pub(crate) struct Meeting<'a> {
+    pub(crate) one: &'a Relation,
+    pub(crate) other: &'a Relation,
     met: Relation,
     /// terms that are still to come
     rest: u64,
@@ -101,7 +102,7 @@ impl Meeting<'_> {
     }
 
     /// A linear form that is one number in both.
-    fn form_of(&self, here: LinearForm, there: LinearForm) -> Option<LinearForm> {
+    pub(crate) fn form_of(&self, here: LinearForm, there: LinearForm) -> Option<LinearForm> {
         if self.is_met(here, there) {
             return Some(here);
         }
@@ -159,6 +160,7 @@ pub(crate) fn met(one: &Relation, other: &Relation) -> Relation {
         meeting.meet_register(register);
     }
     let mut met = meeting.met;
+    add_common_contents(&meeting, &mut met);
     add_common_rooms(&mut met, one, other);
     for register in 0..REGISTERS {
         met.bounds[register as usize] = common_bound(one, other, register);

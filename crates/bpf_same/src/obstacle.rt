@@ -2,12 +2,11 @@
 ghost use Rattle.std.specs.Prelude.{◌<◌, ◌≤◌, length, IfSome};
 
 use crate::access::{is_own_step, reads_alike};
+use crate::at_slot::{insn_at, relation_at, witness_at};
+use crate::jump::same_target;
 use crate::relation::Relation;
 use crate::sharper::known_after;
-use crate::simulation::{
-    MOST_JUMPS, Point, Simulation, insn_at, is_ruled, is_ruled_out, relation_at, same_target,
-    witness_at,
-};
+use crate::simulation::{MOST_JUMPS, Point, Simulation, is_ruled, is_ruled_out};
 use crate::way::on_way;
 use bpf_flow::{Successor, Successors, next_slot};
 use bpf_insn::Insn;

@@ -1,5 +1,7 @@
 //! Whether a step preserves the relation.
-ghost use Rattle.std.specs.Prelude.{◌≡◌, ◌<◌, ℕ, Some, IsTrue, IfSome};
+ghost use Rattle.std.specs.Prelude.{◌≡◌, ◌<◌, ℕ, Some, true, IsTrue, IfSome};
+ghost use Rattle.bpf_insn.specs.declared.insn.Insn.TheVariants as insns;
+ghost use Rattle.bpf_insn.specs.declared.operand.Operand.TheVariants as operands;
 ghost use Rattle.bpf_note.specs.Parts.{facts};
 ghost use Rattle.bpf_same.specs.LinearForms.{new_of, old_of};
 ghost use Rattle.bpf_same.specs.Stepped.{IsPulledBack, IsWithTerm, IsOldAlike, Preserves, PreservesNew, PreservesOld};
@@ -8,6 +10,7 @@ use crate::linear_form::{LinearForm, REGISTERS, TERMS};
 use crate::relation::Relation;
 use crate::room::ROOMS;
 use crate::step::{Step, alters};
+use bpf_insn::{AluOp, Insn, Operand, Register};
 
 impl Step<'_> {
     /// A linear form before the step, and what one term is after it, if that is in the other form.
@@ -25,8 +28,8 @@ impl Step<'_> {
         }
     }
 
-    /// A linear form after the step, pulled back to one before it.
-    pub(crate) fn pulled_back(&self, form: LinearForm) -> Option<LinearForm>
+    /// A linear form after the step, pulled back to one before it term by term.
+    fn pulled_back_by_terms(&self, form: LinearForm) -> Option<LinearForm>
         ensures { IfSome result (IsPulledBack self.now.insn self.now.stutters self.now.low (facts self.now.after.now) self.now.before.now form) }
     {
         let mut all = LinearForm::constant(form.constant);
@@ -37,6 +40,48 @@ impl Step<'_> {
             }
         }
         Some(all)
+    }
+
+    /// A linear form after a step that makes a difference, which is one of its terms, pulled back to one before it.
+    fn pulled_back_difference(
+        &self,
+        form: LinearForm,
+        dst: Register,
+        src: Register,
+    ) -> Option<LinearForm>
+        requires { self.now.insn ≡ insns.Alu AluOp.Sub true dst (operands.Register src) }
+        ensures { IfSome result (IsPulledBack self.now.insn self.now.stutters self.now.low (facts self.now.after.now) self.now.before.now form) }
+    {
+        let term = dst.number();
+        let subtracted = self.before.new_form(src.number());
+        let Some(rest) = form.minus(LinearForm::held(term)) else {
+            return None;
+        };
+        let Some(there) = self.pulled_back_by_terms(rest) else {
+            return None;
+        };
+        let Some(less) = there.minus(subtracted) else {
+            return None;
+        };
+        less.plus(self.before.new_form(term))
+    }
+
+    /// A linear form after the step, pulled back to one before it.
+    pub(crate) fn pulled_back(&self, form: LinearForm) -> Option<LinearForm>
+        ensures { IfSome result (IsPulledBack self.now.insn self.now.stutters self.now.low (facts self.now.after.now) self.now.before.now form) }
+    {
+        if let Some(here) = self.pulled_back_by_terms(form) {
+            return Some(here);
+        }
+        match self.insn {
+            Insn::Alu {
+                op: AluOp::Sub,
+                wide: true,
+                dst,
+                src: Operand::Register(src),
+            } => self.pulled_back_difference(form, dst, src),
+            _ => None,
+        }
     }
 
     /// Returns whether both programs have written the same into a register.

@@ -2,13 +2,14 @@
 ghost use Rattle.std.specs.Prelude.{◌≡◌, ◌<◌, ℕ, Option, IsTrue};
 ghost use Rattle.bpf_same.specs.LinearForms.{Hold, new_of, old_of, total};
 
+use crate::content::Content;
 use crate::linear_form::{LinearForm, REGISTERS};
 use crate::range::Range;
 use crate::room::Room;
 
 /// Of each register of the old program the linear form of the new one's terms that it holds, if that is related; of each term of the new
 /// one the same, if it is another form than the term itself; which forms are addresses in the packet; between which
-/// numbers registers lie; and which forms registers hold shifted to their upper halves.
+/// numbers registers lie; which forms registers hold shifted to their upper halves; and what stands in counters.
 #[derive(Clone, Copy, Debug, Drop)]
 pub(crate) struct Relation {
     pub(crate) old: [Option<LinearForm>; 11],
@@ -16,6 +17,7 @@ pub(crate) struct Relation {
     pub(crate) rooms: [Option<Room>; 8],
     pub(crate) bounds: [Option<Range>; 11],
     pub(crate) shifted: [Option<LinearForm>; 11],
+    pub(crate) contents: [Option<Content>; 8],
 }
 
 impl Relation {
@@ -27,6 +29,7 @@ impl Relation {
             rooms: [None; 8],
             bounds: [None; 11],
             shifted: [None; 11],
+            contents: [None; 8],
         }
     }
 

@@ -8,8 +8,8 @@ ghost use Rattle.bpf_flow.specs.Step.{target};
 ghost use Rattle.bpf_same.specs.Renumbered.{AreWitnessed, IsWitnessed, IsRenumbered, IsRenumberedFrom, IsRenumbering};
 ghost use Rattle.bpf_same.specs.Same.{IsSame};
 
+use crate::at_slot::{insn_at, witness_at};
 use crate::equal::{is_jump, is_same_insn};
-use crate::simulation::{insn_at, witness_at};
 use crate::witness::Witness;
 use bpf_flow::{jump_target, next_slot};
 use bpf_insn::{Condition, Insn, Operand, Register};

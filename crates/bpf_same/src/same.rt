@@ -1,6 +1,7 @@
 //! Whether an accepted program has the runs of another one.
-ghost use Rattle.std.specs.Prelude.{◌≡◌, ◌<◌, ◌≤◌, length, IfOk, IfSome, IsTrue};
+ghost use Rattle.std.specs.Prelude.{◌≡◌, ◌≢◌, ◌⊎◌, ◌<◌, ◌≤◌, length, IfOk, IfSome, IsTrue};
 ghost use Rattle.bpf_verify.specs.Consistent.{IsConsistent};
+ghost use Rattle.bpf_same.specs.Alone.{IsSameAlone};
 ghost use Rattle.bpf_same.specs.Counts.{IsSameByCounts, IsWholeByCounts};
 ghost use Rattle.bpf_same.specs.Renumbered.{IsRenumbering};
 ghost use Rattle.bpf_same.specs.Same.{IsSame};
@@ -9,7 +10,7 @@ use crate::equal::is_same_code;
 use crate::find::{Found, Known, lowest_of, notes_of};
 use crate::fuse::{Fusion, fusion_of};
 use crate::fused::{Draft, same_by_counts};
-use crate::laws::{same_both_ways, same_by_counts_both_ways};
+use crate::laws::{same_alone, same_both_ways, same_by_counts_both_ways};
 use crate::live::live_registers;
 use crate::obstacle::Obstacle;
 use crate::renumbered::is_same_renumbered;
@@ -18,6 +19,7 @@ use crate::witness::Witness;
 use bpf_insn::{Code, Insn};
 use bpf_note::{MapShape, Note, the_entry_describes_every_start};
 use bpf_verify::Verified;
+use bpf_vm::accepted_programs_end;
 use std::alloc::{AllocError, Global};
 
 /// What a comparison of two programs shows.
@@ -28,6 +30,9 @@ pub enum Comparison {
     /// Each run of the new program is one of the old one, but that one atomic addition to a counter may stand for a load and a store,
     /// as where nobody else writes the counter between.
     SameByCounts,
+    /// From all contents of the counters, where nobody else writes them: each program ends with the same number and bytes as the other,
+    /// and leaves the same in the counters.
+    SameAlone,
     /// Nothing: they may have the same runs or not.
     NotShown,
 }
@@ -46,6 +51,7 @@ fn findings_of(
     new: &[Insn],
     shapes: &[MapShape],
     witnesses: &[Witness],
+    alone: bool,
 ) -> Result<Findings, AllocError>
     requires { length new.now ≤ 4096 }
 {
@@ -57,6 +63,7 @@ fn findings_of(
         notes: notes.as_slice(),
         shapes,
         low,
+        alone,
     };
     let found = known.found(alloc)?;
     found.forget(alloc, &mut notes);
@@ -76,15 +83,41 @@ fn is_shown(
     ensures { IfOk result (λ yes. IsTrue yes → IsSame shapes.now old.now new.now) }
 {
     the_entry_describes_every_start();
-    let findings = findings_of(alloc, new, shapes, witnesses)?;
+    let findings = findings_of(alloc, new, shapes, witnesses, false)?;
     let simulation = Simulation {
         old,
         witnesses,
         notes: findings.notes.as_slice(),
         relations: findings.found.relations.as_slice(),
         low: findings.low,
+        alone: false,
     };
     Ok(simulation.is_simulation(alloc, new, shapes))
+}
+
+/// Returns whether a simulation by the witnesses is found of programs that alone have the counters.
+fn is_shown_alone(
+    alloc: Global,
+    new: &Verified,
+    old: &[Insn],
+    witnesses: &[Witness],
+) -> Result<bool, AllocError>
+    requires short { length old.now ≤ 4096 }
+    ensures { IfOk result (λ yes. IsTrue yes → IsSameAlone new.now.shapes old.now new.now.code) }
+{
+    the_entry_describes_every_start();
+    accepted_programs_end();
+    let (insns, shapes) = (new.insns(), new.shapes());
+    let findings = findings_of(alloc, insns, shapes, witnesses, true)?;
+    let simulation = Simulation {
+        old,
+        witnesses,
+        notes: findings.notes.as_slice(),
+        relations: findings.found.relations.as_slice(),
+        low: findings.low,
+        alone: true,
+    };
+    Ok(simulation.is_simulation(alloc, insns, shapes))
 }
 
 /// Returns where no simulation by the witnesses is found.
@@ -99,13 +132,14 @@ fn obstacle_to(
     requires few { length new.now ≤ 4096 }
     ensures { IfOk result (λ o. IfSome o (λ b. b.slot < length new.now)) }
 {
-    let findings = findings_of(alloc, new, shapes, witnesses)?;
+    let findings = findings_of(alloc, new, shapes, witnesses, false)?;
     let simulation = Simulation {
         old,
         witnesses,
         notes: findings.notes.as_slice(),
         relations: findings.found.relations.as_slice(),
         low: findings.low,
+        alone: false,
     };
     Ok(simulation.first_obstacle(alloc, new, shapes))
 }
@@ -153,6 +187,7 @@ fn compared(
     requires few { length new.now ≤ 4096 }
     ensures same { IfOk result (λ c. c ≡ Comparison.Same → IsSame shapes.now old.now new.now) }
     ensures counts { IfOk result (λ c. c ≡ Comparison.SameByCounts → IsSameByCounts shapes.now old.now new.now) }
+    ensures never_alone { IfOk result (λ c. c ≢ Comparison.SameAlone) }
     ensures itself { IfOk result (λ c. new.now ≡ old.now → c ≡ Comparison.Same) }
     ensures renumbered { IfOk result (λ c. IsRenumbering witnesses.now old.now new.now → c ≡ Comparison.Same) }
 {
@@ -174,6 +209,24 @@ fn compared(
     }
 }
 
+/// Returns what is shown of two programs that alone have the counters.
+fn compared_alone(
+    alloc: Global,
+    new: &Verified,
+    old: &[Insn],
+    witnesses: &[Witness],
+) -> Result<Comparison, AllocError>
+    requires short { length old.now ≤ 4096 }
+    ensures alone { IfOk result (λ c. c ≡ Comparison.SameAlone → IsSameAlone new.now.shapes old.now new.now.code) }
+    ensures no_more { IfOk result (λ c. (c ≡ Comparison.SameAlone) ⊎ (c ≡ Comparison.NotShown)) }
+{
+    if is_shown_alone(alloc, new, old, witnesses)? {
+        Ok(Comparison::SameAlone)
+    } else {
+        Ok(Comparison::NotShown)
+    }
+}
+
 /// Compares an accepted program with one that it was made of. The old program need not be accepted, and may loop. A witness is the slot of
 /// the old program that matches a slot of the new one; the witnesses need not be right, nor as many as the slots.
 pub fn compare(
@@ -190,6 +243,10 @@ pub fn compare(
     ensures counts { IfOk result (λ c. c ≡ Comparison.SameByCounts → IsSameByCounts new.now.shapes old.now new.now.code) }
     // Each run of the old program is one of the new one, by counts.
     ensures counts_whole { IfOk result (λ c. c ≡ Comparison.SameByCounts → IsWholeByCounts new.now.shapes new.now.code old.now) }
+    // Alone, what the new program ends with and leaves, the old one does.
+    ensures alone { IfOk result (λ c. c ≡ Comparison.SameAlone → IsSameAlone new.now.shapes old.now new.now.code) }
+    // Alone, what the old program ends with and leaves, the new one does.
+    ensures alone_whole { IfOk result (λ c. c ≡ Comparison.SameAlone → IsSameAlone new.now.shapes new.now.code old.now) }
     // A program is the same as itself, whatever the witnesses.
     ensures itself { IfOk result (λ c. new.now.code ≡ old.now → c ≡ Comparison.Same) }
     // A program is the same as one of which it is a renumbering by the witnesses.
@@ -198,7 +255,13 @@ pub fn compare(
 {
     same_both_ways();
     same_by_counts_both_ways();
-    compared(alloc, new.insns(), new.shapes(), old.insns(), witnesses)
+    same_alone();
+    let originals = old.insns();
+    let shown = compared(alloc, new.insns(), new.shapes(), originals, witnesses)?;
+    match shown {
+        Comparison::NotShown => compared_alone(alloc, new, originals, witnesses),
+        _ => Ok(shown),
+    }
 }
 
 /// The first slot of the new program that [`compare`] doesn't find to be simulated, if there is one: where `NotShown` comes from.

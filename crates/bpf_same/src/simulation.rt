@@ -1,24 +1,28 @@
 //! Whether the old program simulates an instruction of the new one.
-ghost use Rattle.std.specs.Prelude.{◌≡◌, ◌<◌, ◌≤◌, ℕ, Some, length, slice_get, IsTrue, IfSome, not, true};
+ghost use Rattle.std.specs.Prelude.{◌≡◌, ◌<◌, ◌≤◌, ◌⊎◌, ℕ, Some, length, slice_get, IsTrue, IfSome, not, true, false};
 ghost use Rattle.std.specs.Global.{Box};
 ghost use Rattle.bpf_note.specs.Describes.{Describes};
 ghost use Rattle.bpf_note.specs.Parts.{Noted, facts};
 ghost use Rattle.bpf_note.specs.State.{State};
 ghost use Rattle.bpf_flow.specs.Rule.{IsRuled};
 ghost use Rattle.bpf_same.specs.Decided.{IsDecided};
-ghost use Rattle.bpf_same.specs.Simulated.{IsKnown, ReachesSilently, SimulatesFrom, Establishes, EstablishesAt, PreservesAt, IsSharedStep, SimulatesStep, SimulatesPlain, SimulatesWay, SimulatesWays, IsSharedBranch, AreSameJump, SimulatesBranch, IsBranch, Simulates, IsSilent};
+ghost use Rattle.bpf_same.specs.Simulated.{IsKnown, ReachesSilently, SimulatesFrom, Establishes, EstablishesAt, PreservesAt, IsSharedStep, IsOwnLoad, IsStoredSum, SimulatesStep, SimulatesPlain, SimulatesWay, SimulatesWays, IsSharedBranch, AreSameJump, SimulatesBranch, IsBranch, Simulates, IsSilent};
 ghost use Rattle.bpf_same.specs.Candidates.{candidate_of};
+ghost use Rattle.bpf_same.specs.Stepped.{IsOwnStep};
 
 use crate::access::{is_own_step, reads_alike};
+use crate::at_slot::{insn_at, is_at, relation_at, witness_at};
+use crate::content::is_added_store;
 use crate::decide::decided;
-use crate::equal::{is_but_for_offset, is_exit, is_same_insn};
+use crate::equal::is_exit;
+use crate::jump::{is_branch, same_target};
 use crate::relation::Relation;
 use crate::sharper::known_after;
 use crate::step::Step;
 use crate::way::on_way;
 use crate::witness::Witness;
 use bpf_flow::{Successor, Successors, jump_target, next_slot};
-use bpf_insn::Insn;
+use bpf_insn::{Insn, Register, Size};
 use bpf_note::{MapShape, Note, covers};
 use std::alloc::Global;
 
@@ -26,7 +30,7 @@ use std::alloc::Global;
 pub(crate) const MOST_JUMPS: u32 = 256;
 
 /// A candidate for a simulation: of each slot of the new program its witness, notes of which one describes the state, and the relation
-/// of both states. The new program's own words of the stack lie below `low`.
+/// of both states. The new program's own words of the stack lie below `low`. `alone`: nobody else has the counters.
 #[derive(Clone, Copy, Drop)]
 pub(crate) struct Simulation<'a> {
     pub(crate) old: &'a [Insn],
@@ -34,6 +38,7 @@ pub(crate) struct Simulation<'a> {
     pub(crate) notes: &'a [Vec<Box<Note>>],
     pub(crate) relations: &'a [Relation],
     pub(crate) low: u32,
+    pub(crate) alone: bool,
 }
 
 /// The slot after a silent step: a jump whose way is decided.
@@ -80,43 +85,6 @@ pub(crate) fn is_covered(notes: &[Box<Note>], note: &Note) -> bool
     false
 }
 
-pub(crate) fn witness_at(witnesses: &[Witness], at: u32) -> Option<Witness>
-    ensures { result ≡ slice_get witnesses.now at }
-{
-    if (at as usize) < witnesses.len() {
-        Some(witnesses[at as usize])
-    } else {
-        None
-    }
-}
-
-pub(crate) fn insn_at(code: &[Insn], at: u32) -> Option<Insn>
-    ensures { result ≡ slice_get code.now at }
-{
-    if (at as usize) < code.len() {
-        Some(code[at as usize])
-    } else {
-        None
-    }
-}
-
-pub(crate) fn relation_at(relations: &[Relation], at: u32) -> Option<Relation>
-    ensures { result ≡ slice_get relations.now at }
-{
-    if (at as usize) < relations.len() {
-        Some(relations[at as usize])
-    } else {
-        None
-    }
-}
-
-/// Returns whether this instruction stands at a slot.
-pub(crate) fn is_at(code: &[Insn], at: u32, insn: Insn) -> bool
-    ensures { IsTrue result → slice_get code.now at ≡ Some insn }
-{
-    (at as usize) < code.len() && is_same_insn(code[at as usize], insn)
-}
-
 /// Returns whether a way of a conditional jump is ruled out.
 pub(crate) fn is_ruled_out(insn: Insn, relation: &Relation, note: &Note, way: bool) -> bool
     ensures { IsTrue result → IsDecided insn relation.now (facts note.now) (not way) }
@@ -125,39 +93,6 @@ pub(crate) fn is_ruled_out(insn: Insn, relation: &Relation, note: &Note, way: bo
         return false;
     };
     is_taken != way
-}
-
-/// The target of a jump of the old program, if it is this one but for its offset.
-pub(crate) fn same_target(there: Insn, at: u32, insn: Insn) -> Option<Option<u32>>
-    requires { at < 4096 }
-    ensures { IfSome result (AreSameJump (Some there) at insn) }
-{
-    match there {
-        Insn::Jump {
-            cond,
-            wide,
-            dst,
-            src,
-            off,
-        } => is_but_for_offset(insn, cond, wide, dst, src).then_some(jump_target(
-            at,
-            i32::from(off),
-        )),
-        _ => None,
-    }
-}
-
-/// Returns whether an instruction is a conditional jump to these two slots.
-fn is_branch(insn: Insn, pc: u32, next: u32, taken: u32) -> bool
-    requires { pc < 4096 }
-    ensures { IsTrue result → IsBranch insn pc next taken }
-{
-    match insn {
-        Insn::Jump { off, .. } => {
-            next == pc + 1 && next != taken && jump_target(pc, i32::from(off)) == Some(taken)
-        }
-        _ => false,
-    }
 }
 
 /// A slot of the new program, with its relation and one of its notes.
@@ -188,7 +123,7 @@ impl Simulation<'_> {
     /// Returns whether silent steps lead the old program from a slot to another one.
     fn reaches_silently(&self, relation: &Relation, note: &Note, from: u32, to: u32) -> bool
         requires { length self.now.old.now ≤ 4096 }
-        ensures { IsTrue result → ReachesSilently self.now.old.now relation.now self.now.low (facts note.now) from to }
+        ensures { IsTrue result → ReachesSilently self.now.alone self.now.old.now relation.now self.now.low (facts note.now) from to }
     {
         let mut at = from;
         for _jump in 0..MOST_JUMPS {
@@ -238,7 +173,7 @@ impl Simulation<'_> {
             before: before.relation,
             after: &there.note,
         };
-        step.preserves(&next)
+        step.preserves(&next) && step.preserves_contents(&next)
     }
 
     /// Returns whether the next slot's relation holds after the step, and the old program reaches its witness silently.
@@ -330,6 +265,51 @@ impl Simulation<'_> {
         self.is_copied(before) && self.establishes(before, false, next_slot(before.insn, at), there)
     }
 
+    /// Returns whether the new program, alone, loads what a counter may hold, and no word of its own.
+    fn is_own_load(&self, insn: Insn) -> bool
+        ensures { IsTrue result → IsOwnLoad (candidate_of self.now) insn }
+    {
+        match insn {
+            Insn::Ldx {
+                size: Size::Double,
+                signed: false,
+                src,
+                ..
+            } => self.alone && src != Register::R10,
+            _ => false,
+        }
+    }
+
+    /// Returns whether the old program, alone, stores to a counter what an instruction of the new one adds to it.
+    fn is_stored_sum(&self, before: &Point) -> bool
+        ensures { IsTrue result → IsStoredSum (candidate_of self.now) before.now.witness.at before.now.insn before.now.relation.now }
+    {
+        let Some(old) = insn_at(self.old, before.witness.at) else {
+            return false;
+        };
+        self.alone && is_added_store(before.relation, old, before.insn)
+    }
+
+    /// Returns whether an instruction of the new program's own is one in which the old program may stutter.
+    fn is_stutter(&self, before: &Point) -> bool
+        ensures { IsTrue result → IsOwnStep before.now.insn self.now.low (facts before.now.note.now) ⊎ IsOwnLoad (candidate_of self.now) before.now.insn }
+    {
+        is_own_step(before.insn, before.note, self.low) || self.is_own_load(before.insn)
+    }
+
+    /// Returns whether both programs take a step: the same one, or a store in place of an addition.
+    fn is_common_step(&self, before: &Point, there: &Successor) -> bool
+        requires { length self.now.old.now ≤ 4096 }
+        ensures { IsTrue result → SimulatesStep (candidate_of self.now) false before.now.witness.at before.now.insn before.now.relation.now (facts before.now.note.now) (facts there.now.note.value) there.now.pc }
+    {
+        let at = before.witness.at;
+        if at < 4096 && self.is_stored_sum(before) {
+            self.establishes(before, false, at + 1, there)
+        } else {
+            self.is_shared_step(before, there)
+        }
+    }
+
     /// Returns whether the step is simulated: the old program stutters, or takes it too.
     fn simulates_step(&self, before: &Point, there: &Successor) -> bool
         requires { length self.now.old.now ≤ 4096 }
@@ -337,10 +317,9 @@ impl Simulation<'_> {
             (facts there.now.note.value) there.now.pc }
     {
         if before.witness.stutters {
-            is_own_step(before.insn, before.note, self.low)
-                && self.establishes(before, true, before.witness.at, there)
+            self.is_stutter(before) && self.establishes(before, true, before.witness.at, there)
         } else {
-            self.is_shared_step(before, there)
+            self.is_common_step(before, there)
         }
     }
 

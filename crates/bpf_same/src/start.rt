@@ -1,9 +1,11 @@
 //! The relation where both programs begin.
 ghost use Rattle.std.specs.Prelude.{◌≡◌, ◌<◌, ℕ, Option, Some, None, IsTrue};
+ghost use Rattle.bpf_same.specs.Contents.{content_of};
 ghost use Rattle.bpf_same.specs.LinearForms.{bound_of, new_of, old_of, room_of, shifted_of, IsWord, total};
 ghost use Rattle.bpf_same.specs.Simulated.{HoldsAtStart};
 ghost use Rattle.bpf_same.specs.declared.linear_form.LinearForm.{LinearForm};
 
+use crate::content::CONTENTS;
 use crate::linear_form::{LinearForm, REGISTERS, TERMS};
 use crate::relation::Relation;
 use crate::room::ROOMS;
@@ -69,6 +71,18 @@ pub(crate) fn holds_at_entry(relation: &Relation) -> bool
     }
     for shifted in 0..REGISTERS {
         if !is_unshifted(relation, shifted) {
+            return false;
+        }
+    }
+    true
+}
+
+/// Returns whether a relation says nothing of what stands in counters.
+pub(crate) fn is_without_contents(relation: &Relation) -> bool
+    ensures { IsTrue result → (k : ℕ) → k < 8 → content_of relation.now k ≡ None }
+{
+    for index in 0..CONTENTS {
+        if relation.content(index).is_some() {
             return false;
         }
     }

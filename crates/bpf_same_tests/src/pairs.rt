@@ -1,6 +1,8 @@
 //! What a comparison answers of a pair of programs, and where it stops.
+ghost use Rattle.std.specs.Prelude.{◌≤◌, length};
+
 use bpf_insn::{Code, decode};
-use bpf_note::MapShape;
+use bpf_note::{MapKey, MapShape};
 use bpf_same::{Comparison, Obstacle, Witness, compare, first_obstacle};
 use bpf_verify::{Verified, verify};
 use std::alloc::Global;
@@ -38,17 +40,14 @@ struct Decoded {
     witnesses: Vec<Witness>,
 }
 
-fn read_pair(alloc: Global, pair: &Pair) -> Option<Decoded> {
+/// A pair over at most one map.
+fn read_pair_over(alloc: Global, pair: &Pair, shapes: &[MapShape]) -> Option<Decoded>
+    requires { length shapes.now ≤ 1 }
+{
     let mut witnesses = Vec::new(alloc);
     for word in pair.witnesses.split_ascii_whitespace() {
         witnesses.push(witness(word)?).ok()?;
     }
-    let shapes = [MapShape::of(4, 1)?];
-    let shapes = if pair.maps == 0 {
-        &shapes[..0]
-    } else {
-        &shapes[..]
-    };
     let new = verify(alloc, code(alloc, pair.new)?, shapes).ok()?;
     let old = code(alloc, pair.old)?;
     Some(Decoded {
@@ -58,9 +57,26 @@ fn read_pair(alloc: Global, pair: &Pair) -> Option<Decoded> {
     })
 }
 
+fn read_pair(alloc: Global, pair: &Pair) -> Option<Decoded> {
+    let shapes = [MapShape::of(4, 1)?];
+    let shapes = if pair.maps == 0 {
+        &shapes[..0]
+    } else {
+        &shapes[..]
+    };
+    read_pair_over(alloc, pair, shapes)
+}
+
 /// What [`compare`] answers for a pair. None if the new program isn't accepted, or if memory runs out.
 pub fn compared(alloc: Global, pair: &Pair) -> Option<Comparison> {
     let pair = read_pair(alloc, pair)?;
+    compare(alloc, &pair.new, &pair.old, pair.witnesses.as_slice()).ok()
+}
+
+/// What [`compare`] answers for a pair whose one map has this many bytes of constants.
+pub fn compared_with_constants(alloc: Global, pair: &Pair, bytes: u32) -> Option<Comparison> {
+    let shapes = [MapShape::keyed(MapKey::Constants(bytes), 1, 1)?];
+    let pair = read_pair_over(alloc, pair, &shapes)?;
     compare(alloc, &pair.new, &pair.old, pair.witnesses.as_slice()).ok()
 }
 

@@ -1,4 +1,6 @@
 //! Pairs of programs.
+mod alone;
+mod constants;
 mod counts;
 mod counts_apart;
 mod counts_used;

@@ -1,6 +1,7 @@
 mod ByteLemmas
 mod RegionLemmas
 mod FindLemmas
+mod ConstantLemmas
 pub mod ExecuteLemmas
 pub mod ExtendLemmas
 pub mod DescribeLemmas

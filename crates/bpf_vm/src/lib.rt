@@ -3,7 +3,8 @@
 //! - `vm`: an interpreter: `want`, what it waits for; `turn`, what an instruction came to; `ended`, how a run ended
 //! - `run`: a whole run of a program without maps
 //! - `running`: all instructions up to one that waits; `flow`: one in its flat form; `execute`: one by its kind
-//! - `machine`, `memory`, `bytes`: registers, stack and packet, and what is done to them; `lookup`: lookups in maps
+//! - `machine`, `memory`, `bytes`: registers, stack and packet, and what is done to them; `lookup`: lookups in maps;
+//!   `constants`: loads of constants
 //! - `packet`, `buffer`, `fill`: a packet, the memory that it lies in, and how it is filled
 //! - `action`: the actions of XDP
 //! - `laws`: what holds of accepted programs
@@ -12,6 +13,7 @@
 mod action;
 mod buffer;
 mod bytes;
+mod constants;
 mod ended;
 mod execute;
 mod fill;

@@ -1,7 +1,8 @@
 //! Lookups in maps, and where their values lie.
-ghost use Rattle.std.specs.Prelude.{◌≡◌, ◌+◌, ◌*◌, ◌/◌, ◌%◌, ◌<◌, ◌≤◌, ℕ, List, Some, length, slice_get};
-ghost use Rattle.bpf_lists.specs.Find.{find_in, found_in};
-ghost use Rattle.bpf_note.specs.Bytes.{bytes_at};
+ghost use Rattle.std.specs.Prelude.{◌≡◌, ◌==◌, ◌+◌, ◌*◌, ◌/◌, ◌%◌, ◌<◌, ◌≤◌, ℕ, List, Some, None, length, slice_get, if◌then◌else◌};
+ghost use Rattle.bpf_lists.specs.Find.{find_in, found_in, listed_in};
+ghost use Rattle.bpf_lists.specs.declared.list.MapList.TheVariants.{Rows};
+ghost use Rattle.bpf_note.specs.Bytes.{bytes_at, number_of};
 ghost use Rattle.bpf_note.specs.Keys.{key_size};
 ghost use Rattle.bpf_note.specs.Regions.{region, map_near, map_offset, InCounter};
 ghost use Rattle.bpf_note.specs.Shape.{Shape, most_maps};
@@ -13,7 +14,7 @@ use crate::machine::{
     LARGE_STRIDE, MOST_SMALL, Machine, REFERENCES_START, SMALL_STRIDE, STACK_START, VALUES_START,
 };
 use bpf_insn::{Register, Size};
-use bpf_lists::KeyedRows;
+use bpf_lists::{KeyedRows, MapList};
 use bpf_note::{MapKey, MapShape};
 
 /// The map that alone may have values this many bytes past the first of all.
@@ -57,7 +58,7 @@ fn value_and_counter(shape: &MapShape, number: u64) -> (u32, u32)
 
 /// The row that a key has in a list, if the list's keys are of its size.
 fn row_in(rows: &KeyedRows, key: &[u8]) -> Option<u64>
-    ensures { result ≡ found_in (Some (Some rows.now)) key.now }
+    ensures { result ≡ listed_in (Rows rows.now) key.now }
 {
     if rows.kind().size() != key.len() {
         return None;
@@ -66,6 +67,29 @@ fn row_in(rows: &KeyedRows, key: &[u8]) -> Option<u64>
     match rows.find(key) {
         Some(row) => Some(u64::from(row)),
         None => None,
+    }
+}
+
+/// The byte of constants at the place that a key of four bytes names.
+fn byte_at(bytes: &[u8], key: &[u8]) -> Option<u64>
+    ensures { result ≡ (if length key.now == 4 then slice_get bytes.now (number_of key.now) else None) }
+{
+    if key.len() != 4 {
+        return None;
+    }
+    match bytes.get(number_at(key, 0, Size::Word) as usize) {
+        Some(byte) => Some(u64::from(*byte)),
+        None => None,
+    }
+}
+
+/// What a list has for a key.
+pub(crate) fn listed_in(list: &MapList, key: &[u8]) -> Option<u64>
+    ensures { result ≡ listed_in list.now key.now }
+{
+    match list {
+        MapList::Rows(rows) => row_in(rows, key),
+        MapList::Constants(bytes) => byte_at(bytes.as_slice(), key),
     }
 }
 
@@ -110,7 +134,7 @@ impl<'p, 'b> Machine<'p, 'b> {
         ensures { result ≡ find_in self.now.lists.now m key.now }
     {
         match self.lists.get(m as usize) {
-            Some(Some(rows)) => row_in(rows, key),
+            Some(Some(list)) => listed_in(list, key),
             _ => None,
         }
     }
@@ -124,6 +148,7 @@ impl<'p, 'b> Machine<'p, 'b> {
         match by {
             MapKey::Index => Some(number_at(key, 0, Size::Word)),
             MapKey::Listed(_) => self.listed_row(m, key),
+            MapKey::Constants(_) => None,
         }
     }
 

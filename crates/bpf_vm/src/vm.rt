@@ -17,7 +17,7 @@ use crate::packet::PacketBuf;
 use crate::turn::{Stop, Turn};
 use crate::want::VmWant;
 use bpf_insn::Register;
-use bpf_lists::KeyedRows;
+use bpf_lists::MapList;
 use bpf_verify::Verified;
 use std::marker::Model;
 
@@ -50,7 +50,7 @@ impl<'p, 'b> Vm<'p, 'b> {
         packet: PacketBuf<'b>,
         ifindex: u32,
         queue: u32,
-        lists: &'p [Option<KeyedRows>],
+        lists: &'p [Option<MapList>],
     ) -> Vm<'p, 'b>
         ensures program { result.program ≡ program.now }
         ensures stands { (s : State) → IsStart s → s.packet ≡ packet.entry.bytes → s.ifindex ≡ ifindex →

@@ -22,14 +22,14 @@ use Rattle.xen_back.specs.declared.queue.Queue.{Queue}
 use Rattle.xen_turns.specs.declared.state.State.{State}
 use Rattle.xen_turns.specs.declared.turn.Halt.{Halt}
 use Rattle.xen_turns.specs.declared.wiring.Wiring.{Wiring}
-use Rattle.honest_machine.specs.Halves.{Half, Over, HasRun, half_turn, half_unless, second_half}
-use Rattle.honest_machine.specs.Log.{back_asks, event_by}
-use Rattle.honest_machine.specs.Memory.{Memory, after, answer}
-use Rattle.honest_machine.specs.Pair.{BackAt, Asleep, First, Second, Delivering, Waiting, Deed, OfTurn, OfDelivery, OfWait, Pair, Past, first, next_at, on_back, second, turned, turns_of}
-use Rattle.honest_machine.proofs.Deeds.{turns_turn}
-use Rattle.honest_machine.proofs.HalfLemmas.{halves}
-use Rattle.honest_machine.proofs.TraceLemmas.{back_follows}
-use Rattle.honest_machine.specs.Traces.{BackIsAnswered}
+use Rattle.honest_pair.specs.Machine.Halves.{Half, Over, HasRun, half_turn, half_unless, second_half}
+use Rattle.honest_pair.specs.Machine.Log.{back_asks, event_by}
+use Rattle.honest_pair.specs.Machine.Memory.{Memory, after, answer}
+use Rattle.honest_pair.specs.Machine.Pair.{BackAt, Asleep, First, Second, Delivering, Waiting, Deed, OfTurn, OfDelivery, OfWait, Pair, Past, first, next_at, on_back, second, turned, turns_of}
+use Rattle.honest_pair.proofs.Machine.Deeds.{turns_turn}
+use Rattle.honest_pair.proofs.Machine.HalfLemmas.{halves}
+use Rattle.honest_pair.proofs.Machine.TraceLemmas.{back_follows}
+use Rattle.honest_pair.specs.Machine.Traces.{BackIsAnswered}
 use Rattle.xdp_world.specs.Activities.{all_came}
 use Rattle.xdp_world.specs.Calls.{Stepped}
 use Rattle.xdp_world.specs.Carries.{after_turn, delivered_list, doing_after, waited_list}
@@ -46,7 +46,7 @@ use Rattle.xdp_world.specs.declared.report.Delivered.{Delivered}
 use Rattle.xdp_world.specs.declared.report.Waited.{Waited}
 use Rattle.xdp_world.proofs.Fitting.{free_want}
 use Rattle.xen_front.specs.Fronts.{wiring_of as front_wiring}
-use Rattle.honest_machine.specs.Pair.{BackStep}
+use Rattle.honest_pair.specs.Machine.Pair.{BackStep}
 use Rattle.honest_pair.specs.Held.{memory_in}
 use Rattle.honest_pair.specs.declared.calling.Calling.{Calling}
 use Rattle.honest_pair.specs.declared.calling.Calling.TheVariants as calling

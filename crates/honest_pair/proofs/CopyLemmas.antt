@@ -13,12 +13,12 @@ use Rattle.xdp_world.specs.declared.kept.Kept.{Kept}
 use Rattle.xdp_world.specs.declared.kept.Kept.TheVariants as kept
 use Rattle.xdp_world.specs.declared.report.Delivered.{Delivered}
 use Rattle.xdp_world.specs.declared.report.Waited.{Waited}
-use Rattle.honest_machine.specs.Law.{AllArrived, HaveCopies, delivered, given_by, given_now, left_by}
-use Rattle.honest_machine.specs.Law as law
-use Rattle.honest_machine.specs.Pair.{BackAt, Asleep, First, Second, Delivering, Waiting, Deed, OfTurn, OfDelivery, OfWait, Pair, new_back, turns_of}
-use Rattle.honest_machine.specs.Traces.{HasCopy, HaveDeeds, IsAt, Traced}
-use Rattle.honest_machine.specs.Traces as traces
-use Rattle.honest_machine.proofs.CopyLemmas.{has_copy}
+use Rattle.honest_pair.specs.Machine.Law.{AllArrived, HaveCopies, delivered, given_by, given_now, left_by}
+use Rattle.honest_pair.specs.Machine.Law as law
+use Rattle.honest_pair.specs.Machine.Pair.{BackAt, Asleep, First, Second, Delivering, Waiting, Deed, OfTurn, OfDelivery, OfWait, Pair, new_back, turns_of}
+use Rattle.honest_pair.specs.Machine.Traces.{HasCopy, HaveDeeds, IsAt, Traced}
+use Rattle.honest_pair.specs.Machine.Traces as traces
+use Rattle.honest_pair.proofs.Machine.CopyLemmas.{has_copy}
 use Rattle.honest_pair.specs.Copies.{AreCopied, Delivers, HasCopied, IsLast, sent_back}
 use Rattle.honest_pair.specs.Copies as copies
 use Rattle.honest_pair.specs.Deeds.{AllKept, deliveries_of, waits_of}

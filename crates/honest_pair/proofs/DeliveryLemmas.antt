@@ -17,13 +17,13 @@ use Rattle.xen_back.specs.declared.queue.Queue.{Queue}
 use Rattle.xen_turns.specs.declared.state.State.{State}
 use Rattle.xen_turns.specs.declared.wiring.Wiring.{Wiring}
 use Rattle.xen_front.specs.Fronts.{wiring_of as front_wiring}
-use Rattle.honest_machine.specs.Law.{IsByte}
-use Rattle.honest_machine.specs.Log.{back_asks, begun_at}
-use Rattle.honest_machine.specs.Memory.{Memory, after, answer}
-use Rattle.honest_machine.specs.Pair.{BackAt, Asleep, First, Second, Delivering, Waiting, BackStep, Deed, Deliver, OfTurn, OfDelivery, OfWait, Pair, Past, begin_delivery, delivering, on_back, on_deliver, rested, turns_of}
-use Rattle.honest_machine.proofs.Deeds.{turns_delivery}
-use Rattle.honest_machine.proofs.TraceLemmas.{back_follows, deliver_follows}
-use Rattle.honest_machine.specs.Traces.{BackIsAnswered}
+use Rattle.honest_pair.specs.Machine.Law.{IsByte}
+use Rattle.honest_pair.specs.Machine.Log.{back_asks, begun_at}
+use Rattle.honest_pair.specs.Machine.Memory.{Memory, after, answer}
+use Rattle.honest_pair.specs.Machine.Pair.{BackAt, Asleep, First, Second, Delivering, Waiting, BackStep, Deed, Deliver, OfTurn, OfDelivery, OfWait, Pair, Past, begin_delivery, delivering, on_back, on_deliver, rested, turns_of}
+use Rattle.honest_pair.proofs.Machine.Deeds.{turns_delivery}
+use Rattle.honest_pair.proofs.Machine.TraceLemmas.{back_follows, deliver_follows}
+use Rattle.honest_pair.specs.Machine.Traces.{BackIsAnswered}
 use Rattle.xdp_world.specs.Activities.{Given, all_came}
 use Rattle.xdp_world.specs.Calls.{Delivers, Stepped}
 use Rattle.xdp_world.specs.Carries.{Carries, Lands, delivered_list, waited_list}

@@ -27,12 +27,12 @@ use Rattle.xen_front.specs.declared.turn.PostRefusal.{PostRefusal}
 use Rattle.xen_front.specs.declared.turn.SendRefusal.{SendRefusal}
 use Rattle.xen_front.proofs.ShortLemmas.{short_opened}
 use Rattle.xen_steps.specs.Pages.{PageWrite, write_all}
-use Rattle.honest_machine.specs.Law.{IsByte}
-use Rattle.honest_machine.specs.Acts.{FrontIsAnswered}
-use Rattle.honest_machine.specs.Log.{event_by}
-use Rattle.honest_machine.specs.Memory.{Memory, after, answer}
-use Rattle.honest_machine.specs.Pair.{Activity, Free, Sending, Posting, Polling, Pair, PairEvent, FrontStep, Post, Poll, Send, begin_poll, begin_post, begin_send, on_front, on_poll, on_post, on_send, packets_of, poll_result, polling, post_result, post_tree, posting, send_result, send_tree, sending, turns_of}
-use Rattle.honest_machine.proofs.TraceLemmas.{front_follows, poll_follows, post_follows, send_follows}
+use Rattle.honest_pair.specs.Machine.Law.{IsByte}
+use Rattle.honest_pair.specs.Machine.Acts.{FrontIsAnswered}
+use Rattle.honest_pair.specs.Machine.Log.{event_by}
+use Rattle.honest_pair.specs.Machine.Memory.{Memory, after, answer}
+use Rattle.honest_pair.specs.Machine.Pair.{Activity, Free, Sending, Posting, Polling, Pair, PairEvent, FrontStep, Post, Poll, Send, begin_poll, begin_post, begin_send, on_front, on_poll, on_post, on_send, packets_of, poll_result, polling, post_result, post_tree, posting, send_result, send_tree, sending, turns_of}
+use Rattle.honest_pair.proofs.Machine.TraceLemmas.{front_follows, poll_follows, post_follows, send_follows}
 use Rattle.xdp_world.specs.Stands.{StandsFor, delivered_in, kept_in, waited_in}
 use Rattle.xdp_world.specs.declared.world.World.{World}
 use Rattle.honest_pair.specs.Held.{memory_in}

@@ -1,3 +1,5 @@
+pub mod Machine
+pub mod Invariant
 pub mod BackLemmas
 pub mod WordLemmas
 pub mod FrontLemmas

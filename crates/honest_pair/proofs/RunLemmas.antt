@@ -13,9 +13,9 @@ use Rattle.xen_front.specs.Fronts.{state_of as front_state, wiring_of as front_w
 use Rattle.xen_front.specs.declared.state.State.{State as FrontState}
 use Rattle.xen_steps.specs.Drive.{LedBy}
 use Rattle.xen_steps.specs.Steps.{Runs}
-use Rattle.honest_machine.specs.Law.{AreFit, Honest, IsBytes, PairLaw}
-use Rattle.honest_machine.specs.Layout.{IsBack}
-use Rattle.honest_machine.specs.Memory.{opening_memory}
+use Rattle.honest_pair.specs.Machine.Law.{AreFit, Honest, IsBytes, PairLaw}
+use Rattle.honest_pair.specs.Machine.Layout.{IsBack}
+use Rattle.honest_pair.specs.Machine.Memory.{opening_memory}
 use Rattle.xdp_world.specs.Begin.{Begins, IsFor}
 use Rattle.xdp_world.specs.Activities.{Activities, Came, Deed, Given, Item, SlotsAwaited, all_came, deliveries_in, delivery_over, none_over, turn_over, turns_in, wait_over, waits_in}
 use Rattle.xdp_world.specs.Calls.{Awaits, Call, Delivers, Stepped, all_stepped, entries_of, items_of}
@@ -33,12 +33,12 @@ use Rattle.std.proofs.lemmas.List.{append-nil, append_assoc}
 use Rattle.xen_steps.specs.Event.{Event}
 use Rattle.xen_turns.specs.declared.wiring.Wiring.{Wiring as BackWiring}
 use Rattle.xen_buffers.specs.declared.wiring.Wiring.{Wiring as FrontWiring}
-use Rattle.honest_machine.specs.Log.{LogLaw, back_asks, back_item, back_items, log, logged}
-use Rattle.honest_machine.specs.Pair.{Await, BackStep, Deliver, FrontStep, Pair, PairEvent, Poll, Post, Send, opening, run, step, turns_of}
-use Rattle.honest_machine.specs.Traces.{Follows, Traced}
-use Rattle.honest_machine.specs.Acts.{ActsOn, front_of}
-use Rattle.honest_machine.proofs.ActLemmas.{acts_none, acts_then, front_log-more, opened_acts, step_acts}
-use Rattle.honest_machine.proofs.TraceLemmas.{follows_more, follows_none, opened_traced}
+use Rattle.honest_pair.specs.Machine.Log.{LogLaw, back_asks, back_item, back_items, log, logged}
+use Rattle.honest_pair.specs.Machine.Pair.{Await, BackStep, Deliver, FrontStep, Pair, PairEvent, Poll, Post, Send, opening, run, step, turns_of}
+use Rattle.honest_pair.specs.Machine.Traces.{Follows, Traced}
+use Rattle.honest_pair.specs.Machine.Acts.{ActsOn, front_of}
+use Rattle.honest_pair.proofs.Machine.ActLemmas.{acts_none, acts_then, front_log-more, opened_acts, step_acts}
+use Rattle.honest_pair.proofs.Machine.TraceLemmas.{follows_more, follows_none, opened_traced}
 use Rattle.honest_pair.proofs.CopyLemmas.{delivers}
 use Rattle.xdp_world.specs.Entries.{Entry, listed, steps_of}
 use Rattle.xdp_world.specs.Stands.{Stands, StandsFor, delivered_in, kept_in, waited_in}

@@ -18,14 +18,14 @@ use Rattle.xen_turns.specs.declared.state.State.{State}
 use Rattle.xen_turns.specs.declared.turn.Halt.{Halt}
 use Rattle.xen_turns.specs.declared.wiring.Wiring.{Wiring}
 use Rattle.xen_front.specs.Fronts.{wiring_of as front_wiring}
-use Rattle.honest_machine.specs.Log.{back_asks, begun_at}
-use Rattle.honest_machine.specs.Memory.{Memory, after, answer}
-use Rattle.honest_machine.specs.Pair.{BackAt, Asleep, First, Second, Delivering, Waiting, Await, BackStep, Deed, OfTurn, OfDelivery, OfWait, Pair, answered, asking, begin_wait, on_await, on_back, turns_of, waiting}
-use Rattle.honest_machine.specs.declared.awaits.Awaits.{Awaits}
-use Rattle.honest_machine.specs.declared.awaits.Awaits.TheVariants as awaits
-use Rattle.honest_machine.proofs.Deeds.{turns_wait}
-use Rattle.honest_machine.proofs.TraceLemmas.{await_follows, back_follows}
-use Rattle.honest_machine.specs.Traces.{BackIsAnswered}
+use Rattle.honest_pair.specs.Machine.Log.{back_asks, begun_at}
+use Rattle.honest_pair.specs.Machine.Memory.{Memory, after, answer}
+use Rattle.honest_pair.specs.Machine.Pair.{BackAt, Asleep, First, Second, Delivering, Waiting, Await, BackStep, Deed, OfTurn, OfDelivery, OfWait, Pair, answered, asking, begin_wait, on_await, on_back, turns_of, waiting}
+use Rattle.honest_pair.specs.declared.awaits.Awaits.{Awaits}
+use Rattle.honest_pair.specs.declared.awaits.Awaits.TheVariants as awaits
+use Rattle.honest_pair.proofs.Machine.Deeds.{turns_wait}
+use Rattle.honest_pair.proofs.Machine.TraceLemmas.{await_follows, back_follows}
+use Rattle.honest_pair.specs.Machine.Traces.{BackIsAnswered}
 use Rattle.xdp_world.specs.Activities.{SlotsAwaited, all_came}
 use Rattle.xdp_world.specs.Calls.{Awaits as AwaitsCall, Stepped}
 use Rattle.xdp_world.specs.Carries.{Looks, Resumes, delivered_list, waited_list}

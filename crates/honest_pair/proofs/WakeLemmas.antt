@@ -6,11 +6,11 @@ use Rattle.xen_back.specs.Queues.{wiring_of}
 use Rattle.xen_back.specs.declared.queue.Queue.{Queue}
 use Rattle.xen_turns.specs.declared.wiring.Wiring.{Wiring}
 use Rattle.xen_front.specs.Fronts.{wiring_of as front_wiring}
-use Rattle.honest_machine.specs.Log.{back_asks}
-use Rattle.honest_machine.specs.Memory.{Memory}
-use Rattle.honest_machine.specs.Pair.{BackAt, Asleep, First, Second, Delivering, Waiting, BackStep, Pair, on_back, turns_of, wake}
-use Rattle.honest_machine.specs.Traces.{BackIsAnswered}
-use Rattle.honest_machine.proofs.TraceLemmas.{back_follows}
+use Rattle.honest_pair.specs.Machine.Log.{back_asks}
+use Rattle.honest_pair.specs.Machine.Memory.{Memory}
+use Rattle.honest_pair.specs.Machine.Pair.{BackAt, Asleep, First, Second, Delivering, Waiting, BackStep, Pair, on_back, turns_of, wake}
+use Rattle.honest_pair.specs.Machine.Traces.{BackIsAnswered}
+use Rattle.honest_pair.proofs.Machine.TraceLemmas.{back_follows}
 use Rattle.xdp_world.specs.Activities.{all_came}
 use Rattle.xdp_world.specs.Stands.{StandsFor, delivered_in, kept_in, waited_in}
 use Rattle.xdp_world.specs.declared.doing.Doing.{Doing}
@@ -19,7 +19,7 @@ use Rattle.honest_pair.specs.Held.{memory_in}
 use Rattle.honest_pair.specs.Words.{taken}
 use Rattle.honest_pair.specs.declared.calling.Calling.{Calling}
 use Rattle.honest_pair.specs.declared.calling.Calling.TheVariants as calling
-use Rattle.honest_machine.specs.declared.awaits.Awaits.TheVariants as awaits
+use Rattle.honest_pair.specs.declared.awaits.Awaits.TheVariants as awaits
 use Rattle.honest_pair.specs.Deeds.{AllKept, bytes_in, deliveries_of, waits_of}
 use Rattle.honest_pair.specs.Shows.{BackShows, Does, FrontShows, doing_at, queue_in}
 use Rattle.honest_pair.specs.declared.pair.Pair.{Pair as Held}

@@ -5,7 +5,7 @@ use Rattle.std.proofs.lemmas.Bool.Decides.{nat_tests}
 use mathlib.Core.Path.{fun_ext}
 use Rattle.xen_page.specs.declared.place.Place.{Place}
 use Rattle.xen_steps.specs.Places.{add32}
-use Rattle.honest_machine.specs.Memory.{header_word, opening_word}
+use Rattle.honest_pair.specs.Machine.Memory.{header_word, opening_word}
 use Rattle.honest_pair.specs.Words.{opened, words_at}
 
 abbrev zeros : ℕ → List ℕ

@@ -20,8 +20,8 @@ use Rattle.xdp_world.specs.declared.kept.Kept.{Kept}
 use Rattle.xdp_world.specs.declared.kept.Kept.TheVariants as kept
 use Rattle.xdp_world.specs.declared.report.Delivered.{Delivered}
 use Rattle.xdp_world.specs.declared.report.Waited.{Waited}
-use Rattle.honest_machine.specs.Law.{HasArrived, HasLooked, delivered}
-use Rattle.honest_machine.specs.Traces.{HasCopy}
+use Rattle.honest_pair.specs.Machine.Law.{HasArrived, HasLooked, delivered}
+use Rattle.honest_pair.specs.Machine.Traces.{HasCopy}
 
 -- It ran, or was refused for want of rx slots.
 abbrev pub HasCopied : Turned → Type 0

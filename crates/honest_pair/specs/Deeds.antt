@@ -2,7 +2,7 @@
 -- What a pair has done, as the report of a run tells it.
 use Rattle.std.specs.Prelude.{ℕ, ◌≡◌, ◌+◌, List, [], ◌∷◌}
 use Rattle.std.specs.Global.{Vec}
-use Rattle.honest_machine.specs.Pair.{Deed, OfTurn, OfDelivery, OfWait, Past}
+use Rattle.honest_pair.specs.Machine.Pair.{Deed, OfTurn, OfDelivery, OfWait, Past}
 use Rattle.xdp_world.specs.Calls.{Awaits as AwaitsCall, Call, Delivers, Stepped}
 use Rattle.xdp_world.specs.Keeping.{Keeps}
 use Rattle.xdp_world.specs.declared.kept.Kept.{Kept}

@@ -1,7 +1,7 @@
 -- Stated: claims rest on this file.
 -- The events of a pair, as its calls take them.
 use Rattle.std.specs.Prelude.{List, [], ◌∷◌}
-use Rattle.honest_machine.specs.Pair.{PairEvent, Send, Post, Poll, FrontStep, BackStep, Deliver, Await}
+use Rattle.honest_pair.specs.Machine.Pair.{PairEvent, Send, Post, Poll, FrontStep, BackStep, Deliver, Await}
 use Rattle.honest_pair.specs.declared.event.PairEvent.{PairEvent as Called}
 use Rattle.honest_pair.specs.declared.event.PairEvent.TheVariants as called
 

@@ -1,3 +1,5 @@
+pub mod Machine
+pub mod Invariant
 pub mod Words
 pub mod Held
 pub mod Made

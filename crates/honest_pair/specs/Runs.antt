@@ -5,12 +5,12 @@ use Rattle.bpf_verify.specs.Consistent.{Accepted}
 use Rattle.xen_turns.specs.declared.wiring.Wiring.{Wiring as BackWiring}
 use Rattle.xen_buffers.specs.declared.wiring.Wiring.{Wiring as FrontWiring}
 use Rattle.xen_front.specs.declared.state.State.{State as FrontState}
-use Rattle.honest_machine.specs.Acts.{HasActed, front_of}
-use Rattle.honest_machine.specs.Law.{Honest, IsNewFront}
-use Rattle.honest_machine.specs.Layout.{IsBack, IsFront}
-use Rattle.honest_machine.specs.Log.{IsFaithful, back_items, log}
-use Rattle.honest_machine.specs.Memory.{opening_word}
-use Rattle.honest_machine.specs.Pair.{Await, Deliver, PairEvent, opening, run, turns_of}
+use Rattle.honest_pair.specs.Machine.Acts.{HasActed, front_of}
+use Rattle.honest_pair.specs.Machine.Law.{Honest, IsNewFront}
+use Rattle.honest_pair.specs.Machine.Layout.{IsBack, IsFront}
+use Rattle.honest_pair.specs.Machine.Log.{IsFaithful, back_items, log}
+use Rattle.honest_pair.specs.Machine.Memory.{opening_word}
+use Rattle.honest_pair.specs.Machine.Pair.{Await, Deliver, PairEvent, opening, run, turns_of}
 use Rattle.xdp_world.specs.Begin.{IsFor}
 use Rattle.xdp_world.specs.Calls.{Call, all_stepped, items_of}
 use Rattle.xdp_world.specs.Report.{IsCoreRun, Tells}

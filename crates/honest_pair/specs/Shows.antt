@@ -19,15 +19,15 @@ use Rattle.xen_front.specs.Fronts.{busy, rest as front_rest, state_of as front_s
 use Rattle.xen_front.specs.Given.{Given}
 use Rattle.xen_front.specs.declared.front.Front.{Front}
 use Rattle.xen_front.specs.declared.state.State.{State as FrontState}
-use Rattle.honest_machine.specs.Halves.{Half, Over, HasRun, second_half}
-use Rattle.honest_machine.specs.Law.{IsBytes}
-use Rattle.honest_machine.specs.Log.{back_item, back_items, log}
-use Rattle.honest_machine.specs.Pair.{Activity, Free, Sending, Posting, Polling, BackAt, Asleep, First, Second, Delivering, Waiting, Pair}
-use Rattle.honest_machine.specs.Pair.{PairEvent, packets_of, run, step, turns_of}
-use Rattle.honest_machine.specs.declared.awaits.Awaits.{Awaits}
-use Rattle.honest_machine.specs.declared.awaits.Awaits.TheVariants as awaits
-use Rattle.honest_machine.specs.Acts.{ActIsAnswered, ActsOn, front_of}
-use Rattle.honest_machine.specs.Traces.{Follows}
+use Rattle.honest_pair.specs.Machine.Halves.{Half, Over, HasRun, second_half}
+use Rattle.honest_pair.specs.Machine.Law.{IsBytes}
+use Rattle.honest_pair.specs.Machine.Log.{back_item, back_items, log}
+use Rattle.honest_pair.specs.Machine.Pair.{Activity, Free, Sending, Posting, Polling, BackAt, Asleep, First, Second, Delivering, Waiting, Pair}
+use Rattle.honest_pair.specs.Machine.Pair.{PairEvent, packets_of, run, step, turns_of}
+use Rattle.honest_pair.specs.declared.awaits.Awaits.{Awaits}
+use Rattle.honest_pair.specs.declared.awaits.Awaits.TheVariants as awaits
+use Rattle.honest_pair.specs.Machine.Acts.{ActIsAnswered, ActsOn, front_of}
+use Rattle.honest_pair.specs.Machine.Traces.{Follows}
 use Rattle.xdp_world.specs.Activities.{Item}
 use Rattle.xdp_world.specs.Calls.{Call, items_of}
 use Rattle.xdp_world.specs.Stands.{StandsFor, delivered_in, kept_in, waited_in}

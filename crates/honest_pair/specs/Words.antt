@@ -1,8 +1,8 @@
 -- For proofs: no claim rests on this file.
 -- The words of all frames, one frame after another.
 use Rattle.std.specs.Prelude.{ℕ, ◌<◌, ◌+◌, ◌*◌, false, List, get_or, nat_lt, if◌then◌else◌}
-use Rattle.honest_machine.specs.Memory.{Memory, put}
-use Rattle.honest_machine.specs.declared.awaits.Awaits.TheVariants as awaits
+use Rattle.honest_pair.specs.Machine.Memory.{Memory, put}
+use Rattle.honest_pair.specs.declared.awaits.Awaits.TheVariants as awaits
 use Rattle.xen_page.specs.declared.place.Place.{Place}
 use Rattle.xen_steps.specs.Places.{add32, page_word}
 use Rattle.xen_steps.specs.declared.want.Want.{Want}

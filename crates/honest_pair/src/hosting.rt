@@ -1,12 +1,12 @@
 //! What the back does for its host: deliveries and waits.
 ghost use Rattle.std.specs.Prelude.{◌≡◌, All, OnOk, slice_get};
-ghost use Rattle.honest_machine.specs.Law.{IsByte};
-ghost use Rattle.honest_machine.specs.Pair.{Await, BackStep, Deliver};
+ghost use Rattle.honest_pair.specs.Machine.Law.{IsByte};
+ghost use Rattle.honest_pair.specs.Machine.Pair.{Await, BackStep, Deliver};
 ghost use Rattle.honest_pair.specs.Shows.{Does, answer_of, awaits_after as awaits_after_spec, calls_while as calls_while_spec, is_none};
 
+use crate::awaits::Awaits;
 use crate::calling::Calling;
 use crate::pair::Pair;
-use honest_machine::Awaits;
 use std::alloc::AllocError;
 use xdp_world::{Begun, WaitBegun, Waited};
 use xen_back::Awaited;

@@ -6,9 +6,11 @@
 //! - `running`: whole runs
 #![tactic(auto)]
 
+mod awaits;
 mod calling;
 mod event;
 mod hosting;
+pub mod laws;
 mod making;
 mod memory;
 mod pair;

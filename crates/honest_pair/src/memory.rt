@@ -1,7 +1,7 @@
 //! The words of all frames, and whether the back's port is pending.
 ghost use Rattle.std.specs.Prelude.{◌≡◌, vec_len};
 
-use honest_machine::Awaits;
+use crate::awaits::Awaits;
 use std::alloc::{AllocError, Global};
 use xen_back::{Answer, Want};
 use xen_page::Place;
@@ -30,7 +30,7 @@ pub struct Memory {
 
 impl Memory {
     ghost use Rattle.std.specs.Prelude.{◌≡◌, ◌<◌, true, false, IfOk, replicate, vec_len};
-    ghost use Rattle.honest_machine.specs.Memory.{after, answer, opening_memory, put};
+    ghost use Rattle.honest_pair.specs.Machine.Memory.{after, answer, opening_memory, put};
     ghost use Rattle.honest_pair.specs.Words.{IsHeld, WantsHeld, empty_memory, opened, taken};
     ghost use Rattle.honest_pair.specs.Held.{memory_in};
     ghost use Rattle.xen_steps.specs.Answers.{Fits, number};

@@ -6,13 +6,12 @@ ghost use Rattle.honest_pair.specs.Shows.{HasDone};
 
 use crate::calling::Calling;
 use crate::event::PairEvent;
+use crate::laws::{pair_law, reads_are_faithful};
 use crate::making::front;
 use crate::memory::Memory;
 use crate::pair::Pair;
 use bpf_verify::Verified;
 use bpf_vm::Buffer;
-use honest_laws::pair_law;
-use honest_machine::reads_are_faithful;
 use std::alloc::{AllocError, Global};
 use xdp_world::{Layout, Report, World, buffers_from};
 

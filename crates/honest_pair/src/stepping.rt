@@ -1,8 +1,8 @@
 //! Events of a pair.
 ghost use Rattle.std.specs.Prelude.{◌≡◌, All, OnOk, false, true, slice_get};
-ghost use Rattle.honest_machine.specs.Law.{IsByte};
+ghost use Rattle.honest_pair.specs.Machine.Law.{IsByte};
 ghost use Rattle.xen_front.specs.Fronts.{rest as front_rest};
-ghost use Rattle.honest_machine.specs.Pair.{BackStep, FrontStep, Poll, Post, Send};
+ghost use Rattle.honest_pair.specs.Machine.Pair.{BackStep, FrontStep, Poll, Post, Send};
 ghost use Rattle.xen_steps.specs.Steps.{want_of};
 ghost use Rattle.honest_pair.specs.Events.{event_in};
 ghost use Rattle.honest_pair.specs.Shows.{Does, Received, is_idle as is_idle_spec};

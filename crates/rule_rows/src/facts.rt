@@ -76,10 +76,13 @@ pub fn known(alloc: Global, facts: &str) -> Option<Note> {
     Some(note)
 }
 
-/// By what a list is looked up, as in `exact6` or `prefix4`.
+/// By what a list is looked up, as in `exact6` or `prefix4`, or how many constants there are, as in `constants64`.
 fn key(text: &str) -> Option<MapKey> {
     if let Some(bytes) = text.strip_prefix("exact") {
         return Some(MapKey::Listed(Kind::Exact(bytes.parse().ok()?)));
+    }
+    if let Some(bytes) = text.strip_prefix("constants") {
+        return Some(MapKey::Constants(bytes.parse().ok()?));
     }
     let bytes = text.strip_prefix("prefix")?;
     Some(MapKey::Listed(Kind::Prefix(bytes.parse().ok()?)))
@@ -105,7 +108,7 @@ fn shape(text: &str) -> Option<MapShape> {
 }
 
 /// The maps that a row begins with, as `2x1` for one of two entries of one counter, or `2x1:exact6` if they are looked up by a
-/// list of keys of six bytes, and what comes after them.
+/// list of keys of six bytes, or `1x1:constants64` for constants, and what comes after them.
 pub fn maps(alloc: Global, text: &str) -> Option<(Vec<MapShape>, &str)> {
     let mut shapes = Vec::new(alloc);
     match text.strip_prefix("maps=") {

@@ -4,7 +4,7 @@ use Rattle.std.specs.Prelude.{replicate, Option}
 use Rattle.std.specs.List.{AllByRecursion}
 use Rattle.std.proofs.lemmas.List.{append-nil}
 use Rattle.std.proofs.Math.Seq.{drop-cons, take-append_seam}
-use Rattle.bpf_lists.specs.Keys.{Keyed}
+use Rattle.bpf_lists.specs.declared.list.MapList.{MapList}
 use Rattle.bpf_verify.specs.Consistent.{Accepted as Program}
 use Rattle.xdp_load.specs.Setup.{Packet}
 use Rattle.xdp_load.specs.SetupSeen.{packet_view}
@@ -13,7 +13,7 @@ use Rattle.xdp_load.specs.declared.packets.Packet.{Packet as CodePacket}
 use Rattle.xdp_program.specs.Ran.{Ran}
 use Rattle.xdp_commands.specs.Filtering.{AreRuns, Goes, Passed, inputs_of, passed_lines, passed_text}
 
-runs_append : (program : Program) (lists : List (Option Keyed)) (ifindex : ℕ) (ps qs : List Packet) (before between after : List ℕ) (rs ss : List Passed)
+runs_append : (program : Program) (lists : List (Option MapList)) (ifindex : ℕ) (ps qs : List Packet) (before between after : List ℕ) (rs ss : List Passed)
     → AreRuns program lists ifindex ps before rs between → AreRuns program lists ifindex qs between ss after → AreRuns program lists ifindex (ps ++ qs) before (rs ++ ss) after
 runs_append program lists ifindex [] qs before between after [] ss h k = subst (λ (words : List ℕ). AreRuns program lists ifindex qs words ss after) (sym h) k
 runs_append program lists ifindex [] qs before between after (r ∷ rs) ss h k = absurd h
@@ -26,7 +26,7 @@ lines_append [] ss = refl
 lines_append (r ∷ rs) ss =
     ap (λ (xs : List ℕ). passed_text r ++ xs) (lines_append rs ss) ∙ sym (append_assoc (passed_text r) (passed_lines rs) (passed_lines ss))
 
-pub goes_on : (program : Program) (lists : List (Option Keyed)) (ifindex : ℕ) (ps qs : List Packet) (before lines between more after all : List ℕ)
+pub goes_on : (program : Program) (lists : List (Option MapList)) (ifindex : ℕ) (ps qs : List Packet) (before lines between more after all : List ℕ)
     → Goes program lists ifindex ps before lines between more → Goes program lists ifindex qs between more after all → Goes program lists ifindex (ps ++ qs) before lines after all
 goes_on program lists ifindex ps qs before lines between more after all g h = record {
   runs = g.runs ++ h.runs;
@@ -35,11 +35,11 @@ goes_on program lists ifindex ps qs before lines between more after all g h = re
       ∙ ap (λ (xs : List ℕ). lines ++ xs) (sym (lines_append g.runs h.runs));
 }
 
-pub goes_nowhere : (program : Program) (lists : List (Option Keyed)) (ifindex : ℕ) (words lines : List ℕ) → Goes program lists ifindex [] words lines words lines
+pub goes_nowhere : (program : Program) (lists : List (Option MapList)) (ifindex : ℕ) (words lines : List ℕ) → Goes program lists ifindex [] words lines words lines
 goes_nowhere program lists ifindex words lines = record { runs = []; ran = refl; printed = sym (append-nil lines) }
 
 -- one run, with its line
-pub goes_once : (program : Program) (lists : List (Option Keyed)) (ifindex : ℕ) (p : Packet) (before lines after more bytes line : List ℕ) (number count : ℕ)
+pub goes_once : (program : Program) (lists : List (Option MapList)) (ifindex : ℕ) (p : Packet) (before lines after more bytes line : List ℕ) (number count : ℕ)
     → Ran program lists p.bytes ifindex p.queue before number bytes after count → line ≡ passed_text (record { number = number; bytes = bytes }) → more ≡ lines ++ line
     → Goes program lists ifindex (p ∷ []) before lines after more
 goes_once program lists ifindex p before lines after more bytes line number count ran is printed = record {

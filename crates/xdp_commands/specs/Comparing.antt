@@ -4,6 +4,7 @@ use Rattle.std.specs.Prelude.{ℕ, ◌≡◌, ◌<◌, List, ◌++◌, Option, N
 use Rattle.bpf_insn.specs.Code.{Spells}
 use Rattle.bpf_insn.specs.Refusal.{IsNoCode}
 use Rattle.bpf_insn.specs.declared.insn.Insn.{Insn}
+use Rattle.bpf_same.specs.Alone.{IsSameAlone}
 use Rattle.bpf_same.specs.Counts.{IsSameByCounts, IsWholeByCounts}
 use Rattle.bpf_same.specs.Renumbered.{IsRenumbering}
 use Rattle.bpf_same.specs.Same.{IsSame}
@@ -18,7 +19,7 @@ use Rattle.xdp_load.specs.declared.original.Place.{Place as Read}
 use Rattle.xdp_commands.specs.Executing.{IsProgramOf, IsRefusalOfBytes}
 use Rattle.xdp_commands.specs.Lines.{refused_text}
 use Rattle.xdp_commands.specs.declared.comparing.Compared.{Compared}
-use Rattle.xdp_commands.specs.declared.comparing.Compared.TheVariants.{Same, SameByCounts, NotShown, Refused, Undecoded}
+use Rattle.xdp_commands.specs.declared.comparing.Compared.TheVariants.{Same, SameByCounts, SameAlone, NotShown, Refused, Undecoded}
 
 -- the setup's program has no cause of refusal with its maps, and the original's bytes spell a program
 pub record IsPair (r : RewrittenView) (program : Program) (original : List Insn) : Type 0 where
@@ -46,6 +47,17 @@ pub record IsPairByCounts (r : RewrittenView) (slots originals : ℕ) : Type 0 w
   pub counted : slots ≡ length program.code
   pub originals_counted : originals ≡ length original
 
+-- a pair of which each, if it alone has the counters, ends as the other does and leaves the same in them, whatever stood there before;
+-- the program has `slots` slots, and the original has `originals`
+pub record IsPairAlone (r : RewrittenView) (slots originals : ℕ) : Type 0 where
+  pub program : Program
+  pub original : List Insn
+  pub pair : IsPair r program original
+  pub alone : IsSameAlone r.setup.shapes original program.code
+  pub whole : IsSameAlone r.setup.shapes program.code original
+  pub counted : slots ≡ length program.code
+  pub originals_counted : originals ≡ length original
+
 -- a place, as it is tried
 abbrev pub tried : Place → Witness
 tried p = record { stutters = p.own; at = p.at }
@@ -63,10 +75,12 @@ pub record IsPairUnshown (r : RewrittenView) (obstacle : Option Obstacle) : Type
   pub renumbered : IsRenumbering (map tried r.places) original program.code → ⊥
   pub stops : IfSome obstacle (λ (o : Obstacle). o.slot < length program.code)
 
--- the program is accepted, and the same, or the same by counts, or another one; or it is refused, or the original's bytes are
+-- the program is accepted, and the same, or the same by counts, or the same alone, or another one; or it is refused, or the original's
+-- bytes are
 abbrev pub Compares : RewrittenView → Compared → Type 0
 Compares r (Same slots originals) = IsSamePair r slots originals
 Compares r (SameByCounts slots originals) = IsPairByCounts r slots originals
+Compares r (SameAlone slots originals) = IsPairAlone r slots originals
 Compares r (NotShown obstacle) = IsPairUnshown r obstacle
 Compares r (Refused refusal) = IsRefusalOfBytes r.setup.program r.setup.shapes refusal
 Compares r (Undecoded refusal) = (p : Program) × IsProgramOf r.setup.program r.setup.shapes p × IsNoCode r.original refusal
@@ -86,6 +100,7 @@ not_shown_text (Some o) = codes "not shown\nat slot " ++ (decimal o.slot ++ (cod
 abbrev pub compared_text : Compared → List ℕ
 compared_text (Same slots originals) = codes "same, " ++ (decimal slots ++ (codes " slots for " ++ (decimal originals ++ codes "\n")))
 compared_text (SameByCounts slots originals) = codes "same by counts, " ++ (decimal slots ++ (codes " slots for " ++ (decimal originals ++ codes "\n")))
+compared_text (SameAlone slots originals) = codes "same alone, " ++ (decimal slots ++ (codes " slots for " ++ (decimal originals ++ codes "\n")))
 compared_text (NotShown obstacle) = not_shown_text obstacle
 compared_text (Refused refusal) = refused_text refusal
 compared_text (Undecoded refusal) = codes "original " ++ refused_text refusal
@@ -94,6 +109,7 @@ compared_text (Undecoded refusal) = codes "original " ++ refused_text refusal
 abbrev pub compared_status : Compared → ℕ
 compared_status (Same slots originals) = 0
 compared_status (SameByCounts slots originals) = 0
+compared_status (SameAlone slots originals) = 0
 compared_status (NotShown obstacle) = 1
 compared_status (Refused refusal) = 1
 compared_status (Undecoded refusal) = 1

@@ -3,7 +3,7 @@
 use Rattle.std.specs.Prelude.{ℕ, ◌≡◌, List, [], ◌∷◌, ◌++◌, codes, decimal, length, replicate, string_bytes, vec_len, Option, Result, Ok, Err}
 use Rattle.hex.specs.Hex.{encode_lower}
 use Rattle.bpf_insn.specs.declared.refusal.Refusal.{Refusal}
-use Rattle.bpf_lists.specs.Keys.{Keyed}
+use Rattle.bpf_lists.specs.declared.list.MapList.{MapList}
 use Rattle.bpf_maps.specs.Layout.{total}
 use Rattle.bpf_note.specs.Shape.{Shape}
 use Rattle.bpf_verify.specs.Consistent.{Accepted as Program}
@@ -27,7 +27,7 @@ pub record Passed : Type 0 where
   pub bytes : List ℕ
 
 -- runs on these packets in turn with these lists, each with the packet's queue and the words that the last left of the counters
-abbrev pub AreRuns : Program → List (Option Keyed) → ℕ → List Packet → List ℕ → List Passed → List ℕ → Type 0
+abbrev pub AreRuns : Program → List (Option MapList) → ℕ → List Packet → List ℕ → List Passed → List ℕ → Type 0
 AreRuns program lists ifindex [] before [] after = before ≡ after
 AreRuns program lists ifindex [] before (r ∷ rs) after = ⊥
 AreRuns program lists ifindex (p ∷ ps) before [] after = ⊥
@@ -45,7 +45,7 @@ passed_lines [] = []
 passed_lines (r ∷ rs) = passed_text r ++ passed_lines rs
 
 -- runs of the program with these lists, with their lines, from these words and lines to those
-pub record Goes (program : Program) (lists : List (Option Keyed)) (ifindex : ℕ) (packets : List Packet) (before lines after more : List ℕ) : Type 0 where
+pub record Goes (program : Program) (lists : List (Option MapList)) (ifindex : ℕ) (packets : List Packet) (before lines after more : List ℕ) : Type 0 where
   pub runs : List Passed
   pub ran : AreRuns program lists ifindex packets before runs after
   pub printed : more ≡ lines ++ passed_lines runs

@@ -23,6 +23,8 @@ pub enum Compared {
     /// Each run of the program is one of the original, but that one atomic addition to a counter may stand for a load and a store,
     /// as where nobody else writes the counter between.
     SameByCounts { slots: u32, originals: usize },
+    /// Where nobody else writes the counters, each ends as the other does and leaves the same in them.
+    SameAlone { slots: u32, originals: usize },
     /// Nothing is shown of their runs; and where the comparison stops, if that is known.
     NotShown { obstacle: Option<Obstacle> },
     /// The program is refused.
@@ -77,6 +79,10 @@ fn compare_with(
             originals: original.insns().len(),
         }),
         Comparison::SameByCounts => Ok(Compared::SameByCounts {
+            slots: program.slots(),
+            originals: original.insns().len(),
+        }),
+        Comparison::SameAlone => Ok(Compared::SameAlone {
             slots: program.slots(),
             originals: original.insns().len(),
         }),
@@ -138,6 +144,9 @@ pub fn compared_text(alloc: Global, compared: &Compared) -> Result<String, Alloc
         Compared::SameByCounts { slots, originals } => {
             format!(in alloc; "same by counts, {slots} slots for {originals}\n")
         }
+        Compared::SameAlone { slots, originals } => {
+            format!(in alloc; "same alone, {slots} slots for {originals}\n")
+        }
         Compared::NotShown { obstacle } => not_shown_text(alloc, *obstacle),
         Compared::Refused(refusal) => refused_text(alloc, refusal),
         Compared::Undecoded(refusal) => {
@@ -152,7 +161,7 @@ pub fn compared_status(compared: &Compared) -> u8
     ensures { result ≡ compared_status compared.now }
 {
     match compared {
-        Compared::Same { .. } | Compared::SameByCounts { .. } => 0,
+        Compared::Same { .. } | Compared::SameByCounts { .. } | Compared::SameAlone { .. } => 0,
         Compared::NotShown { .. } | Compared::Refused(_) | Compared::Undecoded(_) => 1,
     }
 }

@@ -9,7 +9,7 @@ ghost use Rattle.xdp_commands.specs.Filtering.{Filters, Goes, IsFilterOfSetup, i
 
 use crate::executing::accept;
 use bpf_insn::Refusal;
-use bpf_lists::KeyedRows;
+use bpf_lists::MapList;
 use bpf_maps::total;
 use bpf_verify::Verified;
 use bpf_vm::{Action, Buffer, PacketBuf};
@@ -38,7 +38,7 @@ fn passed_text(alloc: Global, number: u32, bytes: &[u8]) -> Result<String, Alloc
 fn run_once(
     alloc: Global,
     program: &Verified,
-    lists: &[Option<KeyedRows>],
+    lists: &[Option<MapList>],
     ifindex: u32,
     packet: &Packet,
     buffer: &mut Buffer,
@@ -65,7 +65,7 @@ fn run_once(
 fn run_times(
     alloc: Global,
     program: &Verified,
-    lists: &[Option<KeyedRows>],
+    lists: &[Option<MapList>],
     ifindex: u32,
     packet: &Packet,
     buffer: &mut Buffer,

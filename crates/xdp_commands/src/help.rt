@@ -64,7 +64,7 @@ fn help_lines(topic: Topic) -> &'static str
         Topic::Same => {
             "xdpbox same < SETTINGS\n\
              The settings have the first program in a table original.\n\
-             Prints same, same by counts or not shown; 1: not shown, or one of both is refused.\n"
+             Prints same, same by counts, same alone or not shown; 1: not shown, or one of both is refused.\n"
         }
         Topic::Filter => {
             "xdpbox filter < SETTINGS\n\

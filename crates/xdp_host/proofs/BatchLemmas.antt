@@ -4,7 +4,7 @@ use Rattle.std.proofs.lemmas.List.{take_more, take_more_set, drop-set-lt}
 use Rattle.std.proofs.lemmas.Grind.{drop_more_same}
 use Rattle.std.proofs.lemmas.Slice.{between-put_mid, take-put_mid_below, drop-put_mid}
 use borrow.Rule.Slice.PartMut.{put_mid, put_same, mid_len}
-use Rattle.bpf_lists.specs.Keys.{Keyed}
+use Rattle.bpf_lists.specs.declared.list.MapList.{MapList}
 use Rattle.bpf_verify.specs.Consistent.{Accepted}
 use Rattle.xdp_program.specs.Ran.{Ran}
 use Rattle.xdp_program.specs.Refused.{IsMade, IsUnmade}
@@ -34,7 +34,7 @@ nothing_changed : (x : XdpPacket) (bytes words packet after : List ℕ) → pack
     let t : Shared = record { bytes = put_mid x.start (end_of x - x.start) bytes packet; words = after } in t ≡ record { bytes = bytes; words = words }
 nothing_changed x bytes words packet after same kept = rw (same, kept, put_same x.start (end_of x - x.start) bytes) refl
 
-pub runs_one : (p : Accepted) (lists : List (Option Keyed)) (ifindex queue : ℕ) (x : XdpPacket) (run : Run) (bytes words packet after : List ℕ) →
+pub runs_one : (p : Accepted) (lists : List (Option MapList)) (ifindex queue : ℕ) (x : XdpPacket) (run : Run) (bytes words packet after : List ℕ) →
     end_of x ≤ length bytes → length packet ≡ end_of x - x.start →
     (IsMade p.shapes words (packet_of bytes x) → Ran p lists (packet_of bytes x) ifindex queue words run.number packet after run.instructions) →
     (IsUnmade p.shapes words (packet_of bytes x) → (run.number ≡ 0) × (run.instructions ≡ 0) × (packet ≡ packet_of bytes x) × (after ≡ words)) →

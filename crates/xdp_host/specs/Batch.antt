@@ -1,7 +1,7 @@
 -- Stated: claims rest on this file.
 -- Runs on the packets of a batch, one after another.
 use Rattle.std.specs.Prelude.{ℕ, ◌≡◌, ◌<◌, ◌≤◌, ◌+◌, ◌⊎◌, List, [], ◌∷◌, ◌++◌, Option, length, take, drop, slice_range}
-use Rattle.bpf_lists.specs.Keys.{Keyed}
+use Rattle.bpf_lists.specs.declared.list.MapList.{MapList}
 use Rattle.bpf_maps.specs.Layout.{total}
 use Rattle.bpf_verify.specs.Consistent.{Accepted}
 use Rattle.bpf_vm.specs.Actions.{action_of}
@@ -31,7 +31,7 @@ abbrev pub IsUnrunnable : Accepted → XdpPacket → Shared → Type 0
 IsUnrunnable p x s = (length s.bytes < end_of x) ⊎ ((65535 < x.length) ⊎ (length s.words < total p.shapes))
 
 -- the program runs on the packet and leaves the other bytes; or nothing is run, and nothing changes
-pub record RunsOne (p : Accepted) (lists : List (Option Keyed)) (ifindex queue : ℕ) (x : XdpPacket) (r : XdpRun) (s t : Shared) : Type 0 where
+pub record RunsOne (p : Accepted) (lists : List (Option MapList)) (ifindex queue : ℕ) (x : XdpPacket) (r : XdpRun) (s t : Shared) : Type 0 where
   pub made : IsRunnable p x s → Ran p lists (packet_of s.bytes x) ifindex queue s.words r.number (packet_of t.bytes x) t.words r.instructions
   pub before : IsRunnable p x s → take x.start t.bytes ≡ take x.start s.bytes
   pub after : IsRunnable p x s → drop (end_of x) t.bytes ≡ drop (end_of x) s.bytes
@@ -39,7 +39,7 @@ pub record RunsOne (p : Accepted) (lists : List (Option Keyed)) (ifindex queue :
   pub action : r.action ≡ action_number (action_of r.number)
 
 -- the packets so far have these results, and each found what the one before it left
-pub data RanEach (p : Accepted) (lists : List (Option Keyed)) (ifindex queue : ℕ) (s : Shared) : List XdpPacket → List XdpRun → Shared → Type 0 where
+pub data RanEach (p : Accepted) (lists : List (Option MapList)) (ifindex queue : ℕ) (s : Shared) : List XdpPacket → List XdpRun → Shared → Type 0 where
   none : RanEach p lists ifindex queue s [] [] s
   one_more : (xs : List XdpPacket) (rs : List XdpRun) (t u : Shared) (x : XdpPacket) (r : XdpRun) →
       RanEach p lists ifindex queue s xs rs t → RunsOne p lists ifindex queue x r t u → RanEach p lists ifindex queue s (xs ++ x ∷ []) (rs ++ r ∷ []) u

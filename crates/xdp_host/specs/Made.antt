@@ -1,7 +1,7 @@
 -- Stated: claims rest on this file.
 -- What C is answered when it makes a queue.
 use Rattle.std.specs.Prelude.{ℕ, ◌≡◌, ◌⊎◌, List, Option, Some, map}
-use Rattle.bpf_lists.specs.Keys.{Keyed}
+use Rattle.bpf_lists.specs.declared.list.MapList.{MapList}
 use Rattle.bpf_verify.specs.Consistent.{Accepted}
 use Rattle.xen_page.specs.declared.extents.Extent.{Extent}
 use Rattle.xen_host.specs.Frames.{Limits}
@@ -49,7 +49,7 @@ fault_number (Make make.Domain) = 5
 fault_number Empty = 6
 
 -- A queue of the program with these lists was made in place of what was there, and the answer is 0.
-pub record IsMade (p : Accepted) (lists : List (Option Keyed)) (g : Given) (new : Option Queue) (answer : ℕ) : Type 0 where
+pub record IsMade (p : Accepted) (lists : List (Option MapList)) (g : Given) (new : Option Queue) (answer : ℕ) : Type 0 where
   pub queue : Queue
   pub there : new ≡ Some queue
   pub made : IsMadeOf p lists g queue
@@ -62,5 +62,5 @@ pub record IsUnmade (g : Given) (old new : Option Queue) (answer : ℕ) : Type 0
   pub kept : new ≡ old
   pub answer_is : answer ≡ fault_number (Make fault)
 
-abbrev pub MakesOr : Accepted → List (Option Keyed) → Given → Option Queue → Option Queue → ℕ → Type 0
+abbrev pub MakesOr : Accepted → List (Option MapList) → Given → Option Queue → Option Queue → ℕ → Type 0
 MakesOr p lists g old new answer = IsMade p lists g new answer ⊎ IsUnmade g old new answer

@@ -1,7 +1,7 @@
 -- Stated: claims rest on this file.
 -- What C is answered to lists that are to become a program's or a queue's.
 use Rattle.std.specs.Prelude.{ℕ, ◌≡◌, ◌⊎◌, List, Option}
-use Rattle.bpf_lists.specs.Keys.{Keyed}
+use Rattle.bpf_lists.specs.declared.list.MapList.{MapList}
 use Rattle.bpf_verify.specs.Consistent.{instructions}
 use Rattle.xdp_program.specs.Settings.{IsRelistFault, IsRelisted}
 use Rattle.xdp_program.specs.declared.fault.RelistFault.{RelistFault}
@@ -25,7 +25,7 @@ relist_verdict relist.Other = record { kind = 6; cause = 0; at = 0 }
 
 -- The program has the text's lists in place of its own, and nothing else of it is different.
 pub record HasTaken (text : List ℕ) (old new : LoadedProgram) (told : XdpVerdict) : Type 0 where
-  pub lists : List (Option Keyed)
+  pub lists : List (Option MapList)
   pub theirs : IsRelisted text old.program lists
   pub taken : new ≡ record old { lists = lists }
   pub told_is : told ≡ accepting (instructions old.program.code)

@@ -5,6 +5,8 @@ use Rattle.std.proofs.lemmas.Option.{slice_get-get_or, slice_get-map}
 use Rattle.std.proofs.lemmas.Bool.{cases_order}
 use Rattle.bpf_lists.specs.Keys.{Keyed}
 use Rattle.bpf_lists.specs.Refusals.{AreListed}
+use Rattle.bpf_lists.specs.declared.list.MapList.{MapList}
+use Rattle.bpf_lists.specs.declared.list.MapList.TheVariants.{Rows, Constants}
 use Rattle.bpf_note.specs.Shape.{Shape}
 use Rattle.toml.specs.declared.value.Value.{Value}
 use Rattle.xdp_load.specs.Document.{Text}
@@ -37,12 +39,12 @@ bytes_more n g xs i d done bytes h e = rw (drop_more xs i d h, e, add-one) (last
     last (Err e) = refl
 
 -- a list that is read
-pub lists_more : {A : Type 0} (g : A → ListedText) (ss : List Shape) (xs : List A) (i : ℕ) (s : Shape) (d : A) (done : List (Option Keyed)) (l : Option Keyed) → i < length ss → i < length xs
+pub lists_more : {A : Type 0} (g : A → ListedText) (ss : List Shape) (xs : List A) (i : ℕ) (s : Shape) (d : A) (done : List (Option MapList)) (l : Option MapList) → i < length ss → i < length xs
     → list_of i (get_or ss i s).key (g (get_or xs i d)).key.rows ≡ Ok l
     → seen_by (λ ls. done ++ ls) (lists_of i (drop i ss) (map g (drop i xs))) ≡ seen_by (λ ls. (done ++ (l ∷ [])) ++ ls) (lists_of (i + 1) (drop (i + 1) ss) (map g (drop (i + 1) xs)))
 lists_more g ss xs i s d done l h k e = rw (drop_more ss i s h, drop_more xs i d k, e, add-one) (last (lists_of (suc i) (drop (suc i) ss) (map g (drop (suc i) xs))))
   where
-    last : (r : Result (List (Option Keyed)) Refused) → seen_by (λ ls. done ++ ls) (r >>= (λ ls. Ok (l ∷ ls))) ≡ seen_by (λ ls. (done ++ (l ∷ [])) ++ ls) r
+    last : (r : Result (List (Option MapList)) Refused) → seen_by (λ ls. done ++ ls) (r >>= (λ ls. Ok (l ∷ ls))) ≡ seen_by (λ ls. (done ++ (l ∷ [])) ++ ls) r
     last (Ok ls) = ap Ok (sym (append_assoc done (l ∷ []) ls))
     last (Err e) = refl
 
@@ -65,9 +67,10 @@ lists_taken ls i d h = ap lists_seen (take_more ls i d h) ∙ map-append (option
 list_at : (ls : List (Option ListBytes)) (i : ℕ) (d : Option ListBytes) → i < length ls → slice_get (lists_seen ls) i ≡ Some (option_map list_seen (get_or ls i d))
 list_at ls i d h = slice_get-map (option_map list_seen) ls i ∙ ap (option_map (option_map list_seen)) (slice_get-get_or ls i d h)
 
-listed_list : (o : Option Keyed) (list : Keyed) → IsListed o → ◌≡◌ {A = Option (Option Keyed)} (Some o) (Some (Some list)) → AreListed list.kind list.keys
+listed_list : (o : Option MapList) (list : Keyed) → IsListed o → ◌≡◌ {A = Option (Option MapList)} (Some o) (Some (Some (Rows list))) → AreListed list.kind list.keys
 listed_list None list h e = absurd (cc)
-listed_list (Some l) list h e = subst (λ (x : Keyed). AreListed x.kind x.keys) (cc) h
+listed_list (Some (Rows l)) list h e = subst (λ (x : Keyed). AreListed x.kind x.keys) (cc) h
+listed_list (Some (Constants bytes)) list h e = absurd (cc)
 
 -- one list more is one that a map can have
 pub below_more : (ls : List (Option ListBytes)) (i : ℕ) (d : Option ListBytes) → i < length ls → AreListedBelow (lists_seen ls) i → IsListed (option_map list_seen (get_or ls i d)) → AreListedBelow (lists_seen ls) (i + 1)
@@ -79,12 +82,13 @@ below_more ls i d h a l k list less there = go (cases_order k i)
     go (inr (inr m)) = absurd (omega (arith, m, less))
 
 -- the next list is the first that is none
-first_unlisted : (ls : List (Option Keyed)) (i : ℕ) (o : Option Keyed) → slice_get ls i ≡ Some o → AreListedBelow ls i → (IsListed o → ⊥) → IsFirstUnlisted ls i
+first_unlisted : (ls : List (Option MapList)) (i : ℕ) (o : Option MapList) → slice_get ls i ≡ Some o → AreListedBelow ls i → (IsListed o → ⊥) → IsFirstUnlisted ls i
 first_unlisted ls i None there a h = absurd (h tt)
-first_unlisted ls i (Some list) there a h = record { list = list; there = there; unlisted = h; before = a }
+first_unlisted ls i (Some (Rows rows)) there a h = record { rows = rows; there = there; unlisted = h; before = a }
+first_unlisted ls i (Some (Constants bytes)) there a h = absurd (h tt)
 
 pub first_error : (ls : List (Option ListBytes)) (i : ℕ) (d item : Option ListBytes) (e : LoadError) → i < length ls → item ≡ get_or ls i d → AreListedBelow (lists_seen ls) i → IsUnlistedError i (option_map list_seen item) e → IsListError (lists_seen ls) e
 first_error ls i d item error.Memory h here a u = tt
 first_error ls i d item (error.Refused r) h here a u =
     let same : option_map list_seen item ≡ option_map list_seen (get_or ls i d) = ap (option_map list_seen) here in
-    (i, u.0, first_unlisted (lists_seen ls) i (option_map list_seen (get_or ls i d)) (list_at ls i d h) a (subst (λ (o : Option Keyed). IsListed o → ⊥) same u.1))
+    (i, u.0, first_unlisted (lists_seen ls) i (option_map list_seen (get_or ls i d)) (list_at ls i d h) a (subst (λ (o : Option MapList). IsListed o → ⊥) same u.1))

@@ -8,13 +8,14 @@ use Rattle.std.specs.Str.{bytes_eq}
 use Rattle.std.proofs.lemmas.List.{length-append, length-map}
 use Rattle.std.proofs.lemmas.Bool.{and_parts, leb-true, eqb-true}
 use Rattle.std.proofs.Math.Nat.{add_comm, mul-div_left, mul-mod_left, suc-mul}
-use Rattle.bpf_lists.specs.Keys.{Keyed, count}
+use Rattle.bpf_lists.specs.Keys.{count}
+use Rattle.bpf_lists.specs.declared.list.MapList.{MapList}
 use Rattle.bpf_note.specs.Keys.{IsKey, IsKind, size}
 use Rattle.bpf_note.specs.Shape.{IsShape, Shape, most_maps}
 use Rattle.bpf_note.specs.declared.key.Kind.{Kind}
 use Rattle.bpf_note.specs.declared.key.Kind.TheVariants.{Exact, Prefix}
 use Rattle.bpf_note.specs.declared.key.MapKey.{MapKey}
-use Rattle.bpf_note.specs.declared.key.MapKey.TheVariants.{Index, Listed}
+use Rattle.bpf_note.specs.declared.key.MapKey.TheVariants.{Index, Listed, Constants}
 use Rattle.toml.specs.Data.{Members}
 use Rattle.xdp_load.specs.Document.{MapText, Text, packet_row, reloc_row, step_row, unknown_key}
 use Rattle.xdp_load.specs.Gives.{each, in_key, in_row, or_else, or_refused, ◌>>=◌}
@@ -22,7 +23,7 @@ use Rattle.xdp_load.specs.Keys.{least, most}
 use Rattle.xdp_load.specs.Limits.{LimitedText, bad_name, limited_with}
 use Rattle.xdp_load.specs.Listed.{ListedView, ListedWritten, entries_key, known_keys, list_of, listed_limits, listed_limits_of, listed_limits_with, listed_of, listed_of_table, listed_rows_of, listed_setup_of, listed_setup_with, listed_shape, listed_written, lists_of, map_key, most_of, row_bytes}
 use Rattle.xdp_load.specs.ListedSound.{AreFitting, Fits, IsListedSound}
-use Rattle.xdp_load.specs.MapKeys.{KeyText, ListedText, are_rows, exact_of, index_of, is_row_of, limited_key, listed_row, prefix_of, truth_at}
+use Rattle.xdp_load.specs.MapKeys.{KeyText, ListedText, are_rows, constants_of, exact_of, index_of, is_row_of, limited_key, listed_row, prefix_of, truth_at}
 use Rattle.xdp_load.specs.Numbers.{limited, limited_numbers, numbers_of}
 use Rattle.xdp_load.specs.Setup.{Packet, bytes_in, bytes_of, decoded_of, document_of, names_of, relocated_setup, text_of}
 use Rattle.xdp_load.specs.Spot.{Refused, at, refused, row, unknown, whole}
@@ -45,17 +46,21 @@ exact_within z k e = bind_ok (limited key.KeySize z) _ k e (λ n here same. subs
 prefix_within : (z : ℤ) (k : MapKey) → prefix_of z ≡ Ok k → IsKey k
 prefix_within z k e = bind_ok (limited key.KeySize z) _ k e (λ n here same. subst IsKey (same_Ok _ _ same) (limited_within key.KeySize z n here))
 
--- one of three
-chosen : (a b c : Bool) (x y z : Result MapKey Key) (k : MapKey) → (x ≡ Ok k → IsKey k) → (y ≡ Ok k → IsKey k) → (z ≡ Ok k → IsKey k)
-    → cond a x (cond b y (cond c z (Err key.KeyKind))) ≡ Ok k → IsKey k
-chosen true b c x y z k f g h e = f e
-chosen false true c x y z k f g h e = g e
-chosen false false true x y z k f g h e = h e
-chosen false false false x y z k f g h e = absurd (cc)
+constants_within : (z : ℤ) (k : MapKey) → constants_of z ≡ Ok k → IsKey k
+constants_within z k e = bind_ok (limited key.ConstantSize z) _ k e (λ n here same. subst IsKey (same_Ok _ _ same) (limited_within key.ConstantSize z n here).1)
+
+-- one of four
+chosen : (a b c d : Bool) (x y z w : Result MapKey Key) (k : MapKey) → (x ≡ Ok k → IsKey k) → (y ≡ Ok k → IsKey k) → (z ≡ Ok k → IsKey k) → (w ≡ Ok k → IsKey k)
+    → cond a x (cond b y (cond c z (cond d w (Err key.KeyKind)))) ≡ Ok k → IsKey k
+chosen true b c d x y z w k f g h i e = f e
+chosen false true c d x y z w k f g h i e = g e
+chosen false false true d x y z w k f g h i e = h e
+chosen false false false true x y z w k f g h i e = i e
+chosen false false false false x y z w k f g h i e = absurd (cc)
 
 key_within : (t : KeyText) (k : MapKey) → limited_key t ≡ Ok k → IsKey k
-key_within t k e = chosen (bytes_eq t.kind (codes "index")) (bytes_eq t.kind (codes "exact")) (bytes_eq t.kind (codes "prefix"))
-    (index_of t.size) (exact_of t.size) (prefix_of t.size) k (index_within t.size k) (exact_within t.size k) (prefix_within t.size k) e
+key_within t k e = chosen (bytes_eq t.kind (codes "index")) (bytes_eq t.kind (codes "exact")) (bytes_eq t.kind (codes "prefix")) (bytes_eq t.kind (codes "constants"))
+    (index_of t.size) (exact_of t.size) (prefix_of t.size) (constants_of t.size) k (index_within t.size k) (exact_within t.size k) (prefix_within t.size k) (constants_within t.size k) e
 
 entries_most : (wide : Bool) (n : ℕ) → (least (entries_key wide) ≤ n) × (n ≤ most (entries_key wide)) → (1 ≤ n) × (n ≤ 65536)
 entries_most true n h = h
@@ -131,7 +136,10 @@ size_some : (kind : Kind) → IsKind kind → 0 < size kind
 size_some (Exact bytes) h = h.0
 size_some (Prefix bytes) h = omega arith
 
-list_fits : (s : Shape) (n : ℕ) (rows : List Text) (l : Option Keyed) → IsKey s.key → are_rows s.key s.entries rows ≡ true → list_of n s.key rows ≡ Ok l → Fits s l
+one_times : (z m : ℕ) → m ≡ 1 → m * z ≡ z
+one_times z m e = rw e (omega arith)
+
+list_fits : (s : Shape) (n : ℕ) (rows : List Text) (l : Option MapList) → IsKey s.key → are_rows s.key s.entries rows ≡ true → list_of n s.key rows ≡ Ok l → Fits s l
 list_fits s n rows l good held e = go s.key refl good held e
   where
     go : (k : MapKey) → s.key ≡ k → IsKey k → are_rows k s.entries rows ≡ true → list_of n k rows ≡ Ok l → Fits s l
@@ -146,8 +154,12 @@ list_fits s n rows l good held e = go s.key refl good held e
           rw count (mul-mod_left (length rows) (size kind)),
           rw (count, mul-div_left (length rows) some) most,
         ))
+    go (Constants size) is g h e = bind_ok (row_bytes n rows) _ l e (λ bytes here same.
+        let (one, long) = and_parts _ _ h in
+        let count : length bytes ≡ size = rows_long size n rows bytes long here ∙ one_times size (length rows) (eqb-true _ _ one) in
+        subst (Fits s) (same_Ok _ _ same) (is ∙ ap Constants (sym count)))
 
-lists_fit : (n : ℕ) (ss : List Shape) (ms : List ListedText) (ls : List (Option Keyed)) → AreWithin ss ms → lists_of n ss ms ≡ Ok ls → AreFitting ss ls
+lists_fit : (n : ℕ) (ss : List Shape) (ms : List ListedText) (ls : List (Option MapList)) → AreWithin ss ms → lists_of n ss ms ≡ Ok ls → AreFitting ss ls
 lists_fit n [] ms ls a e = subst (AreFitting []) (same_Ok _ _ e) tt
 lists_fit n (s ∷ ss) [] ls a e = absurd a
 lists_fit n (s ∷ ss) (m ∷ ms) ls a e =

@@ -10,7 +10,7 @@ use Rattle.std.specs.declared.cmp.Ordering.TheVariants.{Less, Equal, Greater}
 use Rattle.std.proofs.lemmas.Cmp.{nat_list_eq_equiv}
 use Rattle.std.proofs.lemmas.List.Folds.{list_any-append}
 use Rattle.std.proofs.lemmas.Map.Text.{is_eq-slice_cmp}
-use Rattle.bpf_lists.specs.Keys.{Keyed}
+use Rattle.bpf_lists.specs.declared.list.MapList.{MapList}
 use Rattle.bpf_note.specs.Shape.{IsNarrow, Shape}
 use Rattle.toml.specs.Data.{Data, Members, member, no_members, string, integer, float, boolean, datetime, array, table}
 use Rattle.xdp_load.specs.Document.{MapText, Text, found, has_only, map_keys, map_of_fields, map_of_table, map_row, rows, unknown_key, values_at}
@@ -174,7 +174,7 @@ limits_plain w = go (in_key fault.Limit (limited_numbers w.numbers))
 
 -- ---- the whole
 
-no_list : Shape → Option Keyed
+no_list : Shape → Option MapList
 no_list s = None
 
 lists_plain : (n : ℕ) (ss : List Shape) (ms : List MapText) → length ss ≡ length ms → AllByRecursion IsNarrow ss → lists_of n ss (map plain_text ms) ≡ Ok (map (λ _. None) ss)

@@ -4,7 +4,7 @@ use Rattle.std.specs.Prelude.{ℕ, ℤ, pos, List, [], ◌∷◌, Option, Some, 
 use Rattle.xdp_load.specs.declared.key.Key.{Key}
 use Rattle.xdp_load.specs.declared.key.Key.TheVariants.{Program, Queues, IfIndex, Start, Map, Name, Entries, Counters, Reloc, Slot}
 use Rattle.xdp_load.specs.declared.key.Key.TheVariants.{OfMap, Step, StepQueue, Answer, Packet, PacketQueue, Bytes, Times, Original}
-use Rattle.xdp_load.specs.declared.key.Key.TheVariants.{Place, Wide, WideMap, WideEntries, KeyKind, KeySize, Rows}
+use Rattle.xdp_load.specs.declared.key.Key.TheVariants.{Place, Wide, WideMap, WideEntries, KeyKind, KeySize, ConstantSize, Rows}
 
 -- the key of the document that it is, or that holds the rows in which it is
 abbrev pub list_name : Key → List ℕ
@@ -33,6 +33,7 @@ list_name WideMap = codes "map"
 list_name WideEntries = codes "map"
 list_name KeyKind = codes "map"
 list_name KeySize = codes "map"
+list_name ConstantSize = codes "map"
 list_name Rows = codes "map"
 
 -- the key within a row, or the part of a step
@@ -50,6 +51,7 @@ part_name Times = Some (codes "times")
 part_name WideEntries = Some (codes "entries")
 part_name KeyKind = Some (codes "key")
 part_name KeySize = Some (codes "size")
+part_name ConstantSize = Some (codes "size")
 part_name Rows = Some (codes "rows")
 part_name _ = None
 
@@ -73,6 +75,7 @@ least Counters = 1
 least Times = 1
 least WideEntries = 1
 least KeySize = 1
+least ConstantSize = 1
 least _ = 0
 
 abbrev pub most : Key → ℕ
@@ -82,6 +85,7 @@ most Counters = 8
 most Times = 100000
 most WideEntries = 65536
 most KeySize = 64
+most ConstantSize = 65536
 most _ = most_word
 
 -- the number where there is no such key, if it may be left out
@@ -118,6 +122,7 @@ allowed Place = codes "places, each of a whole number, 0 to 4294967295, and true
 allowed Wide = codes "true or false"
 allowed WideMap = codes "at most 16 tables, each with name, entries and, optionally, counters, key, size and rows"
 allowed WideEntries = codes "a whole number, 1 to 65536 (required)"
-allowed KeyKind = codes "index, exact or prefix"
+allowed KeyKind = codes "index, exact, prefix or constants"
 allowed KeySize = codes "a whole number, 1 to 64; of an index 4"
-allowed Rows = codes "hex texts, each a key of the map, none twice, at most as many as entries; of an index none"
+allowed ConstantSize = codes "a whole number, 1 to 65536"
+allowed Rows = codes "hex texts, each a key of the map, none twice, at most as many as entries; of an index none; of constants one, their bytes"

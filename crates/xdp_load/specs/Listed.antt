@@ -6,9 +6,11 @@ use Rattle.std.specs.Prelude.{Result, Ok, Err, if◌then◌else◌}
 use Rattle.std.specs.Option.{option_map_or}
 use Rattle.bpf_lists.specs.Keys.{Keyed}
 use Rattle.bpf_lists.specs.Refusals.{AreListed}
+use Rattle.bpf_lists.specs.declared.list.MapList.{MapList}
+use Rattle.bpf_lists.specs.declared.list.MapList.TheVariants as given
 use Rattle.bpf_note.specs.Shape.{Shape, most_maps}
 use Rattle.bpf_note.specs.declared.key.MapKey.{MapKey}
-use Rattle.bpf_note.specs.declared.key.MapKey.TheVariants.{Index, Listed}
+use Rattle.bpf_note.specs.declared.key.MapKey.TheVariants.{Index, Listed, Constants}
 use Rattle.toml.specs.Data.{Members}
 use Rattle.xdp_load.specs.Document.{Text, unknown_key}
 use Rattle.xdp_load.specs.Gives.{each, in_key, or_refused, ◌>>=◌}
@@ -84,22 +86,23 @@ abbrev pub row_bytes : ℕ → List Text → Result (List ℕ) Refused
 row_bytes n [] = Ok []
 row_bytes n (t ∷ ts) = bytes_in key.Rows n t >>= (λ bytes. row_bytes n ts >>= (λ rest. Ok (bytes ++ rest)))
 
--- the list of map n, if it has one
-abbrev pub list_of : ℕ → MapKey → List Text → Result (Option Keyed) Refused
+-- the list of map n, or its constants, if it has some
+abbrev pub list_of : ℕ → MapKey → List Text → Result (Option MapList) Refused
 list_of n Index rows = Ok None
-list_of n (Listed kind) rows = row_bytes n rows >>= (λ keys. Ok (Some (record { kind = kind; keys = keys })))
+list_of n (Listed kind) rows = row_bytes n rows >>= (λ keys. Ok (Some (given.Rows (record { kind = kind; keys = keys }))))
+list_of n (Constants size) rows = row_bytes n rows >>= (λ bytes. Ok (Some (given.Constants bytes)))
 
 -- those of some maps of these shapes, numbered from n on
-abbrev pub lists_of : ℕ → List Shape → List ListedText → Result (List (Option Keyed)) Refused
+abbrev pub lists_of : ℕ → List Shape → List ListedText → Result (List (Option MapList)) Refused
 lists_of n (s ∷ ss) (m ∷ ms) = list_of n s.key m.key.rows >>= (λ l. lists_of (suc n) ss ms >>= (λ ls. Ok (l ∷ ls)))
 lists_of n ss ms = Ok []
 
 -- ---- the whole
 
--- a setup, and for each of its maps the list of its keys, if it has one: row k is the key of value k
+-- a setup, and for each of its maps the list of its keys, if it has one, where row k is the key of value k; or its constants
 pub record ListedView : Type 0 where
   pub setup : SetupView
-  pub lists : List (Option Keyed)
+  pub lists : List (Option MapList)
 
 unfoldable pub listed_setup_with : ListedWritten → LimitedText → List ℕ × List Packet → Result ListedView Refused
 listed_setup_with x l d = do
@@ -127,14 +130,14 @@ listed_of bytes = do
 -- ---- the rows of lists
 
 -- the lists of the first n maps are such as maps can have
-abbrev pub AreListedBelow : List (Option Keyed) → ℕ → Type 0
-AreListedBelow lists n = (k : ℕ) (list : Keyed) → k < n → slice_get lists k ≡ Some (Some list) → AreListed list.kind list.keys
+abbrev pub AreListedBelow : List (Option MapList) → ℕ → Type 0
+AreListedBelow lists n = (k : ℕ) (rows : Keyed) → k < n → slice_get lists k ≡ Some (Some (given.Rows rows)) → AreListed rows.kind rows.keys
 
 -- map n is the first whose list is none that a map can have
-pub record IsFirstUnlisted (lists : List (Option Keyed)) (n : ℕ) : Type 0 where
-  pub list : Keyed
-  pub there : slice_get lists n ≡ Some (Some list)
-  pub unlisted : AreListed list.kind list.keys → ⊥
+pub record IsFirstUnlisted (lists : List (Option MapList)) (n : ℕ) : Type 0 where
+  pub rows : Keyed
+  pub there : slice_get lists n ≡ Some (Some (given.Rows rows))
+  pub unlisted : AreListed rows.kind rows.keys → ⊥
   pub before : AreListedBelow lists n
 
 -- all else is right, and this is the first map whose list isn't

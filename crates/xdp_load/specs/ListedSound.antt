@@ -2,21 +2,24 @@
 -- What holds of each setup with lists.
 use Rattle.std.specs.Prelude.{◌≡◌, ◌<◌, ◌≤◌, List, [], ◌∷◌, Option, Some, None, length, true}
 use Rattle.std.specs.List.{AllByRecursion}
-use Rattle.bpf_lists.specs.Keys.{Keyed, count}
+use Rattle.bpf_lists.specs.Keys.{count}
 use Rattle.bpf_lists.specs.Refusals.{AreWhole}
+use Rattle.bpf_lists.specs.declared.list.MapList.{MapList}
+use Rattle.bpf_lists.specs.declared.list.MapList.TheVariants as given
 use Rattle.bpf_note.specs.Shape.{IsShape, Shape, most_maps}
-use Rattle.bpf_note.specs.declared.key.MapKey.TheVariants.{Index, Listed}
+use Rattle.bpf_note.specs.declared.key.MapKey.TheVariants.{Index, Listed, Constants}
 use Rattle.xdp_load.specs.Limits.{are_names}
 use Rattle.xdp_load.specs.Listed.{ListedView}
 use Rattle.xdp_load.specs.Sound.{IsPacket}
 
--- an array has no list; another map's is of its kind of keys, and each row has a value
-abbrev pub Fits : Shape → Option Keyed → Type 0
+-- an array has no list; another map's is of its kind of keys, and each row has a value; constants are as many as the map has
+abbrev pub Fits : Shape → Option MapList → Type 0
 Fits s None = s.key ≡ Index
-Fits s (Some list) = (s.key ≡ Listed list.kind) × AreWhole list.kind list.keys × (count list.kind list.keys ≤ s.entries)
+Fits s (Some (given.Rows rows)) = (s.key ≡ Listed rows.kind) × AreWhole rows.kind rows.keys × (count rows.kind rows.keys ≤ s.entries)
+Fits s (Some (given.Constants bytes)) = s.key ≡ Constants (length bytes)
 
 -- each map's list fits it
-abbrev pub AreFitting : List Shape → List (Option Keyed) → Type 0
+abbrev pub AreFitting : List Shape → List (Option MapList) → Type 0
 AreFitting [] [] = Unit {0}
 AreFitting [] (l ∷ ls) = ⊥
 AreFitting (s ∷ ss) [] = ⊥

@@ -1,5 +1,5 @@
 -- Stated: claims rest on this file.
--- By what the values of a map are looked up, as settings write it.
+-- By what the values of a map are looked up, or that it is one of constants, as settings write it.
 use Rattle.std.specs.Prelude.{ℕ, ℤ, pos, Bool, false, not, List, [], ◌∷◌, Option, Some, None, Result, Ok, Err, codes, is_none, length, map, nat_le}
 use Rattle.std.specs.Prelude.{option_and_then, unwrap_or, ◌++◌, ◌&&◌, ◌==◌, ◌/◌, if◌then◌else◌}
 use Rattle.std.specs.List.{list_any}
@@ -9,7 +9,7 @@ use Rattle.std.specs.Str.{bytes_eq}
 use Rattle.bpf_note.specs.Keys.{size}
 use Rattle.bpf_note.specs.declared.key.Kind.TheVariants.{Exact, Prefix}
 use Rattle.bpf_note.specs.declared.key.MapKey.{MapKey}
-use Rattle.bpf_note.specs.declared.key.MapKey.TheVariants.{Index, Listed}
+use Rattle.bpf_note.specs.declared.key.MapKey.TheVariants.{Index, Listed, Constants}
 use Rattle.toml.specs.Data.{Data, Members, as_bool, as_str, as_table}
 use Rattle.xdp_load.specs.Document.{Text, MapText, found, has_only, map_keys, map_of_fields, number_at, values_at}
 use Rattle.xdp_load.specs.Gives.{or_else, ◌>>=◌}
@@ -42,7 +42,7 @@ texts_of ds = if list_any is_no_text ds then None else Some (map text_in ds)
 abbrev pub texts_at : Key → Members → Result (List Text) Key
 texts_at k ms = or_else k (option_and_then texts_of (values_at k ms))
 
--- the kind of a map's keys, their bytes of data, and its list of keys
+-- the kind of a map's keys, their bytes of data, and its list of keys; or how many constants, and their bytes
 pub record KeyText : Type 0 where
   pub kind : Text
   pub size : ℤ
@@ -87,18 +87,24 @@ exact_of z = limited key.KeySize z >>= (λ n. Ok (Listed (Exact n)))
 abbrev pub prefix_of : ℤ → Result MapKey Key
 prefix_of z = limited key.KeySize z >>= (λ n. Ok (Listed (Prefix n)))
 
+-- constants are so many bytes
+abbrev pub constants_of : ℤ → Result MapKey Key
+constants_of z = limited key.ConstantSize z >>= (λ n. Ok (Constants n))
+
 -- the key that is written
 abbrev pub limited_key : KeyText → Result MapKey Key
 limited_key k =
     if bytes_eq k.kind (codes "index") then index_of k.size else
     if bytes_eq k.kind (codes "exact") then exact_of k.size else
-    if bytes_eq k.kind (codes "prefix") then prefix_of k.size else Err key.KeyKind
+    if bytes_eq k.kind (codes "prefix") then prefix_of k.size else
+    if bytes_eq k.kind (codes "constants") then constants_of k.size else Err key.KeyKind
 
 -- a row's text has the length of a key, at two digits a byte, an odd digit not counted
 abbrev pub is_row_of : ℕ → Text → Bool
 is_row_of n t = length t / 2 == n
 
--- an array has no rows; of a list there are at most as many as values, each of the length of a key
+-- an array has no rows; of a list there are at most as many as values, each of the length of a key; constants are one row
 abbrev pub are_rows : MapKey → ℕ → List Text → Bool
 are_rows Index entries rows = length rows == 0
 are_rows (Listed kind) entries rows = nat_le (length rows) entries && not (list_any (λ t. not (is_row_of (size kind) t)) rows)
+are_rows (Constants bytes) entries rows = (length rows == 1) && not (list_any (λ t. not (is_row_of bytes t)) rows)

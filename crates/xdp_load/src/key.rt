@@ -3,7 +3,7 @@ ghost use Rattle.std.specs.Prelude.{◌≡◌, option_map};
 ghost use Rattle.xdp_load.specs.Keys.{allowed, least, list_name, missing, most, name, part_name};
 
 /// A key of the settings. `Map`, `WideMap`, `Reloc`, `Step`, `Packet` and `Place` are a list, or one of its rows, as a whole.
-/// `WideMap` and `WideEntries` are `map` and its `entries` where wider limits are asked for.
+/// `WideMap` and `WideEntries` are `map` and its `entries` where wider limits are asked for, `ConstantSize` is its `size` of constants.
 #[derive(Clone, Copy, Debug, PartialEq, Eq)]
 pub enum Key {
     Program,
@@ -31,6 +31,7 @@ pub enum Key {
     WideEntries,
     KeyKind,
     KeySize,
+    ConstantSize,
     Rows,
 }
 
@@ -46,7 +47,7 @@ impl Key {
             Key::Start => "start",
             Key::Map | Key::WideMap | Key::Name | Key::Entries | Key::WideEntries | Key::Counters =>
                 "map",
-            Key::KeyKind | Key::KeySize | Key::Rows => "map",
+            Key::KeyKind | Key::KeySize | Key::ConstantSize | Key::Rows => "map",
             Key::Reloc | Key::Slot | Key::OfMap => "reloc",
             Key::Step | Key::StepQueue | Key::Answer => "script",
             Key::Packet | Key::PacketQueue | Key::Bytes | Key::Times => "packet",
@@ -71,7 +72,7 @@ impl Key {
             Key::Bytes => Some("bytes"),
             Key::Times => Some("times"),
             Key::KeyKind => Some("key"),
-            Key::KeySize => Some("size"),
+            Key::KeySize | Key::ConstantSize => Some("size"),
             Key::Rows => Some("rows"),
             _ => None,
         }
@@ -93,7 +94,7 @@ impl Key {
     {
         match self {
             Key::Queues | Key::Entries | Key::Counters | Key::Times => 1,
-            Key::WideEntries | Key::KeySize => 1,
+            Key::WideEntries | Key::KeySize | Key::ConstantSize => 1,
             _ => 0,
         }
     }
@@ -106,7 +107,7 @@ impl Key {
             Key::Queues | Key::Counters => 8,
             Key::Entries => 1024,
             Key::Times => 100_000,
-            Key::WideEntries => 65_536,
+            Key::WideEntries | Key::ConstantSize => 65_536,
             Key::KeySize => 64,
             _ => u32::MAX,
         }
@@ -152,10 +153,11 @@ impl Key {
             Key::WideMap =>
                 "at most 16 tables, each with name, entries and, optionally, counters, key, size and rows",
             Key::WideEntries => "a whole number, 1 to 65536 (required)",
-            Key::KeyKind => "index, exact or prefix",
+            Key::KeyKind => "index, exact, prefix or constants",
             Key::KeySize => "a whole number, 1 to 64; of an index 4",
+            Key::ConstantSize => "a whole number, 1 to 65536",
             Key::Rows =>
-                "hex texts, each a key of the map, none twice, at most as many as entries; of an index none",
+                "hex texts, each a key of the map, none twice, at most as many as entries; of an index none; of constants one, their bytes",
         }
     }
 }

@@ -8,7 +8,7 @@ ghost use Rattle.xdp_load.specs.Gives.{Gives, each};
 ghost use Rattle.xdp_load.specs.Listed.{entries_key, listed_limits, listed_limits_of, listed_limits_with, listed_shape, map_key, most_of};
 ghost use Rattle.xdp_load.specs.ListedSeen.{key_seen, listed_seen, listed_written_seen, row_texts};
 ghost use Rattle.xdp_load.specs.LimitsSeen.{limited_seen};
-ghost use Rattle.xdp_load.specs.MapKeys.{are_rows, exact_of, index_of, is_row_of, limited_key, prefix_of, text_in};
+ghost use Rattle.xdp_load.specs.MapKeys.{are_rows, constants_of, exact_of, index_of, is_row_of, limited_key, prefix_of, text_in};
 ghost use Rattle.xdp_load.specs.Numbers.{limited};
 ghost use Rattle.xdp_load.specs.declared.fault.Fault.TheVariants.{Limit};
 
@@ -53,6 +53,15 @@ fn prefix_of(size: i64) -> Result<MapKey, Key>
     Ok(MapKey::Listed(Kind::Prefix(size as u8)))
 }
 
+/// Constants of so many bytes.
+fn constants_of(size: i64) -> Result<MapKey, Key>
+    ensures value { result ≡ constants_of size }
+    ensures key { IfOk result IsKey }
+{
+    let size = limited(Key::ConstantSize, size)?;
+    Ok(MapKey::Constants(size))
+}
+
 /// The key that is written.
 fn limited_key(row: &KeyRow<'_>) -> Result<MapKey, Key>
     ensures value { result ≡ limited_key (key_seen row.now) }
@@ -66,6 +75,9 @@ fn limited_key(row: &KeyRow<'_>) -> Result<MapKey, Key>
     }
     if row.kind == "prefix" {
         return prefix_of(row.size);
+    }
+    if row.kind == "constants" {
+        return constants_of(row.size);
     }
     Err(Key::KeyKind)
 }
@@ -93,6 +105,7 @@ fn are_rows(key: MapKey, entries: u32, rows: &[Value]) -> bool
         MapKey::Index => rows.len() == 0,
         MapKey::Listed(kind) => rows.len() <= entries as usize
             && !has_other_length(kind.size(), rows),
+        MapKey::Constants(bytes) => rows.len() == 1 && !has_other_length(bytes as usize, rows),
     }
 }
 

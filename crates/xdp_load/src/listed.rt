@@ -23,7 +23,7 @@ use crate::names::bad_name;
 use crate::packets::Packet;
 use crate::setup::{Setup, decoded_of, document_of, relocated_setup, text_of};
 use crate::spot::Spot;
-use bpf_lists::KeyedRows;
+use bpf_lists::MapList;
 use std::alloc::Global;
 use toml::Table;
 
@@ -91,11 +91,12 @@ fn listed_setup(alloc: Global, bytes: &[u8]) -> Result<Unsorted, LoadError>
     listed_of_table(alloc, &table)
 }
 
-/// The setup of settings whose maps may have lists, and for each map its list, if it has one: row `k` is the key of value `k`.
+/// The setup of settings whose maps may have lists, and for each map its list, if it has one, where row `k` is the key of value `k`;
+/// or its constants.
 #[derive(Drop)]
 pub struct Listed {
     pub setup: Setup,
-    pub lists: Vec<Option<KeyedRows>>,
+    pub lists: Vec<Option<MapList>>,
 }
 
 /// The setup of a settings text whose maps may have lists and wider limits, or its first fault in the order of [`Fault`] over the

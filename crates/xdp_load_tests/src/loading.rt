@@ -1,6 +1,7 @@
 //! What settings give, as plain values.
 ghost use Rattle.std.specs.Prelude.{◌≤◌, length};
 
+use bpf_lists::MapList;
 use std::alloc::Global;
 use xdp_load::{
     Fault, Listed, LoadError, Part, Place, Setup, Spot, load, load_listed, load_rewritten,
@@ -184,7 +185,10 @@ pub fn gives_listed_maps(alloc: Global, text: &str, maps: &[(&str, u32, u32)]) -
 
 /// The row that a key, as a hexadecimal text, finds in the list of a map, if there is one.
 fn row_in(alloc: Global, listed: &Listed, number: usize, key: &str) -> Option<u32> {
-    let rows = listed.lists.as_slice().get(number)?.as_ref()?;
+    let rows = match listed.lists.as_slice().get(number)?.as_ref()? {
+        MapList::Rows(rows) => rows,
+        MapList::Constants(_) => return None,
+    };
     let key = hex::decode(alloc, key).ok()?;
     if key.len() != rows.kind().size() {
         return None;
@@ -196,6 +200,15 @@ fn row_in(alloc: Global, listed: &Listed, number: usize, key: &str) -> Option<u3
 pub fn found_row(alloc: Global, text: &str, number: usize, key: &str) -> Option<u32> {
     let listed = load_listed(alloc, text.as_bytes()).ok()?;
     row_in(alloc, &listed, number, key)
+}
+
+/// The byte of constants at a place of a map of settings, if there is one.
+pub fn constant_at(alloc: Global, text: &str, number: usize, place: usize) -> Option<u8> {
+    let listed = load_listed(alloc, text.as_bytes()).ok()?;
+    match listed.lists.as_slice().get(number)?.as_ref()? {
+        MapList::Rows(_) => None,
+        MapList::Constants(bytes) => bytes.as_slice().get(place).copied(),
+    }
 }
 
 /// How many maps of settings have a list.

@@ -5,7 +5,7 @@ use Rattle.std.proofs.lemmas.List.{length-replicate}
 use Rattle.bpf_insn.specs.declared.insn.Insn.{Insn}
 use Rattle.bpf_flow.specs.Step.{Outcome, Next, Loads, Adds, Exited, Fault, step, LeadsTo}
 use Rattle.bpf_lists.specs.Find.{find_in}
-use Rattle.bpf_lists.specs.Keys.{Keyed}
+use Rattle.bpf_lists.specs.declared.list.MapList.{MapList}
 use Rattle.bpf_note.specs.State.{State, IsStart}
 use Rattle.bpf_note.specs.Shape.{Shape}
 use Rattle.bpf_note.specs.declared.op.Op.{Op}
@@ -20,7 +20,7 @@ use Rattle.xdp_program.specs.Ran.{IsHistory, Ran, RanCounting, operations}
 use Rattle.xdp_program.specs.Tallies.{Went}
 
 -- what has been run of a run: the labels so far before whatever follows, what they made of the counters, and where each start stands
-pub record Sofar {C : Type 0} (did : Op → C → C → Type 0) (p : Accepted) (lists : List (Option Keyed)) (packet : List ℕ) (ifindex queue : ℕ) (first : C) (v : Running) (tally : C) (ops : ℕ) : Type 0 where
+pub record Sofar {C : Type 0} (did : Op → C → C → Type 0) (p : Accepted) (lists : List (Option MapList)) (packet : List ℕ) (ifindex queue : ℕ) (first : C) (v : Running) (tally : C) (ops : ℕ) : Type 0 where
   pub program : v.program ≡ p
   pub grown : List (Option Op) → List (Option Op)
   pub counted : (rest : List (Option Op)) → length (grown rest) ≡ v.count + length rest
@@ -50,7 +50,7 @@ nones_walk code _ r0 bytes rest _ _ (stays s) w = w
 nones_walk code _ r0 bytes rest _ _ (steps n s t u h l) w = nones_walk code n r0 bytes (None ∷ rest) s t h (goes t u None rest l w)
 
 -- steps that read no counter
-pub sofar_advanced : {C : Type 0} (did : Op → C → C → Type 0) (p : Accepted) (lists : List (Option Keyed)) (packet : List ℕ) (ifindex queue : ℕ) (first : C) (v w : Running) (tally : C) (ops : ℕ) → Sofar did p lists packet ifindex queue first v tally ops → Advanced v w → Sofar did p lists packet ifindex queue first w tally ops
+pub sofar_advanced : {C : Type 0} (did : Op → C → C → Type 0) (p : Accepted) (lists : List (Option MapList)) (packet : List ℕ) (ifindex queue : ℕ) (first : C) (v w : Running) (tally : C) (ops : ℕ) → Sofar did p lists packet ifindex queue first v tally ops → Advanced v w → Sofar did p lists packet ifindex queue first w tally ops
 sofar_advanced did p lists packet ifindex queue first v w tally ops so a = record {
   program = a.program ∙ so.program;
   grown = λ rest. so.grown (nones a.done rest);
@@ -65,7 +65,7 @@ sofar_advanced did p lists packet ifindex queue first v w tally ops so a = recor
 }
 
 -- one more step, with an operation that takes the counters to others
-pub sofar_step : {C : Type 0} (did : Op → C → C → Type 0) (p : Accepted) (lists : List (Option Keyed)) (packet : List ℕ) (ifindex queue : ℕ) (first : C) (v w : Running) (tally more : C) (ops : ℕ) (op : Op) → Sofar did p lists packet ifindex queue first v tally ops → IsStep (Some op) v w → did op tally more →
+pub sofar_step : {C : Type 0} (did : Op → C → C → Type 0) (p : Accepted) (lists : List (Option MapList)) (packet : List ℕ) (ifindex queue : ℕ) (first : C) (v w : Running) (tally more : C) (ops : ℕ) (op : Op) → Sofar did p lists packet ifindex queue first v tally ops → IsStep (Some op) v w → did op tally more →
     Sofar did p lists packet ifindex queue first w more (ops + 1)
 sofar_step did p lists packet ifindex queue first v w tally more ops op so st h = record {
   program = st.program ∙ so.program;
@@ -95,7 +95,7 @@ add_label (Exited y) m k j d x h = absurd h
 add_label Fault m k j d x h = absurd h
 
 -- the end
-pub ran_of : {C : Type 0} (did : Op → C → C → Type 0) (p : Accepted) (lists : List (Option Keyed)) (packet : List ℕ) (ifindex queue : ℕ) (first : C) (v : Running) (tally : C) (number count : ℕ) (bytes : List ℕ) (ops : ℕ) → Sofar did p lists packet ifindex queue first v tally ops →
+pub ran_of : {C : Type 0} (did : Op → C → C → Type 0) (p : Accepted) (lists : List (Option MapList)) (packet : List ℕ) (ifindex queue : ℕ) (first : C) (v : Running) (tally : C) (number count : ℕ) (bytes : List ℕ) (ops : ℕ) → Sofar did p lists packet ifindex queue first v tally ops →
     ((s : State) → Stands v s → (r0 : ℕ) × (step v.program.code s ≡ Exited r0) × (number ≡ r0 % 2 ^ 32) × (bytes ≡ s.packet)) → count ≡ v.count + 1 → RanCounting (Went did first tally) p lists packet ifindex queue number bytes count ops
 ran_of did p lists packet ifindex queue first v tally number count bytes ops so f n = record {
   labels = so.grown (None ∷ []);
@@ -109,12 +109,12 @@ ran_of did p lists packet ifindex queue first v tally number count bytes ops so 
       (k.0, k.2, g.2 k.0 bytes (None ∷ []) (ends g.0 ended (sym k.3)));
 }
 
-pub sofar_load : {C : Type 0} (did : Op → C → C → Type 0) (p : Accepted) (lists : List (Option Keyed)) (packet : List ℕ) (ifindex queue : ℕ) (first : C) (v w : Running) (tally more : C) (ops m k j x : ℕ) → Sofar did p lists packet ifindex queue first v tally ops → IsLoadOf m k j (now v) →
+pub sofar_load : {C : Type 0} (did : Op → C → C → Type 0) (p : Accepted) (lists : List (Option MapList)) (packet : List ℕ) (ifindex queue : ℕ) (first : C) (v w : Running) (tally more : C) (ops m k j x : ℕ) → Sofar did p lists packet ifindex queue first v tally ops → IsLoadOf m k j (now v) →
     IsStep (label_of (now v) x) v w → did (Load m k j x) tally more → Sofar did p lists packet ifindex queue first w more (ops + 1)
 sofar_load did p lists packet ifindex queue first v w tally more ops m k j x so load st h =
     sofar_step did p lists packet ifindex queue first v w tally more ops (Load m k j x) so (subst (λ (l : Option Op). IsStep l v w) (load_label (now v) m k j x load) st) h
 
-pub sofar_add : {C : Type 0} (did : Op → C → C → Type 0) (p : Accepted) (lists : List (Option Keyed)) (packet : List ℕ) (ifindex queue : ℕ) (first : C) (v w : Running) (tally more : C) (ops m k j d x : ℕ) → Sofar did p lists packet ifindex queue first v tally ops → IsAddOf m k j d (now v) →
+pub sofar_add : {C : Type 0} (did : Op → C → C → Type 0) (p : Accepted) (lists : List (Option MapList)) (packet : List ℕ) (ifindex queue : ℕ) (first : C) (v w : Running) (tally more : C) (ops m k j d x : ℕ) → Sofar did p lists packet ifindex queue first v tally ops → IsAddOf m k j d (now v) →
     IsStep (label_of (now v) x) v w → did (Add m k j d x) tally more → Sofar did p lists packet ifindex queue first w more (ops + 1)
 sofar_add did p lists packet ifindex queue first v w tally more ops m k j d x so add st h =
     sofar_step did p lists packet ifindex queue first v w tally more ops (Add m k j d x) so (subst (λ (l : Option Op). IsStep l v w) (add_label (now v) m k j d x add) st) h
@@ -124,7 +124,7 @@ none_history zero shapes words = refl
 none_history (suc n) shapes words = none_history n shapes words
 
 -- a run without maps changes no word
-pub ran_alone : (p : Accepted) (lists : List (Option Keyed)) (packet : List ℕ) (ifindex queue : ℕ) (words : List ℕ) (number count : ℕ) (bytes : List ℕ) → p.shapes ≡ [] → IsRunOf p.code packet ifindex queue number bytes count →
+pub ran_alone : (p : Accepted) (lists : List (Option MapList)) (packet : List ℕ) (ifindex queue : ℕ) (words : List ℕ) (number count : ℕ) (bytes : List ℕ) → p.shapes ≡ [] → IsRunOf p.code packet ifindex queue number bytes count →
     Ran p lists packet ifindex queue words number bytes words count
 ran_alone p lists packet ifindex queue words number count bytes e run = record {
   labels = replicate count None;

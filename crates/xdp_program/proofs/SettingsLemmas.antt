@@ -5,7 +5,8 @@ use Rattle.std.proofs.lemmas.Option.{slice_get_within}
 use Rattle.bpf_insn.specs.Code.{Spells}
 use Rattle.bpf_insn.specs.declared.insn.Insn.{Insn}
 use Rattle.bpf_insn.proofs.UniqueLemmas.{one_code}
-use Rattle.bpf_lists.specs.Keys.{Keyed}
+use Rattle.bpf_lists.specs.declared.list.MapList.{MapList}
+use Rattle.bpf_lists.specs.declared.list.MapList.TheVariants.{Rows}
 use Rattle.bpf_note.specs.Shape.{most_maps}
 use Rattle.bpf_verify.specs.Consistent.{Accepted}
 use Rattle.bpf_verify.specs.FirstRefusal.{IsFaultless}
@@ -43,7 +44,7 @@ no_rows_fault : (x : ListedView) (r : Result ListedView Refused) (f : Refused) �
 no_rows_fault x r f e all h =
     let same : h.0 ≡ x = one_setup h.0 x r h.2 e in
     let first : IsFirstUnlisted x.lists h.1 = subst (λ (y : ListedView). IsFirstUnlisted y.lists h.1) same h.4 in
-    first.unlisted (all h.1 first.list (slice_get_within x.lists h.1 (Some first.list) first.there) first.there)
+    first.unlisted (all h.1 first.rows (slice_get_within x.lists h.1 (Some (Rows first.rows)) first.there) first.there)
 
 no_first_fault : (bytes : List ℕ) (x : ListedView) (r : Refused) → IsSetupOf bytes x → IsFirstFault bytes r → ⊥
 no_first_fault bytes x r is (inl e) = setup_or_fault x r (listed_of bytes) is.0 e
@@ -71,7 +72,7 @@ settings_accepted of law (Err f) bytes program h x code is spells fine = fault_o
 
 -- ---- lists
 
-pub relist_accepted : (r : Result (List (Option Keyed)) RelistFault) (bytes : List ℕ) (p : Accepted) → IfOk r (IsRelisted bytes p) → IfErr r (IsRelistFault bytes p) →
+pub relist_accepted : (r : Result (List (Option MapList)) RelistFault) (bytes : List ℕ) (p : Accepted) → IfOk r (IsRelisted bytes p) → IfErr r (IsRelistFault bytes p) →
     (x : ListedView) → IsSetupOf bytes x → IsSetupFor p x.setup → MatchResult r (λ l. l ≡ x.lists) (λ f. f ≡ relist_out_of_memory)
 relist_accepted (Ok l) bytes p h refused x is mine =
     let same : h.0 ≡ x = one_setup h.0 x (listed_of bytes) h.1.0 is.0 in

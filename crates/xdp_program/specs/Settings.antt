@@ -2,7 +2,7 @@
 -- What becomes of a settings text: its setup with the lists of its maps, its program, and its lists for a program.
 use Rattle.std.specs.Prelude.{ℕ, ◌≡◌, ◌≤◌, ◌⊎◌, List, Option, Ok, Err, length}
 use Rattle.bpf_insn.specs.Code.{Spells}
-use Rattle.bpf_lists.specs.Keys.{Keyed}
+use Rattle.bpf_lists.specs.declared.list.MapList.{MapList}
 use Rattle.bpf_note.specs.Shape.{most_maps}
 use Rattle.bpf_verify.specs.Consistent.{Accepted}
 use Rattle.bpf_verify.specs.FirstRefusal.{IsFaultless}
@@ -42,7 +42,7 @@ abbrev pub AreNamesOf : List ℕ → List (List ℕ) → Type 0
 AreNamesOf text names = (x : ListedView) × IsSetupOf text x × (names ≡ x.setup.names)
 
 -- the text spells settings whose maps have these lists, by number; an array has none
-abbrev pub AreListsOf : List ℕ → List (Option Keyed) → Type 0
+abbrev pub AreListsOf : List ℕ → List (Option MapList) → Type 0
 AreListsOf text lists = (x : ListedView) × IsSetupOf text x × (lists ≡ x.lists)
 
 -- the text's fault; or the text spells settings, of at most 16 maps, and this is the fault of their program with these
@@ -63,7 +63,7 @@ abbrev pub IsSetupFor : Accepted → SetupView → Type 0
 IsSetupFor p s = Spells p.code s.program × (p.shapes ≡ s.shapes)
 
 -- the text spells settings of this program, and the lists are theirs
-abbrev pub IsRelisted : List ℕ → Accepted → List (Option Keyed) → Type 0
+abbrev pub IsRelisted : List ℕ → Accepted → List (Option MapList) → Type 0
 IsRelisted text p lists = (x : ListedView) × IsSetupOf text x × IsSetupFor p x.setup × (lists ≡ x.lists)
 
 -- the text's fault; or the text spells settings of another program, or of other maps

@@ -2,7 +2,7 @@
 use crate::fault::LoadFault;
 use crate::run::run_on;
 use bpf_insn::decode;
-use bpf_lists::KeyedRows;
+use bpf_lists::MapList;
 use bpf_maps::{place, total};
 use bpf_verify::{MapShape, Verified, faultless_programs_are_accepted, verify};
 use bpf_vm::{Ended, PacketBuf, STACK_SIZE};
@@ -154,7 +154,7 @@ impl Program {
     #[inline(always)]
     fn run_lent<'b>(
         &self,
-        lists: &[Option<KeyedRows>],
+        lists: &[Option<MapList>],
         stack: &'b mut [u8; STACK_SIZE],
         counters: &mut [u64],
         packet: &'b mut [u8],
@@ -194,7 +194,7 @@ impl Program {
     #[inline(always)]
     fn run_in_place(
         &self,
-        lists: &[Option<KeyedRows>],
+        lists: &[Option<MapList>],
         stack: &mut [u8; STACK_SIZE],
         counters: &mut [u64],
         packet: &mut [u8],
@@ -223,7 +223,7 @@ impl Program {
     #[inline(never)]
     fn run_with_maps(
         &self,
-        lists: &[Option<KeyedRows>],
+        lists: &[Option<MapList>],
         stack: &mut [u8; STACK_SIZE],
         counters: &mut [u64],
         packet: &mut [u8],
@@ -249,7 +249,7 @@ impl Program {
     /// instruction. What the stack holds before doesn't matter, so one serves for each packet in turn.
     pub fn run(
         &self,
-        lists: &[Option<KeyedRows>],
+        lists: &[Option<MapList>],
         stack: &mut [u8; STACK_SIZE],
         counters: &mut [u64],
         packet: &mut [u8],

@@ -6,7 +6,7 @@ ghost use Rattle.xdp_program.specs.Ran.{Ran, RanCounting};
 ghost use Rattle.xdp_program.specs.Tallies.{Went};
 
 use crate::tallies::{Tallies, Words};
-use bpf_lists::KeyedRows;
+use bpf_lists::MapList;
 use bpf_verify::Verified;
 use bpf_vm::{Ended, PacketBuf, Vm, VmWant, run_to_end};
 
@@ -15,7 +15,7 @@ use bpf_vm::{Ended, PacketBuf, Vm, VmWant, run_to_end};
 #[inline(always)]
 pub fn run_counting<'b, T: Tallies>(
     program: &Verified,
-    lists: &[Option<KeyedRows>],
+    lists: &[Option<MapList>],
     counters: &mut T,
     packet: PacketBuf<'b>,
     ifindex: u32,
@@ -55,7 +55,7 @@ pub fn run_counting<'b, T: Tallies>(
 #[inline(always)]
 fn run_in_words<'b>(
     program: &Verified,
-    lists: &[Option<KeyedRows>],
+    lists: &[Option<MapList>],
     counters: &mut Words<'_>,
     packet: PacketBuf<'b>,
     ifindex: u32,
@@ -76,7 +76,7 @@ fn run_in_words<'b>(
 #[inline(always)]
 pub fn run_on<'b>(
     program: &Verified,
-    lists: &[Option<KeyedRows>],
+    lists: &[Option<MapList>],
     counters: &mut [u64],
     packet: PacketBuf<'b>,
     ifindex: u32,

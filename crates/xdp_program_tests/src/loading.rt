@@ -1,5 +1,5 @@
 //! What loads and runs give, as plain values.
-use bpf_lists::KeyedRows;
+use bpf_lists::MapList;
 use bpf_vm::STACK_SIZE;
 use std::alloc::{AllocError, Global};
 use xdp_program::{
@@ -69,7 +69,7 @@ pub fn is_for_memory(fault: SettingsFault) -> bool {
 /// A run with these lists over a stack of its own.
 fn run_with(
     program: &Program,
-    lists: &[Option<KeyedRows>],
+    lists: &[Option<MapList>],
     counters: &mut [u64],
     packet: &mut [u8],
     at: (u32, u32),

@@ -2,7 +2,7 @@
 use Rattle.std.proofs.Common.{◌≡◌, ℕ, zero, suc, ◌+◌, ◌<◌, false, List, [], ◌∷◌, ◌++◌, Some, length, get_or, slice_get, refl, sym, ap, subst, arith}
 use Rattle.std.specs.Global.{Vec}
 use Rattle.std.specs.Prelude.{Option}
-use Rattle.bpf_lists.specs.Keys.{Keyed}
+use Rattle.bpf_lists.specs.declared.list.MapList.{MapList}
 use Rattle.bpf_maps.specs.Seats.{total_at}
 use Rattle.bpf_verify.specs.Consistent.{Accepted}
 use Rattle.xen_back.specs.Queues.{wiring_of}
@@ -38,7 +38,7 @@ none_kept [] v e h (suc i) = refl
 none_kept (t ∷ ts) v e h zero = h 0
 none_kept (t ∷ ts) v e h (suc i) = none_kept ts v e (λ j. h (suc j)) i
 
-fresh_come : (accepted : Accepted) (lists : List (Option Keyed)) (queues index start i : ℕ) (w : Wiring) (q : Queue) (at : Doing) (kept : List Kept) (dl : List Delivered) (wl : List Waited) → IsFresh accepted lists queues index start i q → wiring_of q ≡ w →
+fresh_come : (accepted : Accepted) (lists : List (Option MapList)) (queues index start i : ℕ) (w : Wiring) (q : Queue) (at : Doing) (kept : List Kept) (dl : List Delivered) (wl : List Waited) → IsFresh accepted lists queues index start i q → wiring_of q ≡ w →
     at ≡ doing.Between → kept ≡ [] → dl ≡ [] → wl ≡ [] → HasCome w start [] kept dl wl q at
 fresh_come accepted lists queues index start i w q at kept dl wl f wired is none nothing unwaited =
     subst (λ (x : Doing). HasCome w start [] kept dl wl q x) (sym is) (record {
@@ -52,7 +52,7 @@ fresh_come accepted lists queues index start i w q at kept dl wl f wired is none
       stands_at = (refl, fresh_turn w q wired f.ready);
     })
 
-pub begins : (accepted : Accepted) (lists : List (Option Keyed)) (queues index start : ℕ) (w : World) → 0 < length w.queues.items → length w.queues.items ≡ queues →
+pub begins : (accepted : Accepted) (lists : List (Option MapList)) (queues index start : ℕ) (w : World) → 0 < length w.queues.items → length w.queues.items ≡ queues →
     ((i : ℕ) (d : Queue) → i < queues → IsFresh accepted lists queues index start i (get_or w.queues.items i d)) → ((i : ℕ) → kept_in w.turns.items i ≡ []) → ((i : ℕ) → delivered_in w.deliveries.items i ≡ []) →
     ((i : ℕ) → waited_in w.waits.items i ≡ []) → ((i : ℕ) (e : Doing) → i < queues → get_or w.doing.items i e ≡ doing.Between) → w.history.items ≡ [] →
     ((m k j : ℕ) → total_at w.counters m k j ≡ 0) → Begins accepted lists queues index start w

@@ -1,7 +1,7 @@
 -- Stated: claims rest on this file.
 -- What a run reports.
 use Rattle.std.specs.Prelude.{ℕ, ◌≡◌, ◌<◌, List, [], Option, length}
-use Rattle.bpf_lists.specs.Keys.{Keyed}
+use Rattle.bpf_lists.specs.declared.list.MapList.{MapList}
 use Rattle.bpf_maps.specs.Seats.{total_at}
 use Rattle.bpf_note.specs.History.{IsLegal, left_in, share}
 use Rattle.bpf_note.specs.Shape.{IsCounter}
@@ -53,7 +53,7 @@ pub record Reports (wirings : ℕ → Wiring) (start : ℕ) (es : List Entry) (r
   pub leaves : (m k j : ℕ) → IsCounter r.totals.shapes m k j → total_at r.totals m k j ≡ left_in m k j (history es)
 
 -- The report of a run of a program's queues through these steps, with these lists of its maps: there is a list of entries as asked.
-pub record IsCoreRun (program : Accepted) (lists : List (Option Keyed)) (queues ifindex start : ℕ) (steps : List (ℕ × ℕ)) (r : Report) : Type 0 where
+pub record IsCoreRun (program : Accepted) (lists : List (Option MapList)) (queues ifindex start : ℕ) (steps : List (ℕ × ℕ)) (r : Report) : Type 0 where
   pub wirings : ℕ → Wiring
   pub wired : (i : ℕ) → i < queues → IsFor program lists queues ifindex i (wirings i)
   pub entries : List Entry

@@ -14,7 +14,7 @@ use crate::layout::{BACK, FRONT, Layout};
 use crate::report::{Delivered, Report, Waited};
 use crate::ring::ring;
 use crate::world::World;
-use bpf_lists::KeyedRows;
+use bpf_lists::MapList;
 use bpf_maps::Totals;
 use bpf_verify::Verified;
 use bpf_vm::Buffer;
@@ -26,7 +26,7 @@ pub(crate) fn queue<'p, 'b>(
     alloc: Global,
     layout: &'p Layout,
     program: &'p Verified,
-    lists: &'p [Option<KeyedRows>],
+    lists: &'p [Option<MapList>],
     buffer: &'b mut Buffer,
     number: usize,
     ifindex: u32,
@@ -106,7 +106,7 @@ impl<'p, 'b> World<'p, 'b> {
         alloc: Global,
         layout: &'p Layout,
         program: &'p Verified,
-        lists: &'p [Option<KeyedRows>],
+        lists: &'p [Option<MapList>],
         buffers: &'b mut [Buffer],
         queues: usize,
         ifindex: u32,
@@ -194,7 +194,7 @@ impl World<'_, '_> {
     pub fn run(
         alloc: Global,
         program: &Verified,
-        lists: &[Option<KeyedRows>],
+        lists: &[Option<MapList>],
         queues: usize,
         ifindex: u32,
         start: u32,

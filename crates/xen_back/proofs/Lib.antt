@@ -1,4 +1,4 @@
 pub mod RestLemmas
 pub mod FeedLemmas
-pub mod DriveLemmas
+pub mod StageLemmas
 pub mod InOneGoLemmas

@@ -1,7 +1,7 @@
 -- Stated: claims rest on this file.
 -- A queue that was made, new or from where another one ended.
 use Rattle.std.specs.Prelude.{◌≡◌, List, Option, None}
-use Rattle.bpf_lists.specs.Keys.{Keyed}
+use Rattle.bpf_lists.specs.declared.list.MapList.{MapList}
 use Rattle.bpf_verify.specs.Consistent.{Accepted}
 use Rattle.xen_back.specs.Queues.{IsReady, rx_ring_of, state_of, tx_ring_of, wiring_of}
 use Rattle.xen_back.specs.declared.desc.QueueDesc.{QueueDesc}
@@ -10,7 +10,7 @@ use Rattle.xen_turns.specs.declared.state.State.{State}
 use Rattle.xen_rx_fill.specs.Wired.{IsWired}
 
 -- It is of the description, but for the index at which that has both rings begin, and is between turns in this state.
-pub record IsResumed (program : Accepted) (lists : List (Option Keyed)) (desc : QueueDesc) (s : State) (q : Queue) : Type 0 where
+pub record IsResumed (program : Accepted) (lists : List (Option MapList)) (desc : QueueDesc) (s : State) (q : Queue) : Type 0 where
   pub tx_ring : tx_ring_of q ≡ desc.tx
   pub rx_ring : rx_ring_of q ≡ desc.rx
   pub tx : (wiring_of q).vif.tx ≡ desc.tx.frame
@@ -29,5 +29,5 @@ pub record IsResumed (program : Accepted) (lists : List (Option Keyed)) (desc : 
   pub wired : IsWired (wiring_of q).vif
 
 -- Both rings begin at the description's index.
-abbrev pub IsMade : Accepted → List (Option Keyed) → QueueDesc → Queue → Type 0
+abbrev pub IsMade : Accepted → List (Option MapList) → QueueDesc → Queue → Type 0
 IsMade program lists desc q = IsResumed program lists desc (record { tx_index = desc.start; rx_index = desc.start; halt = None }) q

@@ -4,12 +4,11 @@
 //! - `queue`: a queue and all of its calls
 //! - `by_event`: a turn one event at a time; what a queue wants (`wanting`), what it does with an answer (`feeding`), and a
 //!   file for each part of a turn: `looking`, `copying`, `executing`, `sent`, `answering`, `ending`
-//! - `in_one_go`: a whole turn over a bus (`turning`), for a chain of any length, in the order of its parts: `looking`, `copying`, `running`,
-//!   `answering`; and what it is served by (`service`)
-//! - `delivery`: a packet of the host's own, in one go and by event, and waiting for slots
+//! - `in_one_go`: a turn, a delivery and a wait over a bus, by the engine of `xen_host`
+//! - `delivery`: a packet of the host's own by event, and waiting for slots
 //! - `desc`, `copy_buf`: what these work on; `shown`: the turn that a host is shown
 //!
-//! What a turn is stands in `xen_turns`; both ways are proved of the computation there. `Rest` is what is left of it at a stage.
+//! What a turn is stands in `xen_turns`, and how it is taken over a bus in `xen_host`. `Rest` is what is left of it at a stage.
 #![tactic(auto)]
 
 mod by_event;

@@ -1,7 +1,7 @@
-//! A back queue, and all of its calls: how it is made (`making`), its turns (`calls`), its `deliveries` and its `waits`.
+//! A back queue, and all of its calls: how it is made (`making`), its turns (`driving`), its `deliveries` and its `waits`.
 
-mod calls;
 mod deliveries;
+mod driving;
 mod making;
 mod waits;
 
@@ -11,6 +11,7 @@ ghost use Rattle.xen_turns.specs.Within.{Completes, Completes-prop, TurnsComplet
 ghost use Rattle.xen_rx_fill.specs.Wired.{IsWired};
 
 use crate::by_event::stage::Stage;
+use xen_host::Engine;
 use xen_page::Mapped;
 use xen_turns::{State, Wiring};
 
@@ -21,6 +22,8 @@ pub struct Queue<'p, 'b> {
     pub(crate) tx_ring: Mapped,
     pub(crate) rx_ring: Mapped,
     pub(crate) state: State,
+    /// What takes it through whole turns, deliveries and waits. Between two of them it holds nothing that the queue needs.
+    pub(crate) engine: Engine,
     /// It is out only while the next stage is made of it.
     pub(crate) stage: Option<Stage<'p, 'b>>,
     ghost here: { IsTrue (is_some stage) },

@@ -6,6 +6,7 @@ ghost use Rattle.xen_turns.specs.Turned.{IsShort, Shows, turned};
 
 use crate::by_event::stage::Stage;
 use bpf_vm::Action;
+use xen_host::Room;
 use xen_turns::{Kind, Turn};
 
 /// The turn that ended as this kind.

@@ -8,7 +8,7 @@ ghost use Rattle.xen_page.specs.Table.{IsTable};
 ghost use Rattle.xen_page.specs.declared.entry.Rights.TheVariants.{ReadWrite};
 
 use bpf_insn::decode;
-use bpf_lists::KeyedRows;
+use bpf_lists::MapList;
 use bpf_maps::{CounterSeat, Counters};
 use bpf_note::MapShape;
 use bpf_verify::{Verified, verify};
@@ -63,7 +63,7 @@ pub struct Bench {
     owners: Owners,
     table: Table,
     program: Verified,
-    lists: Vec<Option<KeyedRows>>,
+    lists: Vec<Option<MapList>>,
     ghost granted: { IsTable owners 1 table },
     ghost size: { length owners ≡ 20 },
 }
@@ -87,7 +87,7 @@ impl Bench {
     }
 
     /// The same, with these lists of the program's maps.
-    pub fn with_lists(self, lists: Vec<Option<KeyedRows>>) -> Bench
+    pub fn with_lists(self, lists: Vec<Option<MapList>>) -> Bench
         ensures { result.program ≡ self.program }
     {
         let Bench {

@@ -2,5 +2,3 @@ pub mod TraceLemmas
 pub mod TaskLemmas
 pub mod StepLemmas
 pub mod BoundLemmas
-pub mod GoingLemmas
-pub mod GoneLemmas

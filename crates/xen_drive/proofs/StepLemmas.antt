@@ -1,5 +1,5 @@
 -- A host that makes the accesses of each op goes on.
-use Rattle.xen_host.specs.Queues.{wired_to}
+use Rattle.xen_host.specs.Queues.{seen, wired_to}
 use Rattle.std.proofs.Common.{◌≡◌, ℕ, zero, suc, ◌≤◌, List, [], ◌∷◌, ◌++◌, Option, Some, sym, ap, ◌∙◌, subst, length, map, arith, append-nil, append_assoc}
 use Rattle.xdp_program.specs.Ran.{IsHistory}
 use Rattle.xen_page.specs.Access.{Performs}
@@ -12,11 +12,13 @@ use Rattle.xen_turns.specs.Drive.{labels}
 use Rattle.xen_turns.specs.declared.state.State.{State}
 use Rattle.xen_host.specs.Asks.{AllSized, Ask, IsSized, did_all, did_by, read_by}
 use Rattle.xen_host.specs.declared.wires.OwnedWiring.{OwnedWiring}
-use Rattle.xen_drive.specs.Driving.{GoesOn, Task}
-use Rattle.xen_drive.specs.Going.{KeepsAll}
+use Rattle.xen_host.specs.Driving.{GoesOn, Task}
+use Rattle.xen_host.specs.Going.{KeepsAll}
+use Rattle.xen_host.proofs.TaskLemmas.{keeps_then}
+use Rattle.xen_host.proofs.TraceLemmas.{did_none, effects, effects_append, read_by_none}
 use Rattle.xen_drive.specs.Hosts.{Held, Steps, StepsBy}
-use Rattle.xen_drive.proofs.TaskLemmas.{keeps_then, moved}
-use Rattle.xen_drive.proofs.TraceLemmas.{all_none, did_none, effects, effects_append, history_append, history_none, labels_none, read_by_none, some_effect}
+use Rattle.xen_drive.proofs.TaskLemmas.{moved}
+use Rattle.xen_drive.proofs.TraceLemmas.{all_none, history_append, history_none, labels_none, some_effect}
 
 -- What was done since a task began, of which at least n accesses and notices: the bus went through the accesses, and the counters through the operations. What was asked last isn't done yet.
 pub record Carried {S : Type 0} (log : S → Option (List Access)) (gives : S → Access → S → Type 0) (k : Task) (s : State) (w : OwnedWiring) (bus : S) (before : List ℕ) (n : ℕ) (h : Held S) : Type 0 where
@@ -24,7 +26,7 @@ pub record Carried {S : Type 0} (log : S → Option (List Access)) (gives : S �
   pub performed : Performs log gives bus (accesses trace) h.bus
   pub counted : IsHistory w.program.shapes (map Some (labels trace)) before h.counters
   pub keeps : KeepsAll k before h.counters
-  pub goes : GoesOn k h.queue h.last s (trace ++ (did_all h.first h.lent ++ did_by h.last h.lent))
+  pub goes : GoesOn k (seen h.queue) h.last s (trace ++ (did_all h.first h.lent ++ did_by h.last h.lent))
   pub sized : IsSized h.last
   pub page : 1024 ≤ length h.lent
   pub wires : wired_to h.queue ≡ w
@@ -71,14 +73,14 @@ module _ {S : Type 0} (log : S → Option (List Access)) (gives : S → Access �
         (history_append shapes r m.ran h.counters h.counters h'.counters (history_none shapes r h.counters (read_by_none h.last d.read)) ran) in
         let here : (c.trace ++ x) ++ (r ++ (m.ran ++ y)) ≡ ((c.trace ++ x) ++ (r ++ m.ran)) ++ y =
         ap (λ l. (c.trace ++ x) ++ l) (sym (append_assoc r m.ran y)) ∙ sym (append_assoc (c.trace ++ x) (r ++ m.ran) y) in
-        let at : GoesOn k h'.queue d.stepped.last s (((c.trace ++ x) ++ (r ++ m.ran)) ++ y) = subst (λ t. GoesOn k h'.queue d.stepped.last s t) here m.goes in
+        let at : GoesOn k (seen h'.queue) d.stepped.last s (((c.trace ++ x) ++ (r ++ m.ran)) ++ y) = subst (λ t. GoesOn k (seen h'.queue) d.stepped.last s t) here m.goes in
         record {
           trace = (c.trace ++ x) ++ (r ++ m.ran);
           performed = subst (λ l. Performs log gives bus l h'.bus) (sym (touched c.trace x r m.ran m.silent)) (performs_then log gives bus h.bus h'.bus (accesses c.trace) (accesses (x ++ r)) c.performed d.performed);
           counted = through;
           keeps = keeps_then k before h.counters h'.counters c.keeps m.keeps;
-          goes = subst (λ (f : List Ask). GoesOn k h'.queue h'.last s (((c.trace ++ x) ++ (r ++ m.ran)) ++ (did_all f h'.lent ++ did_by h'.last h'.lent))) (sym d.first)
-              (subst (λ (a : Ask). GoesOn k h'.queue a s (((c.trace ++ x) ++ (r ++ m.ran)) ++ (did_all d.stepped.first h'.lent ++ did_by a h'.lent))) (sym d.last) at);
+          goes = subst (λ (f : List Ask). GoesOn k (seen h'.queue) h'.last s (((c.trace ++ x) ++ (r ++ m.ran)) ++ (did_all f h'.lent ++ did_by h'.last h'.lent))) (sym d.first)
+              (subst (λ (a : Ask). GoesOn k (seen h'.queue) a s (((c.trace ++ x) ++ (r ++ m.ran)) ++ (did_all d.stepped.first h'.lent ++ did_by a h'.lent))) (sym d.last) at);
           sized = subst (λ (a : Ask). IsSized a) (sym d.last) (last_sized d.stepped.first d.stepped.last d.stepped.said.sized);
           page = omega (arith, d.page, d.lends);
           wires = d.stepped.wires ∙ c.wires;

@@ -1,84 +1,23 @@
--- Events one after another: their accesses, the operations among them, and how many they are.
-use Rattle.std.proofs.Common.{◌≡◌, ℕ, zero, suc, ◌+◌, ◌≤◌, List, [], ◌∷◌, ◌++◌, false, Option, Some, None, refl, sym, ap, ◌∙◌, subst, map, take, length, arith, append-nil, append_assoc, length-append}
+-- Histories of counters by the operations among events, and what a host of ops is asked.
+use Rattle.std.proofs.Common.{◌≡◌, ℕ, zero, suc, ◌≤◌, List, [], ◌∷◌, ◌++◌, false, Option, Some, None, refl, sym, ap, ◌∙◌, subst, map, take, length, arith, append-nil}
 use Rattle.bpf_note.specs.Shape.{Shape}
 use Rattle.bpf_note.specs.declared.op.Op.{Op as Operation}
 use Rattle.bpf_note.specs.declared.op.Op.TheVariants as operation
 use Rattle.xdp_program.specs.Ran.{IsHistory}
-use Rattle.xen_page.specs.Mapping.{frame_place}
-use Rattle.xen_page.specs.declared.place.Place.{Place}
-use Rattle.xen_steps.specs.Drive.{accesses, notices_in}
+use Rattle.xdp_program.specs.Tallies.{DidInWords, HasWords, Went}
+use Rattle.xdp_program.specs.declared.tallies.Words.{Words}
+use Rattle.xdp_program.proofs.TallyLemmas.{history_length, history_of as history_in_words}
 use Rattle.xen_steps.specs.Event.{Event}
-use Rattle.xen_steps.specs.Event as event
-use Rattle.xen_steps.specs.Places.{page_word}
-use Rattle.xen_steps.proofs.DriveLemmas.{accesses-append}
-use Rattle.xen_turns.specs.Drive.{label_of, labels}
+use Rattle.xen_turns.specs.Drive.{labels}
 use Rattle.xen_turns.specs.Program.{event_of}
-use Rattle.xen_host.specs.Asks.{Ask, IsSized, Read, Entry, Write, Store, StoreTwo, Push, Notify, TurnOver, DeliveryOver, WaitOver, did_all, did_by, read_by, reads_at, writes_at}
-use Rattle.xen_drive.specs.Hosts.{is_over}
-
-pub labels_append : (t u : List Event) → labels (t ++ u) ≡ labels t ++ labels u
-labels_append [] u = refl
-labels_append (x ∷ t) u = ap (λ l. label_of x ++ l) (labels_append t u) ∙ sym (append_assoc (label_of x) (labels t) (labels u))
-
--- ---- a host does no operation of a counter
-
-read_none : (at : Place) (words : List ℕ) → labels (reads_at at words) ≡ []
-read_none at [] = refl
-read_none at (v ∷ vs) = read_none (frame_place at) vs
-
-write_none : (at : Place) (words : List ℕ) → labels (writes_at at words) ≡ []
-write_none at [] = refl
-write_none at (v ∷ vs) = write_none (frame_place at) vs
-
-pub did_none : (a : Ask) (lent : List ℕ) → labels (did_by a lent) ≡ []
-did_none (Read at count) lent = refl
-did_none (Entry at reference rights) lent = refl
-did_none (Write at count) lent = write_none at (take count lent)
-did_none (Store at word) lent = refl
-did_none (StoreTwo at first second) lent = refl
-did_none (Push at word read) lent = refl
-did_none (Notify port) lent = refl
-did_none (TurnOver x) lent = refl
-did_none (DeliveryOver x) lent = refl
-did_none (WaitOver x) lent = refl
-
-pub all_none : (first : List Ask) (lent : List ℕ) → labels (did_all first lent) ≡ []
-all_none [] lent = refl
-all_none (a ∷ more) lent = labels_append (did_by a lent) (did_all more lent) ∙ ap (λ l. l ++ labels (did_all more lent)) (did_none a lent) ∙ all_none more lent
-
-pub read_by_none : (a : Ask) (lent : List ℕ) → labels (read_by a lent) ≡ []
-read_by_none (Read at count) lent = read_none at (take count lent)
-read_by_none (Entry at reference rights) lent = read_none at (take 2 lent)
-read_by_none (Write at count) lent = refl
-read_by_none (Store at word) lent = refl
-read_by_none (StoreTwo at first second) lent = refl
-read_by_none (Push at word read) lent = read_none (page_word at.frame read) (take 1 lent)
-read_by_none (Notify port) lent = refl
-read_by_none (TurnOver x) lent = refl
-read_by_none (DeliveryOver x) lent = refl
-read_by_none (WaitOver x) lent = refl
-
-pub labels_none : (t u : List Event) → labels t ≡ [] → labels u ≡ [] → labels (t ++ u) ≡ []
-labels_none t u e f = labels_append t u ∙ ap (λ l. l ++ labels u) e ∙ f
-
--- ---- a program's events
-
--- a program touches no page
-pub program_none : (ls : List (Option Operation)) → accesses (map event_of ls) ≡ []
-program_none [] = refl
-program_none (None ∷ ls) = program_none ls
-program_none (Some (operation.Load m k j v) ∷ ls) = program_none ls
-program_none (Some (operation.Add m k j delta old) ∷ ls) = program_none ls
+use Rattle.xen_host.specs.Asks.{Ask, IsSized, Read, Entry, Write, Store, StoreTwo, Push, Notify, TurnOver, DeliveryOver, WaitOver, did_all, did_by, is_over, read_by, writes_at}
+use Rattle.xen_host.proofs.TraceLemmas.{did_none, effects, labels_append, map_append, read_all, write_all}
 
 pub history_of : (shapes : List Shape) (ls : List (Option Operation)) (before after : List ℕ) → IsHistory shapes ls before after → IsHistory shapes (map Some (labels (map event_of ls))) before after
 history_of shapes [] before after h = h
 history_of shapes (None ∷ ls) before after h = history_of shapes ls before after h
 history_of shapes (Some (operation.Load m k j v) ∷ ls) before after h = (h.0, h.1, history_of shapes ls before after h.2)
 history_of shapes (Some (operation.Add m k j delta old) ∷ ls) before after h = (h.0, h.1, history_of shapes ls _ after h.2)
-
-pub map_append : (a b : List Operation) → map Some (a ++ b) ≡ map Some a ++ map Some b
-map_append [] b = refl
-map_append (x ∷ a) b = ap (λ l. Some x ∷ l) (map_append a b)
 
 history_then : (shapes : List Shape) (one more : List (Option Operation)) (a b c : List ℕ) → IsHistory shapes one a b → IsHistory shapes more b c → IsHistory shapes (one ++ more) a c
 history_then shapes [] more a b c g h = subst (λ x. IsHistory shapes more x c) (sym g) h
@@ -95,33 +34,20 @@ history_append shapes t u a b c g h =
 pub history_none : (shapes : List Shape) (t : List Event) (a : List ℕ) → labels t ≡ [] → IsHistory shapes (map Some (labels t)) a a
 history_none shapes t a e = subst (λ l. IsHistory shapes (map Some l) a a) (sym e) refl
 
--- ---- how many accesses and notices
+-- words that were enough are enough
+pub words_enough : (shapes : List Shape) (labels : List (Option Operation)) (before after : Words) → HasWords shapes before → Went (DidInWords shapes) before after labels → HasWords shapes after
+words_enough shapes labels before after enough went =
+    let same = history_length shapes labels before.words.now after.words.now (history_in_words shapes labels before after went) in
+    omega (arith, enough, same)
 
-abbrev pub effects : List Event → ℕ
-effects t = length (accesses t) + notices_in t
+-- ---- what a host of ops is asked
 
-notices_append : (t u : List Event) → notices_in (t ++ u) ≡ notices_in t + notices_in u
-notices_append [] u = omega arith
-notices_append (event.Read at a ∷ t) u = notices_append t u
-notices_append (event.Write at v ∷ t) u = notices_append t u
-notices_append (event.Instr ∷ t) u = notices_append t u
-notices_append (event.Load m k j v ∷ t) u = notices_append t u
-notices_append (event.Add m k j delta old ∷ t) u = notices_append t u
-notices_append (event.Notify port ∷ t) u = let e = notices_append t u in omega (arith, e)
+pub all_none : (first : List Ask) (lent : List ℕ) → labels (did_all first lent) ≡ []
+all_none [] lent = refl
+all_none (a ∷ more) lent = labels_append (did_by a lent) (did_all more lent) ∙ ap (λ l. l ++ labels (did_all more lent)) (did_none a lent) ∙ all_none more lent
 
-pub effects_append : (t u : List Event) → effects (t ++ u) ≡ effects t + effects u
-effects_append t u =
-    let a : length (accesses (t ++ u)) ≡ length (accesses t) + length (accesses u) = ap (λ l. length l) (accesses-append t u) ∙ length-append (accesses t) (accesses u) in
-    let n = notices_append t u in
-    omega (arith, a, n)
-
-pub read_all : (at : Place) (words : List ℕ) → effects (reads_at at words) ≡ length words + notices_in (reads_at at words)
-read_all at [] = omega arith
-read_all at (v ∷ vs) = let e = read_all (frame_place at) vs in omega (arith, e)
-
-pub write_all : (at : Place) (words : List ℕ) → effects (writes_at at words) ≡ length words + notices_in (writes_at at words)
-write_all at [] = omega arith
-write_all at (v ∷ vs) = let e = write_all (frame_place at) vs in omega (arith, e)
+pub labels_none : (t u : List Event) → labels t ≡ [] → labels u ≡ [] → labels (t ++ u) ≡ []
+labels_none t u e f = labels_append t u ∙ ap (λ l. l ++ labels u) e ∙ f
 
 some_taken : (n : ℕ) (words : List ℕ) → 1 ≤ n → 1024 ≤ length words → 1 ≤ length (take n words)
 some_taken zero words h k = absurd (omega (arith, h))

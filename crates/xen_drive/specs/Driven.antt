@@ -15,7 +15,8 @@ use Rattle.xen_turns.specs.Turns.{IsTurn}
 use Rattle.xen_turns.specs.declared.delivery.delivering.Delivery.{Delivery}
 use Rattle.xen_turns.specs.declared.delivery.wait.Awaited.{Awaited}
 use Rattle.xen_turns.specs.declared.turn.Kind.{Kind}
-use Rattle.xen_host.specs.Queues.{BegunBy, HasStepped, IsBegun, IsWaitBegun, first_read, packet_of, resting, wiring, wired_to}
+use Rattle.xen_host.specs.Queues.{BegunBy, HasStepped, IsBegun, IsWaitBegun, packet_of, resting, wiring, wired_to}
+use Rattle.xen_host.specs.UnderWay.{first_read}
 use Rattle.xen_host.specs.Said.{has_run}
 use Rattle.xen_host.specs.declared.op.Op.{Op}
 use Rattle.xen_host.specs.declared.queue.Queue.{Queue}

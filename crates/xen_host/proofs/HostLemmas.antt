@@ -9,11 +9,12 @@ use Rattle.xen_rx_fill.specs.Places.{tx_word}
 use Rattle.xen_turns.specs.Program.{event_of}
 use Rattle.xen_host.specs.Asks.{AllInPages, AllSized, Ask, TakeNone, WordsStay, did_all, did_by, needs_no_answer, op_of, read_by, reads_at, writes_at}
 use Rattle.xen_host.specs.Asks as ask
-use Rattle.xen_host.specs.Buses.{IsHeld}
+use Rattle.xen_host.specs.Buses.{AllHeld, IsHeld}
 use Rattle.xen_host.specs.Fed.{WaitsFor}
 use Rattle.xen_host.specs.Hosts.{Asked, HasGiven, IsFull, IsLent, IsPut, IsSameLoan, WasAskedAll, WasGiven, asks_of, events_of}
-use Rattle.xen_host.specs.Over.{AllHeld, BeginsOver, SteppedOver}
-use Rattle.xen_host.specs.Queues.{DeliveryGoesOn, HasBegun, Stepped, TurnGoesOn, WaitGoesOn, WaitsForSome, first_read, read_by_some, wiring, seen}
+use Rattle.xen_host.specs.Over.{BeginsOver, SteppedOver}
+use Rattle.xen_host.specs.Queues.{DeliveryGoesOn, HasBegun, Stepped, TurnGoesOn, WaitGoesOn, wiring, seen}
+use Rattle.xen_host.specs.UnderWay.{WaitsForSome, first_read, read_by_some}
 use Rattle.xen_host.specs.Rest.{flags_after, flags_behind, reads_in}
 use Rattle.xen_host.specs.Said.{Said}
 use Rattle.xen_host.specs.declared.host.Ops.{Ops}

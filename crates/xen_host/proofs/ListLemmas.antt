@@ -2,7 +2,7 @@
 use Rattle.std.proofs.Common.{◌≡◌, ℕ, zero, suc, List, length, sym, ap, ◌∙◌, subst, arith}
 use Rattle.std.specs.Prelude.{None, Option, IsSome, replicate}
 use Rattle.std.proofs.lemmas.List.{length-replicate}
-use Rattle.bpf_lists.specs.Keys.{Keyed}
+use Rattle.bpf_lists.specs.declared.list.MapList.{MapList}
 use Rattle.xen_turns.specs.declared.state.State.{State}
 use Rattle.xen_host.specs.Loops.{AreSteps}
 use Rattle.xen_host.specs.Queues.{HasBegun, resting, wired_to}
@@ -30,6 +30,6 @@ pub kept : (old begun new : Queue) (producer : ℕ) (ops ops_after : List Op) (c
 kept old begun new producer ops ops_after count n h steps =
     ap (λ (w : OwnedWiring). w.lists) (steps_keep n begun new steps ∙ (h page (omega (arith, page_length))).wires)
 
-pub untaken : (old new : Queue) (lists : List (Option Keyed)) (answer : Relist) → IsRelist old new lists answer → resting old ≡ None → new ≡ old
+pub untaken : (old new : Queue) (lists : List (Option MapList)) (answer : Relist) → IsRelist old new lists answer → resting old ≡ None → new ≡ old
 untaken old new lists Relisted h none = cc (subst (λ (o : Option State). IsSome o) none h.0)
 untaken old new lists Busy h none = h.1

@@ -41,7 +41,8 @@ use Rattle.xen_host.specs.Asks as ask
 use Rattle.xen_host.specs.Fed.{WaitsFor}
 use Rattle.xen_host.specs.Loops.{AreSteps, IsStep}
 use Rattle.xen_host.specs.Queues.{BegunBy, DeliveryGoesOn, HasBegun, IsBegun, IsDelivering, IsTurning, IsWaitBegun, IsWaiting, TurnGoesOn, WaitGoesOn, seen}
-use Rattle.xen_host.specs.Queues.{first_read, packet_of, read_by_some, resting, wiring}
+use Rattle.xen_host.specs.Queues.{packet_of, resting, wiring}
+use Rattle.xen_host.specs.UnderWay.{first_read, read_by_some}
 use Rattle.xen_host.specs.Rest.{is_waiting, reads_in, rest_in, rest_of_delivery, rest_of_wait}
 use Rattle.xen_host.specs.Told.{IsPush, IsToldAt}
 use Rattle.xen_host.specs.declared.op.Op.{Op}

@@ -1,218 +1,53 @@
 -- A step of a queue: what it is of goes on, and the queue stays as it has to be.
-use Rattle.std.proofs.Common.{◌≡◌, ℕ, ◌<◌, ◌≤◌, inl, inr, List, [], ◌∷◌, ◌++◌, length, map, refl, sym, ap, ◌∙◌, subst, arith, true}
-use Rattle.std.specs.Prelude.{None, Option, Some, IsSome}
+use Rattle.std.proofs.Common.{◌≡◌, ℕ, ◌<◌, ◌≤◌, inl, inr, List, [], length, ap, subst, arith}
+use Rattle.std.specs.Prelude.{None, Option, IsSome}
 use Rattle.bpf_maps.specs.Layout.{total}
-use Rattle.std.specs.Prelude.{◌^◌, Bool}
-use Rattle.xen_steps.specs.Drive.{LedBy, IsPageWant}
-use Rattle.xen_steps.specs.Event.{Read}
+use Rattle.std.specs.Prelude.{◌^◌}
 use Rattle.xen_steps.specs.Steps.{next}
-use Rattle.xen_steps.proofs.DriveLemmas.{gone_append}
-use Rattle.xen_rx_fill.specs.Places.{rx_word, tx_word}
-use Rattle.xen_rx_fill.specs.declared.vif.Vif.{Vif}
-use Rattle.xen_rx_fill.proofs.Bounds.{frame_inside}
-use Rattle.xen_turns.specs.Delivered.{is_frame}
-use Rattle.xen_turns.specs.Deliveries.{if_frame, unless_halted as delivery_by, whole_delivery}
-use Rattle.xen_turns.specs.Tree.{unless_halted as turn_by, whole_turn}
-use Rattle.xen_turns.specs.declared.turn.Halt.{Halt}
-use Rattle.xen_turns.specs.declared.wiring.Wiring.{Wiring}
-use Rattle.xen_turns.proofs.ArriveLemmas.{arrives}
-use Rattle.xen_turns.proofs.WaitLemmas.{wait_ends}
+use Rattle.xen_turns.specs.Tree.{whole_turn}
 use Rattle.xen_host.specs.Asks.{Ask}
-use Rattle.xen_steps.proofs.FinishLemmas.{finishes_gone}
-use Rattle.xen_rx_fill.specs.Wired.{IsWired}
-use Rattle.xen_turns.specs.Program.{event_of}
-use Rattle.xen_turns.specs.Within.{Completes, TurnsComplete, may_want}
 use Rattle.xen_turns.specs.declared.state.State.{State}
-use Rattle.xen_host.specs.Completing.{Arriving, TaskCompletes, Waiting}
-use Rattle.xen_host.specs.Fed.{fed}
-use Rattle.xen_host.specs.Fits.{Fits}
 use Rattle.xen_host.specs.HostLed.{GoesOnAt, TurnLeads}
-use Rattle.xen_host.specs.Hosts.{events_of}
 use Rattle.xen_host.specs.Over.{BeginsOver, SteppedOver}
-use Rattle.xen_host.specs.Queues.{AreFew, AreFewAtSeat, between, first_read, resting, wiring, seen, wired_to}
-use Rattle.xen_host.specs.Rest.{is_delivering, is_waiting, no_flags, rest_in}
-use Rattle.xen_host.specs.EngineAt.{EngineAt, WorkAt}
+use Rattle.xen_host.specs.Queues.{AreFew, AreFewAtSeat, resting, wiring, seen, wired_to}
+use Rattle.xen_host.specs.Rest.{no_flags}
 use Rattle.bpf_note.specs.declared.op.Op.{Op as Operation}
 use Rattle.xen_host.specs.declared.op.Op.{Op}
 use Rattle.xen_host.specs.Wired.{wiring_of}
 use Rattle.xen_host.specs.declared.queue.Queue.{Queue}
-use Rattle.xen_host.specs.declared.stage.Purpose.TheVariants as purpose
-use Rattle.xen_host.specs.declared.stage.Stage.{Stage}
 use Rattle.xen_host.specs.declared.stage.Stage.TheVariants as stage
 use Rattle.xen_host.specs.declared.wires.OwnedWiring.{OwnedWiring}
-use Rattle.xen_host.proofs.EndLemmas.{Ended, delivery_ended, fed_delivery, fed_turn, fed_wait, turn_ended, wait_ended}
-use Rattle.xen_host.proofs.StageLemmas.{AtDelivery, AtTurn, AtWait, Under, delivery, given_length, given_words, nothing, turn, under, wait}
-use Rattle.xen_host.proofs.ToldLemmas.{delivery_told, turn_told, wait_told}
-use Rattle.xen_host.proofs.TurnLemmas.{delivery_steps, turn_goes, turn_steps, wait_steps}
-
-task_delivery : (w : Wiring) (s : State) (g : Stage) (b : WorkAt) → is_delivering g ≡ true → TaskCompletes w s g b → Arriving w s g b
-task_delivery w s stage.Ready b t h = cc t
-task_delivery w s stage.Announce b t h = cc t
-task_delivery w s (stage.Slot left) b t h = cc t
-task_delivery w s (stage.Entry i at) b t h = cc t
-task_delivery w s (stage.Page i f frame) b t h = cc t
-task_delivery w s (stage.Fill f (purpose.Back n)) b t h = cc t
-task_delivery w s (stage.Fill f purpose.Delivery) b t h = h
-task_delivery w s (stage.Respond a i) b t h = cc t
-task_delivery w s (stage.Push at kind) b t h = cc t
-task_delivery w s (stage.Notice at kind) b t h = cc t
-task_delivery w s (stage.Deliver producer) b t h = h
-task_delivery w s (stage.Wait pages) b t h = cc t
-task_delivery w s (stage.WaitLook pages) b t h = cc t
-
-task_wait : (w : Wiring) (s : State) (g : Stage) (b : WorkAt) → is_waiting g ≡ true → TaskCompletes w s g b → Waiting w s g
-task_wait w s stage.Ready b t h = cc t
-task_wait w s stage.Announce b t h = cc t
-task_wait w s (stage.Slot left) b t h = cc t
-task_wait w s (stage.Entry i at) b t h = cc t
-task_wait w s (stage.Page i f frame) b t h = cc t
-task_wait w s (stage.Fill f p) b t h = cc t
-task_wait w s (stage.Respond a i) b t h = cc t
-task_wait w s (stage.Push at kind) b t h = cc t
-task_wait w s (stage.Notice at kind) b t h = cc t
-task_wait w s (stage.Deliver producer) b t h = cc t
-task_wait w s (stage.Wait pages) b t h = h
-task_wait w s (stage.WaitLook pages) b t h = h
-
--- what holds of an engine between two calls
-pub record Stands (e : EngineAt) : Type 0 where
-  pub fits : Fits e.stage e.work
-  pub wired : IsWired e.wires.vif
-  pub turns : TurnsComplete e.wires
-  pub left : TaskCompletes e.wires e.state e.stage e.work
+use Rattle.xen_host.specs.Stands.{Stands}
+use Rattle.xen_host.proofs.EngineLemmas.{begun_at, not_ready_at, stepped_at}
 
 pub stands : (q : Queue) → Stands (seen q)
 stands q = record { fits = q.fits; wired = q.wired; turns = q.turns; left = q.left }
 
-wires_stand : (q : Queue) (w : Wiring) → w ≡ (seen q).wires → IsWired w.vif × TurnsComplete w
-wires_stand q w e = subst (λ (x : Wiring). IsWired x.vif × TurnsComplete x) (sym e) (q.wired, q.turns)
-
-module _ {H : Type 0} (was : H → Ask → List ℕ → H → Type 0) (full : H → Type 0) (gave : H → List ℕ → H → Type 0) (host host_after : H) (old : Queue) (engine : EngineAt) (went : List (Option Operation) → Type 0)
-    (same : engine.wires ≡ (seen old).wires) (led : GoesOnAt was full gave old.engine.stage (seen old) engine went host host_after) where
-  -- after the run, what is left of a turn ends
-  from : (t : AtTurn was full gave old.engine.stage (seen old) engine went host host_after) → Completes (wiring old) t.led.led.between
-  from t =
-      let e = seen old in
-      let a = t.led in
-      finishes_gone (may_want (wiring old)) (fed (rest_in (wiring old) e.state e.stage e.work) a.words) a.led.between (map event_of a.led.ran.labels)
-      (fed_turn e.wires e.state e.stage e.work a.words (given_words gave _ host a.mid a.words a.given) (given_length gave _ host a.mid a.words a.given) t.turning old.left) a.led.ran.gone
-
-  turn_end : (t : AtTurn was full gave old.engine.stage (seen old) engine went host host_after) → Ended (length (seen old).wires.vif.owners.now) engine (t.led.led.led.first ++ t.led.led.led.last ∷ [])
-  turn_end t = turn_ended (seen old).wires _ t.led.led.between engine same t.led.led.led (from t)
-
-  delivery_end : (t : AtDelivery was full gave old.engine.stage (seen old) engine went host host_after) → Ended (length (seen old).wires.vif.owners.now) engine (t.led.led.first ++ t.led.led.last ∷ [])
-  delivery_end t =
-      let e = seen old in
-      let a = t.led in
-      delivery_ended e.wires e.flags e.work.packet _ engine same a.led (fed_delivery e.wires e.state e.stage e.work a.words (given_words gave _ host a.mid a.words a.given) (given_length gave _ host a.mid a.words a.given)
-      t.delivering (task_delivery e.wires e.state e.stage e.work t.delivering old.left))
-
-  wait_end : (t : AtWait was full gave old.engine.stage (seen old) engine went host host_after) → Ended (length (seen old).wires.vif.owners.now) engine (t.led.led.first ++ t.led.led.last ∷ [])
-  wait_end t =
-      let e = seen old in
-      let a = t.led in
-      wait_ended e.wires e.flags e.work.packet _ engine same a.led (fed_wait e.wires e.state e.stage a.words (given_words gave _ host a.mid a.words a.given) (given_length gave _ host a.mid a.words a.given)
-      t.waiting (task_wait e.wires e.state e.stage e.work t.waiting old.left))
-
-  pub step_stands : Stands engine
-  step_stands = by (under old.engine.stage (seen old) engine went led)
-    where
-      by : Under was full gave old.engine.stage (seen old) engine went host host_after → Stands engine
-      by (nothing e h) = subst Stands (sym h.0) (stands old)
-      by (turn t) =
-          let l = t.led.led.led in
-          let w = wires_stand old engine.wires same in
-          record { fits = l.fits; wired = w.0; turns = w.1; left = (turn_end t).task }
-      by (delivery t) =
-          let l = t.led.led in
-          let w = wires_stand old engine.wires same in
-          record { fits = l.fits; wired = w.0; turns = w.1; left = (delivery_end t).task }
-      by (wait t) =
-          let l = t.led.led in
-          let w = wires_stand old engine.wires same in
-          record { fits = l.fits; wired = w.0; turns = w.1; left = (wait_end t).task }
-
 -- and what is under way goes on
 pub stepped : {H : Type 0} {was : H → Ask → List ℕ → H → Type 0} {full : H → Type 0} {gave : H → List ℕ → H → Type 0} {host host_after : H} (old new : Queue) (went : List (Option Operation) → Type 0) (same : Type 0) → (went [] → same) → wired_to new ≡ wired_to old →
     GoesOnAt was full gave old.engine.stage (seen old) (seen new) went host host_after → (old.engine.stage ≡ stage.Ready → ⊥) → SteppedOver was full gave went same old new host host_after
-stepped {was = was} {full = full} {gave = gave} {host = host} {host_after = host_after} old new went none_same none wires led busy = by (under old.engine.stage (seen old) (seen new) went led)
-  where
-    same : (seen new).wires ≡ (seen old).wires
-    same = ap (λ (w : OwnedWiring). wiring_of w) wires
-
-    by : Under was full gave old.engine.stage (seen old) (seen new) went host host_after → SteppedOver was full gave went none_same old new host host_after
-    by (nothing e h) = absurd (busy e)
-    by (turn t) =
-        let a = t.led in
-        let l = a.led.led in
-        record {
-          words = a.words;
-          mid = a.mid;
-          given = a.given;
-          first = l.first;
-          last = l.last;
-          asked = l.asked;
-          take_none = l.take_none;
-          stops = l.stops;
-          sized = l.sized;
-          told = turn_told (seen old).wires (seen new) l.last.ask l.left same l.is_end;
-          within = (turn_end was full gave host host_after old (seen new) went same led t).inside;
-          wires = wires;
-          flags = l.flags_are;
-          labels = a.led.ran.labels;
-          history = a.led.ran.history;
-          turn = turn_steps old new _ a.words went (given_words gave _ host a.mid a.words a.given) (given_length gave _ host a.mid a.words a.given) same a.led;
-          delivery = λ s packet trace asked token. absurd (cc (token.0.is_here, t.not_delivering));
-          wait = λ s pages packet trace asked token. absurd (cc (token.0.is_here, t.not_waiting));
-        }
-    by (delivery t) =
-        let a = t.led in
-        let l = a.led in
-        record {
-          words = a.words;
-          mid = a.mid;
-          given = a.given;
-          first = l.first;
-          last = l.last;
-          asked = l.asked;
-          take_none = l.take_none;
-          stops = l.stops;
-          sized = l.sized;
-          told = delivery_told (seen old).wires (seen old).work.packet (seen new) l.last.ask l.left same l.is_end;
-          within = (delivery_end was full gave host host_after old (seen new) went same led t).inside;
-          wires = wires;
-          flags = l.flags_are ∙ sym (t.flags a.words);
-          labels = [];
-          history = t.counters;
-          turn = λ s trace asked token. absurd (cc (token.is_here, t.not_turning));
-          delivery = λ s packet trace asked token.
-              (delivery_steps old new old.engine.flags a.words (given_words gave _ host a.mid a.words a.given) (given_length gave _ host a.mid a.words a.given) same l s packet trace asked token, none t.counters);
-          wait = λ s pages packet trace asked token. absurd (cc (token.0.is_here, t.not_waiting));
-        }
-    by (wait t) =
-        let a = t.led in
-        let l = a.led in
-        record {
-          words = a.words;
-          mid = a.mid;
-          given = a.given;
-          first = l.first;
-          last = l.last;
-          asked = l.asked;
-          take_none = l.take_none;
-          stops = l.stops;
-          sized = l.sized;
-          told = wait_told (seen old).wires (seen old).work.packet (seen new) l.last.ask l.left same l.is_end;
-          within = (wait_end was full gave host host_after old (seen new) went same led t).inside;
-          wires = wires;
-          flags = l.flags_are ∙ sym (t.flags a.words);
-          labels = [];
-          history = t.counters;
-          turn = λ s trace asked token. absurd (cc (token.is_here, t.not_turning));
-          delivery = λ s packet trace asked token. absurd (cc (token.0.is_here, t.not_delivering));
-          wait = λ s pages packet trace asked token.
-              (wait_steps old new old.engine.flags a.words (given_words gave _ host a.mid a.words a.given) (given_length gave _ host a.mid a.words a.given) same l s pages packet trace asked token, none t.counters);
-        }
+stepped old new went same none wires led busy =
+    let d = stepped_at (seen old) (seen new) (stands old) went same none (ap (λ (w : OwnedWiring). wiring_of w) wires) led busy in
+    record {
+      words = d.words;
+      mid = d.mid;
+      given = d.given;
+      first = d.first;
+      last = d.last;
+      asked = d.asked;
+      take_none = d.take_none;
+      stops = d.stops;
+      sized = d.sized;
+      told = d.told;
+      within = d.within;
+      wires = wires;
+      flags = d.flags;
+      labels = d.labels;
+      history = d.history;
+      turn = d.turn;
+      delivery = d.delivery;
+      wait = d.wait;
+    }
 
 -- what is known of its operations, and of a step without one, in other words
 pub stepped_also : {H : Type 0} {was : H → Ask → List ℕ → H → Type 0} {full : H → Type 0} {gave : H → List ℕ → H → Type 0} {host host_after : H} {went : List (Option Operation) → Type 0} {same : Type 0} {old new : Queue} (also : List (Option Operation) → Type 0) (also_same : Type 0) →
@@ -240,22 +75,8 @@ stepped_also also also_same f h d = record {
 
 -- ---- what is enough
 
-pub busy_at : (s : State) (g : Stage) → (g ≡ stage.Ready → ⊥) → between s g ≡ None
-busy_at s stage.Ready h = absurd (h refl)
-busy_at s stage.Announce h = refl
-busy_at s (stage.Slot left) h = refl
-busy_at s (stage.Entry i at) h = refl
-busy_at s (stage.Page i f frame) h = refl
-busy_at s (stage.Fill f p) h = refl
-busy_at s (stage.Respond a i) h = refl
-busy_at s (stage.Push at kind) h = refl
-busy_at s (stage.Notice at kind) h = refl
-busy_at s (stage.Deliver producer) h = refl
-busy_at s (stage.Wait pages) h = refl
-busy_at s (stage.WaitLook pages) h = refl
-
 pub not_ready : (q : Queue) → resting q ≡ None → q.engine.stage ≡ stage.Ready → ⊥
-not_ready q busy e = let rests = ap (λ (g : Stage). between q.engine.state g) e in cc (busy, rests)
+not_ready q busy e = not_ready_at (seen q) busy e
 
 pub not_few_at_seat : (q : Queue) (words : List ℕ) (ops : List Op) → 1024 ≤ length words → 1 ≤ length ops → resting q ≡ None → AreFewAtSeat q words ops → ⊥
 not_few_at_seat q words ops a c d (inl h) = absurd (omega (arith, a, h))
@@ -270,79 +91,21 @@ not_few q words counters ops a b c d (inr (inr (inr h))) = let none = subst (λ 
 
 -- ---- what begins
 
-first_led : (w : Wiring) (s : State) (producer : ℕ) → producer < 2 ^ 32 → (o : Option Halt) → s.halt ≡ o → LedBy (whole_turn w s) (first_read s.halt (Read (tx_word w.vif 0) producer)) (next (whole_turn w s) producer)
-first_led w s producer small o e =
-    subst (λ (x : Option Halt). LedBy (turn_by w s x) (first_read x (Read (tx_word w.vif 0) producer)) (next (turn_by w s x) producer)) (sym e) (by o)
-  where
-    by : (x : Option Halt) → LedBy (turn_by w s x) (first_read x (Read (tx_word w.vif 0) producer)) (next (turn_by w s x) producer)
-    by None = (next (turn_by w s None) producer, (producer, (small, refl), refl), refl)
-    by (Some cause) = refl
-
-module _ {H : Type 0} {was : H → Ask → List ℕ → H → Type 0} {full : H → Type 0} {host host_after : H} (old : Queue) (engine : EngineAt) (producer : ℕ) (small : producer < 2 ^ 32) (same : engine.wires ≡ (seen old).wires)
-    (l : TurnLeads was full no_flags (next (whole_turn (wiring old) old.engine.state) producer) engine host host_after) where
-  -- what is left of a turn that begins ends
-  begins : Ended (length (seen old).wires.vif.owners.now) engine (l.first ++ l.last ∷ [])
-  begins =
-      let w = wiring old in
-      let s = old.engine.state in
-      let whole = whole_turn w s in
-      let c = finishes_gone (may_want w) whole (next whole producer) (first_read s.halt (Read (tx_word w.vif 0) producer)) (old.turns s) (first_led w s producer small s.halt refl) in
-      turn_ended (seen old).wires no_flags (next whole producer) engine same l c
-
-  pub begun_stands : Stands engine
-  begun_stands =
-      let x = wires_stand old engine.wires same in
-      record { fits = l.fits; wired = x.0; turns = x.1; left = begins.task }
-
 pub begun : {H : Type 0} {was : H → Ask → List ℕ → H → Type 0} {full : H → Type 0} {host host_after : H} (old new : Queue) (producer : ℕ) → producer < 2 ^ 32 → wired_to new ≡ wired_to old → new.share ≡ old.share →
     TurnLeads was full no_flags (next (whole_turn (wiring old) old.engine.state) producer) (seen new) host host_after → BeginsOver was full old new producer host host_after
 begun old new producer small wires share l =
-    let same : (seen new).wires ≡ (seen old).wires = ap (λ (w : OwnedWiring). wiring_of w) wires in
-    let w = wiring old in
-    let s = old.engine.state in
-    let whole = whole_turn w s in
-    let reads = first_read s.halt (Read (tx_word w.vif 0) producer) in
-    let did = events_of (l.first ++ l.last ∷ []) in
-    let g = gone_append whole (next whole producer) l.left reads did (first_led w s producer small s.halt refl) l.gone in
+    let d = begun_at (seen old) (seen new) (stands old) producer small (ap (λ (w : OwnedWiring). wiring_of w) wires) l in
     record {
-      first = l.first;
-      last = l.last;
-      asked = l.asked;
-      take_none = l.take_none;
-      stops = l.stops;
-      sized = l.sized;
-      told = turn_told (seen old).wires (seen new) l.last.ask l.left same l.is_end;
-      within = (begins old (seen new) producer small same l).inside;
+      first = d.first;
+      last = d.last;
+      asked = d.asked;
+      take_none = d.take_none;
+      stops = d.stops;
+      sized = d.sized;
+      told = d.told;
+      within = d.within;
       wires = wires;
       share = share;
-      flags = l.flags_are;
-      turn = turn_goes new s (reads ++ did) l.last.ask l.left (subst (λ (x : Wiring). LedBy (whole_turn x s) (reads ++ did) l.left) (sym same) g) l.is_end;
+      flags = d.flags;
+      turn = d.turn;
     }
-
-delivery_led : (w : Vif) (s : State) (packet : List ℕ) (producer : ℕ) → producer < 2 ^ 32 → is_frame packet ≡ true → LedBy (whole_delivery w s packet) (first_read s.halt (Read (rx_word w 0) producer)) (next (delivery_by w s packet s.halt) producer)
-delivery_led w s packet producer small frame =
-    subst (λ (b : Bool). LedBy (if_frame w s packet b) (first_read s.halt (Read (rx_word w 0) producer)) (next (delivery_by w s packet s.halt) producer)) (sym frame) (by s.halt)
-  where
-    by : (x : Option Halt) → LedBy (delivery_by w s packet x) (first_read x (Read (rx_word w 0) producer)) (next (delivery_by w s packet x) producer)
-    by None = (next (delivery_by w s packet None) producer, (producer, (small, refl), refl), refl)
-    by (Some cause) = refl
-
--- a delivery of this packet is to begin
-pub delivery_stands : (old : Queue) (producer : ℕ) (b : WorkAt) → producer < 2 ^ 32 → is_frame b.packet ≡ true → Stands (record (seen old) { stage = stage.Deliver producer; work = b })
-delivery_stands old producer b small frame =
-    let e = seen old in
-    let w = e.wires.vif in
-    let whole = whole_delivery w e.state b.packet in
-    let rest = next (delivery_by w e.state b.packet e.state.halt) producer in
-    record {
-      fits = frame;
-      wired = old.wired;
-      turns = old.turns;
-      left = finishes_gone (IsPageWant (length e.wires.vif.owners.now)) whole rest (first_read e.state.halt (Read (rx_word w 0) producer)) (arrives w e.state b.packet old.wired) (delivery_led w e.state b.packet producer small frame);
-    }
-
--- a wait is to begin
-pub wait_stands : (old : Queue) (pages : ℕ) → Stands (record (seen old) { stage = stage.Wait pages })
-wait_stands old pages =
-    let e = seen old in
-    record { fits = tt; wired = old.wired; turns = old.turns; left = wait_ends (length e.wires.vif.owners.now) e.wires.vif.rx e.state pages (frame_inside e.wires.vif e.wires.vif.rx old.wired.rx) }

@@ -16,10 +16,9 @@ use Rattle.xen_steps.proofs.FinishLemmas.{finishes_gone, finishes_next, finishes
 use Rattle.xen_turns.specs.Within.{IsWithin}
 use Rattle.xen_host.specs.Asks.{AllInPages, AllSized, Ask, IsInPages, IsSized, TakeNone, did_by, read_by, reads_at, takes_none, writes_at}
 use Rattle.xen_host.specs.Asks as ask
-use Rattle.xen_host.specs.Buses.{IsHeld}
+use Rattle.xen_host.specs.Buses.{AllHeld, IsHeld}
 use Rattle.xen_host.specs.Fed.{AsksReads, WaitsFor, fed}
 use Rattle.xen_host.specs.Hosts.{Asked, asks_of, events_of}
-use Rattle.xen_host.specs.Over.{AllHeld}
 use Rattle.xen_host.proofs.HostLedLemmas.{gone_split}
 
 -- as many as there are

@@ -24,9 +24,9 @@ use Rattle.xen_host.specs.Fed.{WaitsFor, fed}
 use Rattle.xen_host.specs.HostLed.{DeliveryLeads, TurnRanLeads, WaitLeads}
 use Rattle.xen_host.specs.Hosts.{events_of}
 use Rattle.xen_host.specs.Led.{DeliveryEnds, IsOn, TurnEnds, WaitEnds}
-use Rattle.xen_host.specs.Queues.{DeliveryGoesOn, IsDelivering, IsTurning, IsUnderWay, IsWaiting, TurnGoesOn, WaitGoesOn, WaitsForSome, between, packet_in, packet_of, read_by_some, resting, wiring, seen}
+use Rattle.xen_host.specs.EngineAt.{EngineAt}
+use Rattle.xen_host.specs.UnderWay.{DeliveryGoesAt, IsDeliveringAt, IsTurningAt, IsUnderWay, IsWaitingAt, TurnGoesAt, WaitGoesAt, WaitsForSome, between, packet_at, packet_in, read_by_some, resting_at}
 use Rattle.xen_host.specs.Rest.{reads_in, rest_in, rest_of_delivery, rest_of_wait}
-use Rattle.xen_host.specs.declared.queue.Queue.{Queue}
 use Rattle.xen_host.specs.declared.stage.Stage.{Stage}
 use Rattle.xen_host.specs.declared.stage.Stage.TheVariants as stage
 use Rattle.xen_turns.specs.declared.wiring.Wiring.{Wiring}
@@ -40,19 +40,19 @@ under_way {A} whole rest left reads here t last g on = record {
   is_here = on.is_here;
 }
 
-packet_there : (q : Queue) → q.engine.stage ≡ stage.Ready → packet_of q ≡ (seen q).work.packet
-packet_there q e = ap (λ (x : Stage). packet_in x (seen q).work.packet) e
+pub packet_there : (q : EngineAt) → q.stage ≡ stage.Ready → packet_at q ≡ q.work.packet
+packet_there q e = ap (λ (x : Stage). packet_in x q.work.packet) e
 
-rests : (q : Queue) → q.engine.stage ≡ stage.Ready → resting q ≡ Some q.engine.state
-rests q e = ap (λ (x : Stage). between q.engine.state x) e
+pub rests : (q : EngineAt) → q.stage ≡ stage.Ready → resting_at q ≡ Some q.state
+rests q e = ap (λ (x : Stage). between q.state x) e
 
-pub turn_goes : (q : Queue) (s : State) (t : List Event) (last : Ask) (left : Steps Ending) → LedBy (whole_turn (wiring q) s) t left → TurnEnds (seen q) last left → TurnGoesOn q last s t
+pub turn_goes : (q : EngineAt) (s : State) (t : List Event) (last : Ask) (left : Steps Ending) → LedBy (whole_turn q.wires s) t left → TurnEnds q last left → TurnGoesAt q last s t
 turn_goes q s t (ask.TurnOver k) left g e =
-    let after : Ending = (q.engine.state, turned k (seen q).work.packet) in
-    let row : IsTurn (wiring q) s t q.engine.state (turned k (seen q).work.packet) =
-    turn_parts (wiring q) s t q.engine.state (turned k (seen q).work.packet) (runs_of_gone (whole_turn (wiring q) s) left t after g e.over) in
+    let after : Ending = (q.state, turned k q.work.packet) in
+    let row : IsTurn q.wires s t q.state (turned k q.work.packet) =
+    turn_parts q.wires s t q.state (turned k q.work.packet) (runs_of_gone (whole_turn q.wires s) left t after g e.over) in
     let packet = packet_there q e.ready in
-    (subst (λ p. IsTurn (wiring q) s t q.engine.state (turned k p)) (sym packet) row, rests q e.ready, λ n. packet ∙ e.packet n)
+    (subst (λ p. IsTurn q.wires s t q.state (turned k p)) (sym packet) row, rests q e.ready, λ n. packet ∙ e.packet n)
 turn_goes q s t (ask.Read at count) left g e = under_way _ _ left _ _ t (ask.Read at count) g e
 turn_goes q s t (ask.Entry at reference rights) left g e = under_way _ _ left _ _ t (ask.Entry at reference rights) g e
 turn_goes q s t (ask.Write at count) left g e = under_way _ _ left _ _ t (ask.Write at count) g e
@@ -63,9 +63,9 @@ turn_goes q s t (ask.Notify port) left g e = under_way _ _ left _ _ t (ask.Notif
 turn_goes q s t (ask.DeliveryOver what) left g e = under_way _ _ left _ _ t (ask.DeliveryOver what) g e
 turn_goes q s t (ask.WaitOver what) left g e = under_way _ _ left _ _ t (ask.WaitOver what) g e
 
-pub delivery_goes : (q : Queue) (s : State) (packet : List ℕ) (t : List Event) (last : Ask) (left : Steps Arrival) → LedBy (whole_delivery (wiring q).vif s packet) t left → DeliveryEnds packet (seen q) last left → DeliveryGoesOn q last s packet t
+pub delivery_goes : (q : EngineAt) (s : State) (packet : List ℕ) (t : List Event) (last : Ask) (left : Steps Arrival) → LedBy (whole_delivery q.wires.vif s packet) t left → DeliveryEnds packet q last left → DeliveryGoesAt q last s packet t
 delivery_goes q s packet t (ask.DeliveryOver what) left g e =
-    let row = delivery_rows (wiring q) s packet t q.engine.state what (runs_of_gone (whole_delivery (wiring q).vif s packet) left t (q.engine.state, what) g e.0) in
+    let row = delivery_rows q.wires s packet t q.state what (runs_of_gone (whole_delivery q.wires.vif s packet) left t (q.state, what) g e.0) in
     (row, rests q e.1, packet_there q e.1 ∙ e.2)
 delivery_goes q s packet t (ask.Read at count) left g e = (under_way _ _ left _ _ t (ask.Read at count) g e.0, e.1)
 delivery_goes q s packet t (ask.Entry at reference rights) left g e = (under_way _ _ left _ _ t (ask.Entry at reference rights) g e.0, e.1)
@@ -77,9 +77,9 @@ delivery_goes q s packet t (ask.Notify port) left g e = (under_way _ _ left _ _ 
 delivery_goes q s packet t (ask.TurnOver k) left g e = (under_way _ _ left _ _ t (ask.TurnOver k) g e.0, e.1)
 delivery_goes q s packet t (ask.WaitOver what) left g e = (under_way _ _ left _ _ t (ask.WaitOver what) g e.0, e.1)
 
-pub wait_goes : (q : Queue) (s : State) (pages : ℕ) (packet : List ℕ) (t : List Event) (last : Ask) (left : Steps Wait) → LedBy (whole_wait (seen q).wires.vif.rx s pages) t left → WaitEnds packet (seen q) last left → WaitGoesOn q last s pages packet t
+pub wait_goes : (q : EngineAt) (s : State) (pages : ℕ) (packet : List ℕ) (t : List Event) (last : Ask) (left : Steps Wait) → LedBy (whole_wait q.wires.vif.rx s pages) t left → WaitEnds packet q last left → WaitGoesAt q last s pages packet t
 wait_goes q s pages packet t (ask.WaitOver what) left g e =
-    let row = wait_rows (wiring q) s pages t q.engine.state what (runs_of_gone (whole_wait (seen q).wires.vif.rx s pages) left t (q.engine.state, what) g e.0) in
+    let row = wait_rows q.wires s pages t q.state what (runs_of_gone (whole_wait q.wires.vif.rx s pages) left t (q.state, what) g e.0) in
     (row, rests q e.1, packet_there q e.1 ∙ e.2)
 wait_goes q s pages packet t (ask.Read at count) left g e = (under_way _ _ left _ _ t (ask.Read at count) g e.0, e.1)
 wait_goes q s pages packet t (ask.Entry at reference rights) left g e = (under_way _ _ left _ _ t (ask.Entry at reference rights) g e.0, e.1)
@@ -97,47 +97,47 @@ some_led None n s words b e w = waits_led (ask.Notify 0) n s words b e w
 some_led (Some a) n s words b e w = waits_led a n s words b e w
 
 -- A step of a turn.
-pub turn_steps : {H : Type 0} {was : H → Ask → List ℕ → H → Type 0} {full : H → Type 0} {host host_after : H} (old new : Queue) (flags : TxFlags) (words : List ℕ) (went : List (Option Operation) → Type 0) → AreWords words → length words ≡ reads_in old.engine.stage →
-    (seen new).wires ≡ (seen old).wires → (h : TurnRanLeads was full flags (fed (rest_in (wiring old) old.engine.state old.engine.stage (seen old).work) words) (seen new) went host host_after) →
-    (s : State) (trace : List Event) (asked : Ask) → IsTurning old s trace asked →
-    TurnGoesOn new h.led.last.ask s (trace ++ (read_by asked words ++ (map event_of h.ran.labels ++ events_of (h.led.first ++ h.led.last ∷ []))))
+pub turn_steps : {H : Type 0} {was : H → Ask → List ℕ → H → Type 0} {full : H → Type 0} {host host_after : H} (old new : EngineAt) (flags : TxFlags) (words : List ℕ) (went : List (Option Operation) → Type 0) → AreWords words → length words ≡ reads_in old.stage →
+    new.wires ≡ old.wires → (h : TurnRanLeads was full flags (fed (rest_in old.wires old.state old.stage old.work) words) new went host host_after) →
+    (s : State) (trace : List Event) (asked : Ask) → IsTurningAt old s trace asked →
+    TurnGoesAt new h.led.last.ask s (trace ++ (read_by asked words ++ (map event_of h.ran.labels ++ events_of (h.led.first ++ h.led.last ∷ []))))
 turn_steps old new flags words went below n same h s trace asked token =
-    let e = seen old in
-    let rest = rest_in (wiring old) e.state e.stage e.work in
+    let e = old in
+    let rest = rest_in old.wires e.state e.stage e.work in
     let did = events_of (h.led.first ++ h.led.last ∷ []) in
     let ran = map event_of h.ran.labels in
     let t = trace ++ (read_by asked words ++ (ran ++ did)) in
-    let g = gone_append (whole_turn (wiring old) s) rest h.led.left trace (read_by asked words ++ (ran ++ did)) token.gone
+    let g = gone_append (whole_turn old.wires s) rest h.led.left trace (read_by asked words ++ (ran ++ did)) token.gone
     (gone_append rest (fed rest words) h.led.left (read_by asked words) (ran ++ did) (waits_led asked (reads_in e.stage) rest words below n token.waits)
     (gone_append (fed rest words) h.between h.led.left ran did h.ran.gone h.led.gone)) in
     turn_goes new s t h.led.last.ask h.led.left (subst (λ (x : Wiring). LedBy (whole_turn x s) t h.led.left) (sym same) g) h.led.is_end
 
 -- A step of a delivery.
-pub delivery_steps : {H : Type 0} {was : H → Ask → List ℕ → H → Type 0} {full : H → Type 0} {host host_after : H} (old new : Queue) (flags : TxFlags) (words : List ℕ) → AreWords words → length words ≡ reads_in old.engine.stage →
-    (seen new).wires ≡ (seen old).wires → (h : DeliveryLeads was full flags (seen old).work.packet (fed (rest_of_delivery (wiring old).vif old.engine.state old.engine.stage (seen old).work) words) (seen new) host host_after) →
-    (s : State) (packet : List ℕ) (trace : List Event) (asked : Option Ask) → IsDelivering old s packet trace asked →
-    DeliveryGoesOn new h.last.ask s packet (trace ++ (read_by_some asked words ++ events_of (h.first ++ h.last ∷ [])))
+pub delivery_steps : {H : Type 0} {was : H → Ask → List ℕ → H → Type 0} {full : H → Type 0} {host host_after : H} (old new : EngineAt) (flags : TxFlags) (words : List ℕ) → AreWords words → length words ≡ reads_in old.stage →
+    new.wires ≡ old.wires → (h : DeliveryLeads was full flags old.work.packet (fed (rest_of_delivery old.wires.vif old.state old.stage old.work) words) new host host_after) →
+    (s : State) (packet : List ℕ) (trace : List Event) (asked : Option Ask) → IsDeliveringAt old s packet trace asked →
+    DeliveryGoesAt new h.last.ask s packet (trace ++ (read_by_some asked words ++ events_of (h.first ++ h.last ∷ [])))
 delivery_steps old new flags words below n same h s packet trace asked token =
-    let e = seen old in
-    let rest = rest_of_delivery (wiring old).vif e.state e.stage e.work in
+    let e = old in
+    let rest = rest_of_delivery old.wires.vif e.state e.stage e.work in
     let did = events_of (h.first ++ h.last ∷ []) in
     let t = trace ++ (read_by_some asked words ++ did) in
-    let g = gone_append (whole_delivery (wiring old).vif s packet) rest h.left trace (read_by_some asked words ++ did) token.0.gone
+    let g = gone_append (whole_delivery old.wires.vif s packet) rest h.left trace (read_by_some asked words ++ did) token.0.gone
     (gone_append rest (fed rest words) h.left (read_by_some asked words) did (some_led asked (reads_in e.stage) rest words below n token.0.waits) h.gone) in
     delivery_goes new s packet t h.last.ask h.left (subst (λ (x : Wiring). LedBy (whole_delivery x.vif s packet) t h.left) (sym same) g)
-    (subst (λ p. DeliveryEnds p (seen new) h.last.ask h.left) token.1 h.is_end)
+    (subst (λ p. DeliveryEnds p new h.last.ask h.left) token.1 h.is_end)
 
 -- A step of a wait.
-pub wait_steps : {H : Type 0} {was : H → Ask → List ℕ → H → Type 0} {full : H → Type 0} {host host_after : H} (old new : Queue) (flags : TxFlags) (words : List ℕ) → AreWords words → length words ≡ reads_in old.engine.stage →
-    (seen new).wires ≡ (seen old).wires → (h : WaitLeads was full flags (seen old).work.packet (fed (rest_of_wait (seen old).wires.vif.rx old.engine.state old.engine.stage) words) (seen new) host host_after) →
-    (s : State) (pages : ℕ) (packet : List ℕ) (trace : List Event) (asked : Option Ask) → IsWaiting old s pages packet trace asked →
-    WaitGoesOn new h.last.ask s pages packet (trace ++ (read_by_some asked words ++ events_of (h.first ++ h.last ∷ [])))
+pub wait_steps : {H : Type 0} {was : H → Ask → List ℕ → H → Type 0} {full : H → Type 0} {host host_after : H} (old new : EngineAt) (flags : TxFlags) (words : List ℕ) → AreWords words → length words ≡ reads_in old.stage →
+    new.wires ≡ old.wires → (h : WaitLeads was full flags old.work.packet (fed (rest_of_wait old.wires.vif.rx old.state old.stage) words) new host host_after) →
+    (s : State) (pages : ℕ) (packet : List ℕ) (trace : List Event) (asked : Option Ask) → IsWaitingAt old s pages packet trace asked →
+    WaitGoesAt new h.last.ask s pages packet (trace ++ (read_by_some asked words ++ events_of (h.first ++ h.last ∷ [])))
 wait_steps old new flags words below n same h s pages packet trace asked token =
-    let e = seen old in
+    let e = old in
     let rest = rest_of_wait e.wires.vif.rx e.state e.stage in
     let did = events_of (h.first ++ h.last ∷ []) in
     let t = trace ++ (read_by_some asked words ++ did) in
     let g = gone_append (whole_wait e.wires.vif.rx s pages) rest h.left trace (read_by_some asked words ++ did) token.0.gone
     (gone_append rest (fed rest words) h.left (read_by_some asked words) did (some_led asked (reads_in e.stage) rest words below n token.0.waits) h.gone) in
     wait_goes new s pages packet t h.last.ask h.left (subst (λ (x : Wiring). LedBy (whole_wait x.vif.rx s pages) t h.left) (sym same) g)
-    (subst (λ p. WaitEnds p (seen new) h.last.ask h.left) token.1 h.is_end)
+    (subst (λ p. WaitEnds p new h.last.ask h.left) token.1 h.is_end)

@@ -6,7 +6,8 @@ use Rattle.xen_steps.specs.Event.{Event, Read, Write, Instr, Load, Add, Notify}
 use Rattle.xen_host.specs.Asks.{AllSized, Ask, IsSized, did_by, read_by}
 use Rattle.xen_host.specs.Asks as ask
 use Rattle.xen_host.specs.Loops.{AreSteps, IsStep}
-use Rattle.xen_host.specs.Queues.{read_by_some, resting}
+use Rattle.xen_host.specs.Queues.{resting}
+use Rattle.xen_host.specs.UnderWay.{read_by_some}
 use Rattle.xen_host.specs.declared.queue.Queue.{Queue}
 
 -- ---- what events weigh: one for each access, and one for each notice

@@ -150,3 +150,10 @@ IsInPages frames a = Unit {0}
 abbrev pub AllInPages : ℕ → List Ask → Type 0
 AllInPages frames [] = Unit {0}
 AllInPages frames (a ∷ more) = IsInPages frames a × AllInPages frames more
+
+-- A turn, a delivery or a wait is over.
+abbrev pub is_over : Ask → Bool
+is_over (TurnOver kind) = true
+is_over (DeliveryOver what) = true
+is_over (WaitOver what) = true
+is_over a = false

@@ -10,6 +10,7 @@ use Rattle.xen_steps.specs.Drive.{accesses}
 use Rattle.xen_steps.specs.Pages.{AreWords}
 use Rattle.xen_steps.specs.Places.{page_word}
 use Rattle.xen_host.specs.Asks.{Ask, DeliveryOver, Entry, IsInPages, Push, Read, TurnOver, WaitOver, Write, did_by, reads_at}
+use Rattle.xen_host.specs.Hosts.{Asked}
 use Rattle.xen_host.specs.declared.over_bus.Over.{Over}
 use Rattle.xen_host.specs.declared.over_bus.Over.TheVariants as over
 use Rattle.xen_host.specs.declared.over_bus.OverBus.{OverBus}
@@ -60,6 +61,11 @@ IsDueAt a due = Unit {0}
 abbrev pub IsHeld : Ask → List ℕ → Type 0
 IsHeld (Write at count) words = length words ≡ count
 IsHeld a words = Unit {0}
+
+-- Each WRITE has as many words as it says.
+abbrev pub AllHeld : List Asked → Type 0
+AllHeld [] = Unit {0}
+AllHeld (a ∷ more) = IsHeld a.ask a.words × AllHeld more
 
 -- What was asked was done, if its words are in the bus's pages, and its answer is due.
 pub record IsMade {B : Type 0} (log : B → Option (List Access)) (gives : B → Access → B → Type 0) (size : B → ℕ) (old : OverBus B) (a : Ask)

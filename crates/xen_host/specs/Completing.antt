@@ -1,4 +1,4 @@
--- For proofs: no claim rests on this file.
+-- Stated: claims rest on this file.
 -- What a queue is about comes to its end.
 use Rattle.std.specs.Prelude.{length}
 use Rattle.xen_steps.specs.Drive.{IsPageWant, IsPageWant-prop}

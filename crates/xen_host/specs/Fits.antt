@@ -1,4 +1,4 @@
--- For proofs: no claim rests on this file.
+-- Stated: claims rest on this file.
 -- What holds of the work at each stage.
 use Rattle.std.specs.Prelude.{ℕ, ◌≡◌, ◌≢◌, ◌<◌, ◌≤◌, ◌+◌, true, length, drop, sum_by, IsTrue, Ok, Some}
 use Rattle.std.proofs.Props.{props}

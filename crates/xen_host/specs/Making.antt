@@ -1,7 +1,7 @@
 -- Stated: claims rest on this file.
 -- Making a queue of numbers.
 use Rattle.std.specs.Prelude.{ℕ, ◌≡◌, ◌≢◌, ◌<◌, ◌≤◌, List, [], Option, None, Some, Contains, length, slice_get}
-use Rattle.bpf_lists.specs.Keys.{Keyed}
+use Rattle.bpf_lists.specs.declared.list.MapList.{MapList}
 use Rattle.bpf_verify.specs.Consistent.{Accepted}
 use Rattle.xen_page.specs.Table.{IsTable}
 use Rattle.xen_page.specs.declared.owners.OwnersFault.{OwnersFault}
@@ -67,7 +67,7 @@ pub record AreRings (g : Given) : Type 0 where
   pub rx : IsRing g g.rx
 
 -- Each part is what was given, within its limits.
-pub record IsWiredTo (program : Accepted) (lists : List (Option Keyed)) (g : Given) (w : OwnedWiring) : Type 0 where
+pub record IsWiredTo (program : Accepted) (lists : List (Option MapList)) (g : Given) (w : OwnedWiring) : Type 0 where
   pub tx : w.tx ≡ g.tx
   pub rx : w.rx ≡ g.rx
   pub table : w.table ≡ g.table
@@ -86,7 +86,7 @@ pub record IsWiredTo (program : Accepted) (lists : List (Option Keyed)) (g : Giv
   pub domains : g.granter ≢ g.user
 
 -- A queue between turns of these parts, with no packet.
-pub record IsMadeOf (program : Accepted) (lists : List (Option Keyed)) (g : Given) (q : Queue) : Type 0 where
+pub record IsMadeOf (program : Accepted) (lists : List (Option MapList)) (g : Given) (q : Queue) : Type 0 where
   pub wires : IsWiredTo program lists g (wired_to q)
   pub state : resting q ≡ Some (record { tx_index = g.tx_index; rx_index = g.rx_index; halt = None })
   pub packet : packet_of q ≡ []

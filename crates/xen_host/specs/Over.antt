@@ -10,17 +10,13 @@ use Rattle.xen_rx_fill.specs.Places.{tx_word}
 use Rattle.xen_turns.specs.Program.{event_of}
 use Rattle.xen_turns.specs.declared.state.State.{State}
 use Rattle.xen_host.specs.Asks.{AllInPages, AllSized, Ask, TakeNone, needs_no_answer, read_by}
-use Rattle.xen_host.specs.Buses.{IsHeld}
+use Rattle.xen_host.specs.Buses.{AllHeld}
 use Rattle.xen_host.specs.Hosts.{Asked, WasAskedAll, WasGiven, asks_of, events_of}
-use Rattle.xen_host.specs.Queues.{DeliveryGoesOn, IsDelivering, IsTurning, IsWaiting, TurnGoesOn, WaitGoesOn, first_read, read_by_some, seen, wired_to, wiring}
+use Rattle.xen_host.specs.Queues.{DeliveryGoesOn, IsDelivering, IsTurning, IsWaiting, TurnGoesOn, WaitGoesOn, seen, wired_to, wiring}
+use Rattle.xen_host.specs.UnderWay.{first_read, read_by_some}
 use Rattle.xen_host.specs.Rest.{flags_after, no_flags, reads_in}
 use Rattle.xen_host.specs.Told.{IsToldAt}
 use Rattle.xen_host.specs.declared.queue.Queue.{Queue}
-
--- Each WRITE has as many words as it says.
-abbrev pub AllHeld : List Asked → Type 0
-AllHeld [] = Unit {0}
-AllHeld (a ∷ more) = IsHeld a.ask a.words × AllHeld more
 
 -- A turn has begun between two, with what was read of the tx producer.
 pub record BeginsOver {H : Type 0} (was : H → Ask → List ℕ → H → Type 0) (full : H → Type 0) (old new : Queue) (producer : ℕ)

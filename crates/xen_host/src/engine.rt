@@ -10,7 +10,7 @@ ghost use Rattle.xen_host.specs.HostLed.{TurnLeads};
 ghost use Rattle.xen_host.specs.Led.{packet_after};
 
 use crate::host::Host;
-use crate::packet::Packet;
+use crate::room::Room;
 use crate::stage::Stage;
 use crate::work::Work;
 use xen_netif::TxFlags;
@@ -30,8 +30,8 @@ pub struct Engine {
 
 /// Keeps the packet of a turn that is over if the program ran on it and the guest was told so.
 #[inline(always)]
-fn keep_packet(kind: &Kind, packet: &mut Packet)
-    ensures { packet.new ≡ packet_after kind.now packet.old }
+fn keep_packet<R: Room>(kind: &Kind, packet: &mut R)
+    ensures { R.held packet.new ≡ packet_after kind.now (R.held packet.old) }
 {
     match kind {
         Kind::Ran { .. } => {}
@@ -42,16 +42,16 @@ fn keep_packet(kind: &Kind, packet: &mut Packet)
 impl Engine {
     /// A turn is over. Its packet stays if the program ran on it and the guest was told so.
     #[inline(always)]
-    pub(crate) fn end<H: Host>(
+    pub(crate) fn end<H: Host, R: Room>(
         &mut self,
         after: State,
         kind: Kind,
-        packet: &mut Packet,
+        packet: &mut R,
         host: &mut H,
     )
         requires { H.is_free host.old }
-        ensures led { (w : Wiring) → TurnLeads H.was_asked H.is_full self.old.flags (done (after, turned kind packet.old))
-            (engine_at w packet.new self.new) host.old host.new }
+        ensures led { (w : Wiring) → TurnLeads H.was_asked H.is_full self.old.flags (done (after, turned kind (R.held packet.old)))
+            (engine_at w (R.held packet.new) self.new) host.old host.new }
     {
         keep_packet(&kind, packet);
         self.state = after;
@@ -61,10 +61,10 @@ impl Engine {
 
     /// A turn halts.
     #[inline(never)]
-    pub(crate) fn halt<H: Host>(&mut self, cause: Halt, packet: &mut Packet, host: &mut H)
+    pub(crate) fn halt<H: Host, R: Room>(&mut self, cause: Halt, packet: &mut R, host: &mut H)
         requires { H.is_free host.old }
         ensures led { (w : Wiring) → TurnLeads H.was_asked H.is_full self.old.flags (halted_spec self.old.state cause)
-            (engine_at w packet.new self.new) host.old host.new }
+            (engine_at w (R.held packet.new) self.new) host.old host.new }
     {
         let after = halted(&self.state, cause);
         self.end(after, Kind::Halted { cause }, packet, host)

@@ -8,9 +8,9 @@ ghost use Rattle.xen_host.specs.Filling.{packet_words};
 ghost use Rattle.xen_host.specs.Hosts.{GavePage, IsFree, IsFresh, IsFull, IsPut, IsSameLoan, IsSettled, HasGiven};
 
 use crate::copying::push_words;
-use crate::filling::put_words;
 use crate::op::Op;
-use crate::packet::Packet;
+use crate::page_words::put_words;
+use crate::room::Room;
 use crate::words::are_words;
 use xen_netif::Fragment;
 use xen_page::{Place, Rights};
@@ -123,12 +123,12 @@ pub trait Host {
         ensures free { is_free self.new };
 
     /// Puts the bytes of a fragment, whose words were, after a packet's bytes.
-    fn page(&mut self, fragment: &Fragment, packet: &mut Packet)
+    fn page<R: Room>(&mut self, fragment: &Fragment, packet: &mut R)
         requires fresh { is_fresh self.old }
         requires in_page { IsTrue (is_in_page fragment.now) }
-        requires room { length packet.old + fragment.now.size ≤ 65535 }
-        ensures given { GavePage has_given fragment.now packet.old packet.new self.old self.new }
-        ensures length { length packet.new ≡ length packet.old + fragment.now.size }
+        requires room { length (R.held packet.old) + fragment.now.size ≤ 65535 }
+        ensures given { GavePage has_given fragment.now (R.held packet.old) (R.held packet.new) self.old self.new }
+        ensures length { length (R.held packet.new) ≡ length (R.held packet.old) + fragment.now.size }
         ensures fresh { is_fresh self.new }
         ensures free { is_free self.new };
 }
@@ -254,7 +254,7 @@ impl<'a> Host for Ops<'a> {
     }
 
     #[inline(always)]
-    fn page(&mut self, fragment: &Fragment, packet: &mut Packet) {
+    fn page<R: Room>(&mut self, fragment: &Fragment, packet: &mut R) {
         let covered = fragment.covered_words();
         let count = (covered.end - covered.start) as usize;
         let front = self.front(count);

@@ -11,7 +11,8 @@ ghost use Rattle.xen_host.specs.Buses.{HasRead, IsAlways, IsFilled, IsInBus, IsM
 
 use crate::host::Host;
 use crate::op::Op;
-use crate::packet::Packet;
+use crate::room::Room;
+use bpf_vm::Fill;
 use xen_netif::Fragment;
 use xen_page::{Bus, Place, Rights};
 use xen_ring::{Port, Ports};
@@ -136,21 +137,21 @@ impl<'a, 'p, B: Bus> OverBus<'a, 'p, B> {
     /// Puts a fragment's bytes in words of its page, from one place to another, after a packet's bytes. The next answer has the page's
     /// words from `start` on.
     #[inline(always)]
-    fn page_parts(
+    fn page_parts<R: Room>(
         &mut self,
         fragment: &Fragment,
         start: u32,
         from: u32,
         to: u32,
-        packet: &mut Packet,
+        packet: &mut R,
     )
         requires ordered { (start ≤ from) × (from ≤ to) }
         requires within { to ≤ 1024 }
         requires covers { (place : ℕ) → from ≤ place → place < to → Covers fragment.now place }
-        requires room { HasRoom (length packet.old) fragment.now from 0 }
-        ensures room { HasRoom (length packet.new) fragment.now to 0 }
+        requires room { HasRoom (length (R.held packet.old)) fragment.now from 0 }
+        ensures room { HasRoom (length (R.held packet.new)) fragment.now to 0 }
         ensures read { (words : List ℕ) × (length words ≡ to - from) × MayReadRun B.log B.access_gives B.size self.old (from - start) words
-            self.new × (packet.new ≡ packet.old ++ bytes_from fragment.now from words) }
+            self.new × ((R.held packet.new) ≡ R.held packet.old ++ bytes_from fragment.now from words) }
     {
         for place in from..to {
             let word = self.word_behind(place - start);
@@ -194,23 +195,37 @@ impl<'a, 'p, B: Bus> OverBus<'a, 'p, B> {
             self.bus.write(last, packet_word(bytes, from + whole));
         }
     }
-}
 
-impl Packet {
-    /// Puts `count` words of a host's next answer, from the k-th on, after the packet's bytes.
+    /// Puts `count` words of the next answer, from the k-th on, after a packet's bytes.
     #[inline(always)]
-    fn push_due<B: Bus>(&mut self, host: &mut OverBus<'_, '_, B>, k: u32, count: u32)
+    fn page_run<R: Room>(&mut self, k: u32, count: u32, packet: &mut R)
         requires page { k + count ≤ 1024 }
-        requires room { 0 < count → length self.old + 4 * count ≤ 65535 }
-        ensures { (words : List ℕ) × (length words ≡ count) × MayReadRun B.log B.access_gives B.size host.old k words host.new ×
-            (self.new ≡ self.old ++ bytes_of words) }
+        requires room { 0 < count → length (R.held packet.old) + 4 * count ≤ 65535 }
+        ensures { (words : List ℕ) × (length words ≡ count) × MayReadRun B.log B.access_gives B.size self.old k words self.new ×
+            (R.held packet.new ≡ R.held packet.old ++ bytes_of words) }
     {
         if count == 0 {
             return;
         }
-        let end = self.len + 4 * count as usize;
-        host.fill(k, count, &mut self.storage[self.len..end]);
-        self.len = end;
+        packet.push_from(4 * count as usize, &DueRun { k, count }, self);
+    }
+}
+
+/// Words of the next answer, from the k-th on.
+#[derive(Clone, Copy)]
+struct DueRun {
+    k: u32,
+    count: u32,
+}
+
+impl<'a, 'p, B: Bus> Fill<OverBus<'a, 'p, B>> for DueRun {
+    ghost fits = { λ run host count. (run.k + run.count ≤ 1024) × (count ≡ 4 * run.count) };
+
+    ghost fills = { λ run old bytes new. IsFilled B.log B.access_gives B.size old run.k run.count bytes new };
+
+    #[inline(always)]
+    fn fill(&self, source: &mut OverBus<'a, 'p, B>, room: &mut [u8]) {
+        source.fill(self.k, self.count, room)
     }
 }
 
@@ -323,12 +338,12 @@ impl<'a, 'p, B: Bus> Host for OverBus<'a, 'p, B> {
         [first, second, third]
     }
 
-    fn page(&mut self, fragment: &Fragment, packet: &mut Packet) {
+    fn page<R: Room>(&mut self, fragment: &Fragment, packet: &mut R) {
         let covered = fragment.covered_words();
         let whole = fragment.whole_words();
         let start = covered.start;
         self.page_parts(fragment, start, start, whole.start, packet);
-        packet.push_due(self, whole.start - start, whole.end - whole.start);
+        self.page_run(whole.start - start, whole.end - whole.start, packet);
         self.page_parts(fragment, start, whole.end, covered.end, packet);
     }
 }

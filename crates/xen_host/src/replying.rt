@@ -12,7 +12,7 @@ ghost use Rattle.xen_host.specs.Led.{beside};
 
 use crate::engine::Engine;
 use crate::host::Host;
-use crate::packet::Packet;
+use crate::room::Room;
 use crate::stage::{Fill, Purpose, Stage};
 use crate::wires::Wires;
 use xen_ring::{RSP_EVENT, RSP_PROD, due};
@@ -33,17 +33,17 @@ fn outcome_of(grants: Grants, used: u32) -> Outcome
 impl Engine {
     /// Says the i-th response.
     #[inline(always)]
-    fn say_reply<W: Wires, H: Host>(
+    fn say_reply<W: Wires, H: Host, R: Room>(
         &self,
         grants: Grants,
         i: u32,
         wires: &W,
-        packet: &Packet,
+        packet: &R,
         host: &mut H,
     )
         requires within { i < length self.now.work.targets }
         requires free { H.is_free host.old }
-        ensures asked { H.was_asked host.old (reply (W.wiring wires.now).vif self.now.state.rx_index packet.now grants
+        ensures asked { H.was_asked host.old (reply (W.wiring wires.now).vif self.now.state.rx_index (R.held packet.now) grants
             self.now.work.targets i) [] host.new }
         ensures settled { H.is_settled host.new }
     {
@@ -54,17 +54,17 @@ impl Engine {
 
     /// Says the responses from the i-th on, as far as there is room. Returns the first that is left, if there is no room before it.
     #[inline(always)]
-    fn say_replies<W: Wires, H: Host>(
+    fn say_replies<W: Wires, H: Host, R: Room>(
         &self,
         grants: Grants,
         from: u32,
         wires: &W,
-        packet: &Packet,
+        packet: &R,
         host: &mut H,
     ) -> Option<u32>
         requires within { from ≤ length self.now.work.targets }
         requires free { H.is_free host.old }
-        ensures { HasReplied H.was_asked H.is_free H.is_full (engine_at (W.wiring wires.now) packet.now self.now) grants from result
+        ensures { HasReplied H.was_asked H.is_free H.is_full (engine_at (W.wiring wires.now) (R.held packet.now) self.now) grants from result
             host.old host.new }
     {
         for i in from..self.work.targets.len() {
@@ -78,20 +78,20 @@ impl Engine {
 
     /// The responses from the i-th on, and the push, as far as there is room.
     #[inline(always)]
-    pub(crate) fn reply_from<W: Wires, H: Host>(
+    pub(crate) fn reply_from<W: Wires, H: Host, R: Room>(
         &mut self,
         purpose: Purpose,
         grants: Grants,
         from: u32,
         wires: &W,
-        packet: &Packet,
+        packet: &R,
         host: &mut H,
     )
         requires within { from ≤ length self.old.work.targets }
         requires free { H.is_free host.old }
-        ensures led { FillLeads H.was_asked H.is_full purpose (beside (engine_at (W.wiring wires.now) packet.now self.old))
-            (rx_answer (W.wiring wires.now).vif self.old.state.rx_index packet.now grants (length self.old.work.targets) from (drop
-            from self.old.work.targets)) (engine_at (W.wiring wires.now) packet.now self.new) host.old host.new }
+        ensures led { FillLeads H.was_asked H.is_full purpose (beside (engine_at (W.wiring wires.now) (R.held packet.now) self.old))
+            (rx_answer (W.wiring wires.now).vif self.old.state.rx_index (R.held packet.now) grants (length self.old.work.targets) from (drop
+            from self.old.work.targets)) (engine_at (W.wiring wires.now) (R.held packet.now) self.new) host.old host.new }
     {
         match self.say_replies(grants, from, wires, packet, host) {
             Some(i) => {
@@ -128,20 +128,20 @@ impl Engine {
 
     /// After the rx event index.
     #[inline(always)]
-    pub(crate) fn after_reply_event<W: Wires, H: Host>(
+    pub(crate) fn after_reply_event<W: Wires, H: Host, R: Room>(
         &mut self,
         purpose: Purpose,
         grants: Grants,
         event: u32,
         wires: &W,
-        packet: &mut Packet,
+        packet: &mut R,
         host: &mut H,
     )
         requires free { H.is_free host.old }
-        ensures led { FillLeads H.was_asked H.is_full purpose (beside (engine_at (W.wiring wires.now) packet.old self.old))
+        ensures led { FillLeads H.was_asked H.is_full purpose (beside (engine_at (W.wiring wires.now) (R.held packet.old) self.old))
             (rx_notice (W.wiring wires.now).vif (is_due self.old.state.rx_index (add32 self.old.state.rx_index (length
             self.old.work.targets)) event) (outcome_of grants (length self.old.work.targets))) (engine_at (W.wiring wires.now)
-            packet.new self.new) host.old host.new }
+            (R.held packet.new) self.new) host.old host.new }
     {
         let end = self.state.rx_index.wrapping_add(self.work.targets.len());
         if due(self.state.rx_index, end, event) {
@@ -153,18 +153,18 @@ impl Engine {
 
     /// A notice is due.
     #[inline(never)]
-    fn give_rx_notice<W: Wires, H: Host>(
+    fn give_rx_notice<W: Wires, H: Host, R: Room>(
         &mut self,
         purpose: Purpose,
         grants: Grants,
         wires: &W,
-        packet: &mut Packet,
+        packet: &mut R,
         host: &mut H,
     )
         requires free { H.is_free host.old }
-        ensures led { FillLeads H.was_asked H.is_full purpose (beside (engine_at (W.wiring wires.now) packet.old self.old))
+        ensures led { FillLeads H.was_asked H.is_full purpose (beside (engine_at (W.wiring wires.now) (R.held packet.old) self.old))
             (rx_notice (W.wiring wires.now).vif true (outcome_of grants (length self.old.work.targets))) (engine_at (W.wiring
-            wires.now) packet.new self.new) host.old host.new }
+            wires.now) (R.held packet.new) self.new) host.old host.new }
     {
         self.stage = Stage::Fill {
             fill: Fill::Notice { grants },
@@ -178,17 +178,17 @@ impl Engine {
 
     /// All is answered.
     #[inline(always)]
-    pub(crate) fn replied<W: Wires, H: Host>(
+    pub(crate) fn replied<W: Wires, H: Host, R: Room>(
         &mut self,
         purpose: Purpose,
         grants: Grants,
         wires: &W,
-        packet: &mut Packet,
+        packet: &mut R,
         host: &mut H,
     )
         requires free { H.is_free host.old }
-        ensures led { FillLeads H.was_asked H.is_full purpose (beside (engine_at (W.wiring wires.now) packet.old self.old)) (done
-            (outcome_of grants (length self.old.work.targets))) (engine_at (W.wiring wires.now) packet.new self.new) host.old
+        ensures led { FillLeads H.was_asked H.is_full purpose (beside (engine_at (W.wiring wires.now) (R.held packet.old) self.old)) (done
+            (outcome_of grants (length self.old.work.targets))) (engine_at (W.wiring wires.now) (R.held packet.new) self.new) host.old
             host.new }
     {
         let outcome = outcome_of(grants, self.work.targets.len());

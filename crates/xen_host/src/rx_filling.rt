@@ -21,7 +21,7 @@ ghost use Rattle.xen_host.specs.EngineAt.{engine_at, work_at};
 
 use crate::engine::Engine;
 use crate::host::Host;
-use crate::packet::Packet;
+use crate::room::Room;
 use crate::stage::{Fill, Purpose, Stage};
 use crate::wires::Wires;
 use crate::words::are_words;
@@ -33,19 +33,19 @@ use xen_steps::{requests_shown, rx_entry};
 impl Engine {
     /// After what it waited for.
     #[inline(always)]
-    pub(crate) fn after_fill<W: Wires, H: Host>(
+    pub(crate) fn after_fill<W: Wires, H: Host, R: Room>(
         &mut self,
         fill: Fill,
         purpose: Purpose,
         wires: &W,
-        packet: &mut Packet,
+        packet: &mut R,
         host: &mut H,
     )
-        requires fits { FillFits fill (work_at packet.old self.old.work) }
+        requires fits { FillFits fill (work_at (R.held packet.old) self.old.work) }
         requires fresh { H.is_fresh host.old }
         requires free { H.is_free host.old }
-        ensures led { FillGoesOn H.was_asked H.is_full H.has_given fill purpose (engine_at (W.wiring wires.now) packet.old self.old)
-            (engine_at (W.wiring wires.now) packet.new self.new) host.old host.new }
+        ensures led { FillGoesOn H.was_asked H.is_full H.has_given fill purpose (engine_at (W.wiring wires.now) (R.held packet.old) self.old)
+            (engine_at (W.wiring wires.now) (R.held packet.new) self.new) host.old host.new }
     {
         match fill {
             Fill::Producer => {
@@ -76,18 +76,18 @@ impl Engine {
 
     /// After the rx producer.
     #[inline(always)]
-    pub(crate) fn found<W: Wires, H: Host>(
+    pub(crate) fn found<W: Wires, H: Host, R: Room>(
         &mut self,
         purpose: Purpose,
         producer: u32,
         wires: &W,
-        packet: &mut Packet,
+        packet: &mut R,
         host: &mut H,
     )
         requires free { H.is_free host.old }
-        ensures led { FillLeads H.was_asked H.is_full purpose (beside (engine_at (W.wiring wires.now) packet.old self.old)) (found
-            (W.wiring wires.now).vif self.old.state.rx_index packet.old (available self.old.state.rx_index producer)) (engine_at
-            (W.wiring wires.now) packet.new self.new) host.old host.new }
+        ensures led { FillLeads H.was_asked H.is_full purpose (beside (engine_at (W.wiring wires.now) (R.held packet.old) self.old)) (found
+            (W.wiring wires.now).vif self.old.state.rx_index (R.held packet.old) (available self.old.state.rx_index producer)) (engine_at
+            (W.wiring wires.now) (R.held packet.new) self.new) host.old host.new }
     {
         match requests_shown(self.state.rx_index, producer) {
             None => self.filled(purpose, Outcome::Overflow, wires, packet, host),
@@ -125,21 +125,21 @@ impl Engine {
 
     /// After a slot.
     #[inline(always)]
-    fn after_post<W: Wires, H: Host>(
+    fn after_post<W: Wires, H: Host, R: Room>(
         &mut self,
         purpose: Purpose,
         left: u32,
         slot: [u32; 2],
         wires: &W,
-        packet: &Packet,
+        packet: &R,
         host: &mut H,
     )
         requires few { length self.old.work.targets + left < 16 }
         requires free { H.is_free host.old }
-        ensures led { FillLeads H.was_asked H.is_full purpose (beside (engine_at (W.wiring wires.now) packet.now self.old)) (bind
+        ensures led { FillLeads H.was_asked H.is_full purpose (beside (engine_at (W.wiring wires.now) (R.held packet.now) self.old)) (bind
             (requested (W.wiring wires.now).vif (rx_req_of slot) (targeted self.old.work.targets (read_targets (W.wiring
             wires.now).vif self.old.state.rx_index left))) (after_targets (W.wiring wires.now).vif self.old.state.rx_index
-            packet.now)) (engine_at (W.wiring wires.now) packet.now self.new) host.old host.new }
+            (R.held packet.now))) (engine_at (W.wiring wires.now) (R.held packet.now) self.new) host.old host.new }
     {
         let RxReq { id, gref } = RxReq::of_words(slot);
         match wires.place(gref) {
@@ -156,22 +156,22 @@ impl Engine {
 
     /// A slot that is refused is the last.
     #[inline(never)]
-    fn refuse_post<W: Wires, H: Host>(
+    fn refuse_post<W: Wires, H: Host, R: Room>(
         &mut self,
         purpose: Purpose,
         id: u16,
         wires: &W,
-        packet: &Packet,
+        packet: &R,
         host: &mut H,
     )
         requires few { length self.old.work.targets < 16 }
         requires free { H.is_free host.old }
-        ensures led { FillLeads H.was_asked H.is_full purpose (beside (engine_at (W.wiring wires.now) packet.now self.old))
-            (rx_respond (W.wiring wires.now).vif self.old.state.rx_index packet.now Refused (self.old.work.targets ++ record {
+        ensures led { FillLeads H.was_asked H.is_full purpose (beside (engine_at (W.wiring wires.now) (R.held packet.now) self.old))
+            (rx_respond (W.wiring wires.now).vif self.old.state.rx_index (R.held packet.now) Refused (self.old.work.targets ++ record {
               id =
                   id;
               frame = None;
-            } ∷ [])) (engine_at (W.wiring wires.now) packet.now self.new) host.old host.new }
+            } ∷ [])) (engine_at (W.wiring wires.now) (R.held packet.now) self.new) host.old host.new }
     {
         self.work.targets.push(Target { id, frame: None });
         self.reply_from(purpose, Grants::Refused, 0, wires, packet, host)
@@ -179,24 +179,24 @@ impl Engine {
 
     /// After an entry.
     #[inline(always)]
-    fn after_grant<W: Wires, H: Host>(
+    fn after_grant<W: Wires, H: Host, R: Room>(
         &mut self,
         purpose: Purpose,
         left: u32,
         id: u16,
         words: [u32; 2],
         wires: &W,
-        packet: &Packet,
+        packet: &R,
         host: &mut H,
     )
         requires few { length self.old.work.targets + left < 16 }
         requires fresh { H.is_fresh host.old }
         requires free { H.is_free host.old }
-        ensures led { FillLeads H.was_asked H.is_full purpose (beside (engine_at (W.wiring wires.now) packet.now self.old)) (bind
+        ensures led { FillLeads H.was_asked H.is_full purpose (beside (engine_at (W.wiring wires.now) (R.held packet.now) self.old)) (bind
             (targeted self.old.work.targets (read_targets (W.wiring wires.now).vif self.old.state.rx_index left) id (checked
             (W.wiring wires.now).vif.owners.now (W.wiring wires.now).vif.granter (W.wiring wires.now).vif.user (entry_of
             (slice_index words 0) (slice_index words 1)) ReadWrite)) (after_targets (W.wiring wires.now).vif self.old.state.rx_index
-            packet.now)) (engine_at (W.wiring wires.now) packet.now self.new) host.old host.new }
+            (R.held packet.now))) (engine_at (W.wiring wires.now) (R.held packet.now) self.new) host.old host.new }
     {
         let entry = Entry::of_words(words[0], words[1]);
         match wires.granted(entry, Rights::ReadWrite) {
@@ -217,20 +217,20 @@ impl Engine {
 
     /// The packet's words in its i-th page are written; after the last page the responses follow.
     #[inline(always)]
-    fn write_page<W: Wires, H: Host>(
+    fn write_page<W: Wires, H: Host, R: Room>(
         &mut self,
         purpose: Purpose,
         i: u32,
         wires: &W,
-        packet: &Packet,
+        packet: &R,
         host: &mut H,
     )
         requires few { i ≤ 16 }
         requires fresh { H.is_fresh host.old }
         requires free { H.is_free host.old }
-        ensures led { FillLeads H.was_asked H.is_full purpose (beside (engine_at (W.wiring wires.now) packet.now self.old))
-            (fill_from (W.wiring wires.now).vif self.old.state.rx_index packet.now self.old.work.targets (1024 * i)) (engine_at
-            (W.wiring wires.now) packet.now self.new) host.old host.new }
+        ensures led { FillLeads H.was_asked H.is_full purpose (beside (engine_at (W.wiring wires.now) (R.held packet.now) self.old))
+            (fill_from (W.wiring wires.now).vif self.old.state.rx_index (R.held packet.now) self.old.work.targets (1024 * i)) (engine_at
+            (W.wiring wires.now) (R.held packet.now) self.new) host.old host.new }
     {
         let all = words_of(packet.bytes());
         let from = 1024 * i;

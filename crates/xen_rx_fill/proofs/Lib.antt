@@ -7,4 +7,3 @@ pub mod Figures
 pub mod TouchedLemmas
 pub mod ByteLemmas
 pub mod StraightLemmas
-pub mod FillLemmas

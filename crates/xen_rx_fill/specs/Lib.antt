@@ -9,4 +9,3 @@ pub mod Sending
 pub mod Touched
 pub mod Wired
 pub mod Bytes
-pub mod Straight

@@ -3,7 +3,6 @@
 //! - `transmit`: a transmit under way: what it wants, and what it does with an answer
 //! - `by_event`: what it wants (`wanting`), what it does with an answer (`feeding`): `reading` slots and grants, `writing`
 //!   buffers and responses
-//! - `in_one_go`: a whole transmit over a bus, on references alone
 //! - `vif`, `target`, `words`: what these work on; `laws`: what holds of every transmit
 //!
 //! Among the definitions, `Sending` is the authority, the trace of a transmit; `Transmit` is the computation that makes
@@ -11,7 +10,6 @@
 #![tactic(auto)]
 
 mod by_event;
-mod in_one_go;
 pub mod laws;
 mod target;
 mod transmit;
@@ -19,7 +17,6 @@ mod vif;
 mod words;
 
 pub use by_event::phase::Outcome;
-pub use in_one_go::straight::{read_grant, send_packet};
 pub use target::{Grants, Target, Targets};
 pub use transmit::{Progress, Transmit};
 pub use vif::Vif;

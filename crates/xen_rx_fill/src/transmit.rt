@@ -1,6 +1,6 @@
-//! A transmit under way. Its `calls` are what a host calls.
+//! A transmit under way; `stepping` has its calls, one event at a time.
 
-mod calls;
+mod stepping;
 
 ghost use Rattle.std.specs.Prelude.{IsTrue};
 ghost use Rattle.xen_rx_fill.specs.Going.{is_going};

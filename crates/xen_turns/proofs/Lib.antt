@@ -5,15 +5,12 @@ pub mod ProgramLemmas
 pub mod CopyParts
 pub mod TurnParts
 pub mod TurnRuns
-pub mod DriveLemmas
 pub mod WalkLemmas
 pub mod Bounds
 pub mod Figures
 pub mod TouchedLemmas
 pub mod EndLemmas
 pub mod ReadLemmas
-pub mod BulkLemmas
 pub mod OnceLemmas
 pub mod ArriveLemmas
 pub mod WaitLemmas
-pub mod RunLemmas

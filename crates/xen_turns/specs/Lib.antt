@@ -10,7 +10,6 @@ pub mod Turns
 pub mod Drive
 pub mod Reads
 pub mod Once
-pub mod Ran
 pub mod Held
 pub mod Delivered
 pub mod Awaited

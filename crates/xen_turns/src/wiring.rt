@@ -1,6 +1,6 @@
 //! What a queue is wired to.
 
-use bpf_lists::KeyedRows;
+use bpf_lists::MapList;
 use bpf_verify::Verified;
 use xen_rx_fill::Vif;
 
@@ -9,8 +9,9 @@ use xen_rx_fill::Vif;
 pub struct Wiring<'p> {
     pub vif: Vif<'p>,
     pub program: &'p Verified,
-    /// The rows of the maps that are looked up by a list's keys, by the maps' numbers. Such a map without rows finds nothing.
-    pub lists: &'p [Option<KeyedRows>],
+    /// What is given for the maps that are no arrays, by the maps' numbers. A map without rows finds nothing, and one without
+    /// constants reads 0.
+    pub lists: &'p [Option<MapList>],
     pub ifindex: u32,
     pub queue: u32,
 }

@@ -279,6 +279,29 @@ mod tests {
         std::fs::remove_dir_all(&folder).unwrap();
     }
 
+    /// Ends each packet with the action that is a map's one constant.
+    fn constant(action: &str) -> String {
+        let program = r#"program = ["1801000000000038", "0000000000000000", "7110000000000000", "9500000000000000"]"#;
+        format!("{program}\n[[map]]\nname = \".rodata\"\nentries = 1\nkey = \"constants\"\nsize = 1\nrows = [\"{action}\"]\n")
+    }
+
+    #[test]
+    fn constants_that_change_are_not_verified() {
+        let (folder, mut filters) = (folder("constants"), Filters::default());
+        let path = folder.join("a.toml");
+        let mut find = |text: String| {
+            std::fs::write(&path, text).unwrap();
+            filters.find(vec![path.clone()]).unwrap()
+        };
+        let (first, second) = (find(constant("01")), find(constant("02")));
+        assert_eq!((first.lists_of, second.lists_of), (0, first.number));
+        for (filter, action) in [(first, laxonje::Action::Drop), (second, laxonje::Action::Pass)] {
+            let mut program = filter.program.try_clone().unwrap();
+            assert_eq!(program.run(&mut [0; 1], &mut [0; 60], 0, 0).unwrap().action, action);
+        }
+        std::fs::remove_dir_all(&folder).unwrap();
+    }
+
     #[test]
     fn what_is_no_regular_file_is_refused_at_once() {
         let folder = folder("fifo");

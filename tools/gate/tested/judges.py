@@ -23,7 +23,7 @@ def missing_tests():
         copy = pathlib.Path(room, "copy")
         shutil.copytree(ROOT, copy, ignore=left_out)
         for file, judges in (
-            ("crates/xen_back/must-fail/made_up_access.edit", ("statement --check", "gate/stated")),
+            ("crates/xen_host/must-fail/made_up_access.edit", ("statement --check", "gate/stated")),
             ("crates/bpf_same/must-fail/counted_twice.edit", ("gate/stated",)),
             ("docs/THEOREM.md", ("statement --check",)),
             ("docs/CLAIMS.md", ("statement --check", "gate/stated")),

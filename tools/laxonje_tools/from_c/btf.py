@@ -30,7 +30,8 @@ MORE_BYTES = {
     17: (4, 0),
     19: (0, 12),
 }
-WITH_SIZE, ALIASES = (1, 4, 5, 6, 16, 19), (8, 9, 10, 11, 18)
+WITH_SIZE, ALIASES, VOLATILE = (1, 4, 5, 6, 16, 19), (8, 9, 10, 11, 18), 9
+MOST_ALIASES = 64  # that are looked through for `volatile`
 
 
 class Type(NamedTuple):
@@ -89,6 +90,21 @@ class Types:
                 return number
             number = self.rows[number].size
         raise ValueError("a type is its own name")
+
+    @property
+    def volatile(self) -> set[str]:
+        """The names of the variables that are `volatile`."""
+        return {row.name for row in self.rows[1:] if row.kind == VARIABLE and self.is_volatile(row.size)}
+
+    def is_volatile(self, number: int) -> bool:
+        """Whether a type is `volatile`, by any of its names."""
+        for _ in range(MOST_ALIASES):
+            if not number or self.rows[number].kind not in ALIASES:
+                return False
+            if self.rows[number].kind == VOLATILE:
+                return True
+            number = self.rows[number].size
+        return False
 
     def size(self, number: int) -> int:
         """How many bytes a type has."""

@@ -1,12 +1,12 @@
-"""What a program has in memory: constants, which the tools write into its code, and globals that count, each a map.
+"""What a program has in memory: constants, which are maps of their own or written into its code, and globals that count, each a map.
 
 A global of 1, 2, 4 or whole eight bytes that begins with zeros is a map of one entry, named for it. Any other global
 keeps what it begins with: nobody writes to it here, and a program that stores to it is refused."""
 from __future__ import annotations
 
-from typing import TYPE_CHECKING, Iterable, Iterator, NamedTuple, Optional
+from typing import TYPE_CHECKING, Iterator, NamedTuple, Optional
 
-from .elf import CONSTANTS, MAP_ADDRESS, MEMORY, OBJECT, symbols_of, variable_at
+from .elf import CONSTANTS, MAP_ADDRESS, MEMORY, symbols_of, variable_at
 
 if TYPE_CHECKING:
     from .elf import Part, Relocation, Symbol
@@ -57,29 +57,6 @@ def memory_of(sections: dict[str, Part], relocations: list[Relocation]) -> Memor
         place = {"section": row.section, "place": row.place, "first": first, "end": end}
         memory.tables.append({"slot": row.slot, "name": row.name or row.section, **place})
     return memory
-
-
-def set_values(sections: dict[str, Part], values: Iterable[tuple[str, int]]) -> Iterator[str]:
-    """Puts numbers in the place of what constants have, as a loader does in Linux. What is wrong with them."""
-    symbols = symbols_of(sections) if values else []
-    for name, number in values:
-        found = [
-            (section, row)
-            for section, part in sections.items()
-            for row in symbols
-            if section.startswith((CONSTANTS[0], ".data")) and (row.section, row.kind, row.name) == (part.number, OBJECT, name)
-        ]
-        if not found:
-            yield f"there is no constant {name} to set: write `const volatile` in front of it"
-            continue
-        section, row = found[0]
-        if row.size not in (*PARTS, COUNTER_BYTES):
-            yield f"{name} has {row.size} bytes: a number of 1, 2, 4 or 8 bytes can be set"
-        elif not -(1 << 8 * row.size - 1) <= number < 1 << 8 * row.size:
-            yield f"{name} has {row.size} bytes, which can't hold {number}"
-        else:
-            raw, part = (number % (1 << 8 * row.size)).to_bytes(row.size, "little"), sections[section]
-            sections[section] = part._replace(data=part.data[: row.place] + raw + part.data[row.place + row.size :])
 
 
 def extent_of(symbols: list[Symbol], part: Part, variable: Optional[Symbol], place: int) -> tuple[int, int]:

@@ -7,11 +7,12 @@ from typing import TYPE_CHECKING, Callable, Iterable, NamedTuple, Optional
 
 from laxonje_tools.output import fail, stop_on
 
-from . import btf, elf, faults
+from . import btf, constants, elf, faults
 from .calls import Calls, Fault, Replaced, has_calls
 from .compiler import Compiler
 from .maps import SizedMap, maps_of, settings_of
-from .memory import faults_of_memory, memory_of, set_values
+from .memory import faults_of_memory, memory_of
+from .values import Constant, set_values, values_of
 
 if TYPE_CHECKING:
     from .elf import Function, Part, Relocation
@@ -24,17 +25,26 @@ BROKEN = struct.error, ValueError, IndexError, KeyError, RecursionError, Overflo
 
 class Filter(NamedTuple):
     """`settings`: of the program as clang made it. If it has constants or globals in memory, keys of the tools'
-    own say so, which `xdpbox` doesn't know. `place`: of a slot its line of C, or None. `per_cpu`: the maps that are
-    per CPU in Linux. `notes`: what its author should know."""
+    own say so, which `xdpbox` doesn't know; `forms` has those that can be maps as maps. `place`: of a slot its line of C,
+    or None. `per_cpu`: the maps that are per CPU in Linux. `notes`: what its author should know. `values`: its constants
+    that can be set."""
 
     settings: dict
     place: Callable
     per_cpu: set
     notes: list
+    values: list[Constant]
+
+    @property
+    def forms(self) -> list[dict]:
+        """Its settings with its constants as maps, if that can be, and with them in keys of the tools' own."""
+        with_maps = constants.with_constants(self.settings)
+        return [self.settings] if with_maps is None else [with_maps, self.settings]
 
     @property
     def has_memory(self) -> bool:
-        return bool(self.settings["tables"] or self.settings["globals"])
+        """Whether settings can't have it as clang made it, for constants or globals in memory."""
+        return bool(self.forms[0]["tables"] or self.forms[0]["globals"])
 
 
 class Asked(NamedTuple):
@@ -118,7 +128,7 @@ def filter_of(asked: Asked, sections: dict[str, Part], compiler: Optional[Compil
         "numbers": numbers_of(sections, declared, memory.maps),
     }
     per_cpu = {row.name for row in declared if row.type in faults.PER_CPU}
-    return Filter(settings, place, per_cpu, notes)
+    return Filter(settings, place, per_cpu, notes, values_of(sections))
 
 
 def without_calls(asked: Asked, sections: dict[str, Part], function: Function, place: Callable) -> Replaced:

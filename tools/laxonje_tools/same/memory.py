@@ -3,6 +3,8 @@ from __future__ import annotations
 
 from typing import TYPE_CHECKING, Any, Optional
 
+from laxonje_tools.from_c.constants import CONSTANTS_END, CONSTANTS_START
+
 from .carries import Carries
 from .facts import APART
 from .forms import MASK_32, MASK_64, ZERO, number
@@ -59,11 +61,17 @@ class Memory:
         raise Differs("it isn't known whether this lies in a value, in which numbers have other places", state.at)
 
     def is_elsewhere(self, address: Form, size: int, state: State) -> bool:
-        """Whether what is reached at an address surely lies in no value: on the stack, in the context or in the packet."""
+        """Whether what is reached at an address surely lies in no value: on the stack, in the context, in the packet or in constants."""
         low, high = self.forms.span(self.forms.subtract(address, self.forms.frame), state.facts.ranges)
         on_stack = -STACK <= low and high + size <= 0
         in_context = not self.forms.subtract(address, self.forms.context).terms
-        return on_stack or in_context or self.is_near_packet(self.forms.add(address, number(size)), state)
+        in_packet = self.is_near_packet(self.forms.add(address, number(size)), state)
+        return on_stack or in_context or in_packet or self.is_constant(address, size, state)
+
+    def is_constant(self, address: Form, size: int, state: State) -> bool:
+        """Whether an address is a number, and surely that of bytes of maps of constants."""
+        low, high = self.forms.span(address, state.facts.ranges)
+        return CONSTANTS_START <= low and high + size <= CONSTANTS_END
 
     def map_named(self, form: Form) -> Optional[str]:
         """The map of which this is the address, or None."""
@@ -86,7 +94,8 @@ class Memory:
         low, high = self.forms.span(self.forms.subtract(address, self.forms.frame), state.facts.ranges)
         if low >= -STACK and high + size <= 0:
             return low, high + size
-        if self.forms.is_in_value(address) or self.is_near_packet(self.forms.add(address, number(size)), state):
+        in_packet = self.is_near_packet(self.forms.add(address, number(size)), state)
+        if self.forms.is_in_value(address) or in_packet or self.is_constant(address, size, state):
             return 0, 0
         return -STACK, 0
 

@@ -5,7 +5,7 @@ however it is left.
 
 Two marks put tests of our own in front of an addition, if the verifier would lose the address:
   Wide   the number may be above 65,535: `if n > 65535` leads to copies in which the sum is far past the packet's end
-         (or to the end of the program, if the number may be negative)
+         (or to the end of the program, if the number may be negative). Of an index of constants the most is what they have
   Cases  the number is one of a few: `if n == c` for each, to copies in which it is a constant"""
 from __future__ import annotations
 
@@ -23,6 +23,7 @@ if TYPE_CHECKING:
     from .marks import Marks
 
 MOST_COPIES = 8000
+MOST_DISTANCE = 65535  # of an address in a packet from its start
 # which numbers are told apart: those that steer a loop or make an address, in slots from which a loop can be reached;
 # those that count a loop's steps; all in slots from which a loop can be reached; all
 STEERING, COUNTERS, IN_LOOPS, EVERYWHERE = "those that steer loops", "those that count", "those in loops", "all"
@@ -41,10 +42,11 @@ CASE = "case"
 
 
 class Wide(NamedTuple):
-    """A mark of an addition: the register of the number, and whether one above 65,535 is known not to be negative."""
+    """A mark of an addition: the register of the number, whether one above the most is known not to be negative, and this most."""
 
     register: int
     positive: bool
+    most: int = MOST_DISTANCE
 
 
 class Cases(NamedTuple):

@@ -8,7 +8,7 @@ from typing import TYPE_CHECKING, AbstractSet, Callable, Container, NamedTuple, 
 
 from .addresses import ADDED, KEPT, MET, Atom, PacketAddress, StackSlot, TableAddress, Thing
 from .constants import VALUE, is_address
-from .copies import CASE, OUTSIDE, TESTS, Copy
+from .copies import CASE, MOST_DISTANCE, OUTSIDE, TESTS, Copy
 from .graph import SIZE, Fail
 from .accesses import write_difference, write_narrow_load, write_rebased, write_word_addition
 from .memory import check_store, look_up_globals, loads_constant, takes_address, write_key
@@ -41,7 +41,7 @@ if TYPE_CHECKING:
     from .copies import Copies
     from .marks import Marks
 
-MOST_SLOTS, MOST_DISTANCE = 4096, 65535
+MOST_SLOTS = 4096
 END_FIELD, INTERFACE_FIELD = 4, 12  # of the context
 ABORTED = 0
 CONTEXT_SLOT, ZERO_SLOT = "context", "zero"  # names of our own stack slots
@@ -240,8 +240,8 @@ class Emitter:
         if here.phase == TESTS:
             if len(here.ways) == 1:
                 return None
-            register = self.copies.wide[slot].register
-            return self.put_own(slot, IF_ABOVE_CONSTANT, register, 0, 0, MOST_DISTANCE, copy=here)
+            wide = self.copies.wide[slot]
+            return self.put_own(slot, IF_ABOVE_CONSTANT, wide.register, 0, 0, wide.most, copy=here)
         if here.phase.name == CASE:
             register, numbers = self.copies.cases[slot]
             return self.put_own(slot, IF_EQUAL_CONSTANT, register, 0, 0, numbers[here.phase.number], copy=here)

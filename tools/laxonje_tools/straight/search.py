@@ -4,7 +4,8 @@ The verifier's answer, as `xdpbox explain` gives it, drives everything; there ar
 first program is that of the copies alone. Then, one mark per refusal:
 
   V9 at an access    through an address of a meeting: the meeting is marked. Through one to which a number was added:
-                     the number's range is narrowed by a test (`wide`), or its few values are told apart (`cases`). A
+                     the number's range is narrowed by a test (`wide`), as of an index of constants, or its few
+                     values are told apart (`cases`). A
                      distance of several such numbers is bounded by a test where it is stored (`limited`), or made anew
                      from the distance where it was compared with the packet's end (`restarts`)
                      If more ways meet than the verifier keeps apart, since an added number is a constant on some: it
@@ -35,6 +36,7 @@ from .copies import COUNTERS, EVERYWHERE, IN_LOOPS, STEERING, Cases, Copies, Tri
 from .counts import difference, fused
 from .emit import Emitter, Kind, Needs
 from .graph import SIZE, Fail, NoBound, TooMany, loop_of, steering
+from .indices import bound_index
 from .instructions import MASK_32
 from .marks import Marks, Result
 from .masks import masked, parts_of
@@ -202,7 +204,7 @@ class Search:
         if address == Thing.VALUE and (self.follow(RESULTS) or self.follow(MAPS)):
             return True
         if not isinstance(address, PacketAddress):
-            return self.tell_apart(answer)
+            return self.tell_apart(answer) or bound_index(self.code, label.slot, self.settings, self.marks)
         if self.way == BY_ACCESS:
             return self.rebase(label.copy, instruction.base)
         meetings = [(atom.copy, atom.place) for atom in address.atoms if atom.name == MET]

@@ -12,6 +12,7 @@ if TYPE_CHECKING:
 
 INDEX_BYTES, LENGTH_BYTES = 4, 4  # of an array's key, and of a prefix's length
 OF_THE_TOOLS = "constants", "tables", "globals", "numbers"  # keys that no printed settings have
+CONSTANTS = "constants"  # the key of a map that is read at its address
 
 
 def instructions_of(settings: dict) -> Code:
@@ -105,8 +106,12 @@ def key_sizes(settings: dict) -> dict[str, int]:
 
 
 def without_rows(settings: dict) -> dict:
-    """Settings whose maps have empty lists. No verdict depends on rows, which may be as long as all else."""
-    maps = [{key: value for key, value in row.items() if key != "rows"} for row in settings.get("map", [])]
+    """Settings whose maps have empty lists. No verdict depends on rows, which may be as long as all else. Constants stay: they
+    have to be there."""
+    maps = [
+        row if row.get("key") == CONSTANTS else {key: value for key, value in row.items() if key != "rows"}
+        for row in settings.get("map", [])
+    ]
     return {**settings, "map": maps}
 
 

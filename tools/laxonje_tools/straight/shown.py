@@ -1,7 +1,7 @@
 """Whether a result has the runs of the program that it was made of, and how that was shown.
 
 This is the one place that decides it: what isn't shown here isn't printed. `xdpbox same` is asked first, whose yes is
-proved: the same runs, or the same by counts; else the comparison of the package `same` decides, which is tested."""
+proved: the same runs, the same by counts, or the same alone; else the comparison of the package `same` decides, which is tested."""
 from __future__ import annotations
 
 from typing import NamedTuple, Optional
@@ -14,8 +14,8 @@ from .graph import Fail
 from .settings import text_beside
 from .verifier import called
 
-PROVED, BY_COUNTS, COMPARED = "proved", "proved by counts", "compared"
-PROVED_BY = {"same": PROVED, "same by counts": BY_COUNTS}
+PROVED, BY_COUNTS, ALONE, COMPARED = "proved", "proved by counts", "proved alone", "compared"
+PROVED_BY = {"same": PROVED, "same by counts": BY_COUNTS, "same alone": ALONE}
 UNPROVED = "a program was found of which it isn't proved that it is the same: without --proved it is compared"
 ACCESSES = 1, 2, 3  # kinds of instructions
 
@@ -25,7 +25,7 @@ class NoComparison(Fail):
 
 
 class Shown(NamedTuple):
-    """`how`: PROVED, BY_COUNTS or COMPARED. `guards`: slots of the original in front of which the result may end.
+    """`how`: PROVED, BY_COUNTS, ALONE or COMPARED. `guards`: slots of the original in front of which the result may end.
     `missing`: why the result can't be taken, or None."""
 
     how: str = COMPARED

@@ -82,10 +82,10 @@ def is_of_program(refused: str) -> bool:
 
 
 def called(xdpbox: str, settings: str) -> Optional[str]:
-    """What `xdpbox same` calls the program of settings, as text, beside the other one there: `same`, `same by counts`, or
-    None."""
+    """What `xdpbox same` calls the program of settings, as text, beside the other one there: `same`, `same by counts`,
+    `same alone`, or None."""
     run = asked(xdpbox, "same", settings)
-    said = re.match("(same|same by counts), ", run.stdout)
+    said = re.match("(same|same by counts|same alone), ", run.stdout)
     return said[1] if run.returncode == 0 and said else None
 
 

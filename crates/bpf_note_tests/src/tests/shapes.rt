@@ -1,7 +1,7 @@
 //! Shapes of maps, by their limits. Linux's bpf.h gives the kinds: an array's key is a `__u32`, that of a trie begins with one
 //! (`struct bpf_lpm_trie_key`).
 
-use bpf_note::{Kind, MapKey, MapShape};
+use bpf_note::{Kind, MapKey, MapShape, constants_left};
 
 #[test]
 fn shapes_within_their_limits(rt: HostRuntime) {
@@ -56,10 +56,42 @@ fn keys_of_1_to_64_bytes_of_data(rt: HostRuntime) {
         (MapKey::Listed(Kind::Prefix(16)), 20, true),
         (MapKey::Listed(Kind::Prefix(64)), 68, true),
         (MapKey::Listed(Kind::Prefix(65)), 69, false),
+        (MapKey::Constants(0), 4, true),
+        (MapKey::Constants(65536), 4, true),
+        (MapKey::Constants(65537), 4, false),
     ];
     for (key, bytes, within) in rows {
         assert_eq!(rt; key.size(), bytes);
         let shape = MapShape::keyed(key, 1, 1);
         assert_eq!(rt; shape.is_some(), within);
+    }
+}
+
+#[test]
+fn constants_lie_64_kib_apart(rt: HostRuntime) {
+    let shapes = [
+        MapShape::keyed(MapKey::Constants(5), 1, 1),
+        MapShape::of(1, 1),
+        MapShape::keyed(MapKey::Constants(65536), 1, 1),
+    ];
+    let [Some(first), Some(array), Some(last)] = shapes else {
+        assert!(rt; false);
+        return;
+    };
+    let shapes = [first, array, last];
+    let rows = [
+        (0x37ff_ffff, 0),
+        (0x3800_0000, 5),
+        (0x3800_0004, 1),
+        (0x3800_0005, 0),
+        (0x3801_0000, 0),
+        (0x3802_0000, 65536),
+        (0x3802_ffff, 1),
+        (0x3803_0000, 0),
+        (0x4000_0000, 0),
+        (u64::MAX, 0),
+    ];
+    for (address, bytes) in rows {
+        assert_eq!(rt; constants_left(&shapes, address), bytes);
     }
 }

@@ -1,6 +1,6 @@
 //! Lookups in lists, and where the values of large maps lie.
 use crate::programs::ready;
-use bpf_lists::KeyedRows;
+use bpf_lists::{ConstantBytes, KeyedRows, MapList};
 use bpf_note::{Kind, MapKey, MapShape};
 use bpf_vm::{PacketBuf, Vm, VmWant};
 use std::alloc::Global;
@@ -17,7 +17,7 @@ fn number_at_exit(mut vm: Vm<'_, '_>) -> Option<u32> {
 fn looked_up(
     alloc: Global,
     shape: MapShape,
-    lists: &[Option<KeyedRows>],
+    lists: &[Option<MapList>],
     key: [u8; 8],
 ) -> Option<u32> {
     let size = shape.key().size() as u8;
@@ -45,8 +45,8 @@ fn last(bytes: [u8; 4]) -> [u8; 8] {
 }
 
 /// A list's rows.
-fn rows(alloc: Global, kind: Kind, keys: &[u8]) -> Option<KeyedRows> {
-    KeyedRows::make(alloc, kind, keys).ok()
+fn rows(alloc: Global, kind: Kind, keys: &[u8]) -> Option<MapList> {
+    Some(MapList::Rows(KeyedRows::make(alloc, kind, keys).ok()?))
 }
 
 /// Addresses: 192.0.2.1, 192.0.2.2 and 198.51.100.7.
@@ -105,7 +105,7 @@ fn the_longest_prefix_is_found(rt: HostRuntime) {
 }
 
 /// What a lookup gives without a list, or with one whose keys have six bytes.
-fn found_elsewhere(alloc: Global, list: Option<KeyedRows>) -> Option<u32> {
+fn found_elsewhere(alloc: Global, list: Option<MapList>) -> Option<u32> {
     let shape = MapShape::keyed(MapKey::Listed(Kind::Exact(4)), 3, 1)?;
     looked_up(alloc, shape, &[list], last([192, 0, 2, 1]))
 }
@@ -163,4 +163,55 @@ fn last_wanted(alloc: Global) -> Option<VmWant> {
 fn the_last_counter_of_a_large_map(rt: HostRuntime) {
     let (m, k, j) = (1, 65535, 7);
     assert_eq!(rt; last_wanted(rt.alloc()), Some(VmWant::Load { m, k, j }));
+}
+
+/// The number that a load of constants gives: `opcode` is that of the load, `constants` what the map has, `bytes` what the list has.
+fn read(alloc: Global, opcode: u8, address: u32, constants: u32, bytes: &[u8]) -> Option<u32> {
+    let shape = MapShape::keyed(MapKey::Constants(constants), 1, 1)?;
+    let [a, b, c, d] = address.to_le_bytes();
+    #[rattlefmt::skip]
+    let slots = [
+        [0x18, 1, 0, 0, a, b, c, d], // r1 = address
+        [0, 0, 0, 0, 0, 0, 0, 0], // its second slot
+        [opcode, 0x10, 0, 0, 0, 0, 0, 0], // r0 = *(..)(r1 + 0)
+        [0x95, 0, 0, 0, 0, 0, 0, 0], // exit
+    ];
+    let (program, mut buffer) = ready(alloc, &slots, &[shape])?;
+    let bytes = ConstantBytes::make(bytes.to_vec(alloc).ok()?);
+    let lists = [Some(MapList::Constants(bytes))];
+    number_at_exit(Vm::start(&program, PacketBuf::empty(&mut buffer), 0, 0, &lists))
+}
+
+/// Bytes from 0x81 on.
+const CONSTANTS: [u8; 9] = [0x81, 0x82, 0x83, 0x84, 0x85, 0x86, 0x87, 0x88, 0x89];
+
+#[test]
+fn constants_are_read_by_their_address(rt: HostRuntime) {
+    let alloc = rt.alloc();
+    let rows = [
+        (0x71, 0x3800_0000, Some(0x81)),
+        (0x71, 0x3800_0008, Some(0x89)),
+        (0x69, 0x3800_0001, Some(0x8382)),
+        (0x61, 0x3800_0005, Some(0x8988_8786)),
+        (0x79, 0x3800_0001, Some(0x8584_8382)),
+        (0x91, 0x3800_0000, Some(0xffff_ff81)),
+        (0x89, 0x3800_0000, Some(0xffff_8281)),
+        (0x71, 0x3800_0009, None),
+        (0x69, 0x3800_0008, None),
+        (0x71, 0x37ff_ffff, None),
+    ];
+    for (opcode, address, number) in rows {
+        assert_eq!(rt; read(alloc, opcode, address, 9, &CONSTANTS), number);
+    }
+}
+
+#[test]
+fn constants_that_a_list_lacks_are_0(rt: HostRuntime) {
+    let alloc = rt.alloc();
+    assert_eq!(rt; read(alloc, 0x69, 0x3800_0008, 12, &CONSTANTS), Some(0x89));
+    assert_eq!(rt;
+        read(alloc, 0x61, 0x3800_0007, 12, &CONSTANTS),
+        Some(0x8988)
+    );
+    assert_eq!(rt; read(alloc, 0x61, 0x3800_0000, 4, &[]), Some(0));
 }

@@ -1,7 +1,7 @@
 //! Settings whose maps have lists of keys, and wider limits. What Linux 6.18 does with the same keys by bpf(2) stands beside them.
 use crate::loading::{
-    counts, found_row, gives_listed_maps, is_listed_refused_at, is_refused_at, listed_counts,
-    lists_given,
+    constant_at, counts, found_row, gives_listed_maps, is_listed_refused_at, is_refused_at,
+    listed_counts, lists_given,
 };
 use crate::tests::EVERY_KEY;
 use std::test::Fail;
@@ -165,6 +165,59 @@ fn faults_come_in_their_order(rt: HostRuntime) {
         ),
     ] {
         assert!(rt; is_listed_refused_at(rt.alloc(), text, fault, &spot));
+    }
+}
+
+/// A map of three constants after an array.
+const CONSTANTS: &str = "\
+program = []
+[[map]]
+name = \"totals\"
+entries = 1
+[[map]]
+name = \".rodata\"
+entries = 1
+key = \"constants\"
+size = 3
+rows = [\"0180Ff\"]
+";
+
+#[test]
+fn constants_are_one_row(rt: HostRuntime) {
+    let alloc = rt.alloc();
+    for (number, place, byte) in [
+        (0, 0, None),
+        (1, 0, Some(0x01)),
+        (1, 1, Some(0x80)),
+        (1, 2, Some(0xff)),
+        (1, 3, None),
+    ] {
+        assert_eq!(rt; constant_at(alloc, CONSTANTS, number, place), byte);
+    }
+    assert_eq!(rt; lists_given(alloc, CONSTANTS), Some(1));
+    for (text, spot) in [
+        (
+            "program = []\nmap = [{name = \"a\", entries = 1, key = \"constants\", size = 0, rows = [\"\"]}]",
+            Spot::Row(Key::ConstantSize, 0),
+        ),
+        (
+            "program = []\nmap = [{name = \"a\", entries = 1, key = \"constants\", size = 65537, rows = [\"00\"]}]",
+            Spot::Row(Key::ConstantSize, 0),
+        ),
+        (
+            "program = []\nmap = [{name = \"a\", entries = 1, key = \"constants\", size = 2, rows = [\"000102\"]}]",
+            Spot::Row(Key::Rows, 0),
+        ),
+        (
+            "program = []\nmap = [{name = \"a\", entries = 2, key = \"constants\", size = 1, rows = [\"00\", \"01\"]}]",
+            Spot::Row(Key::Rows, 0),
+        ),
+        (
+            "program = []\nmap = [{name = \"a\", entries = 1, key = \"constants\", size = 1}]",
+            Spot::Row(Key::Rows, 0),
+        ),
+    ] {
+        assert!(rt; is_listed_refused_at(alloc, text, Fault::Limit, &spot));
     }
 }
 

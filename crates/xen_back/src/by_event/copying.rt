@@ -28,6 +28,7 @@ use crate::by_event::phase::Phase;
 use crate::by_event::stage::Stage;
 use crate::copy_buf::CopyBuf;
 use arrayvec::ArrayVec;
+use xen_host::Room;
 use xen_netif::{Chain, Fragment, Status};
 use xen_page::{Entry, Place, Rights, check};
 use xen_turns::{Kind, Refusal, State, Wiring};

@@ -14,6 +14,7 @@ use crate::by_event::looking::halt;
 use crate::by_event::phase::Phase;
 use crate::by_event::stage::{Stage, Transmitting};
 use crate::copy_buf::CopyBuf;
+use xen_host::Room;
 use xen_netif::Chain;
 use xen_rx_fill::{Outcome, Progress, Transmit};
 use xen_steps::Want;

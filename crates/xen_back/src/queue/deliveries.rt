@@ -7,7 +7,6 @@ ghost use Rattle.xen_back.specs.Delivered.{IsDelivered};
 ghost use Rattle.xen_back.specs.Queues.{IsReady, wiring_of};
 
 use crate::delivery::by_event::{outcome_of, underway};
-use crate::delivery::delivering::sent_out;
 use crate::delivery::underway::Delivering;
 use crate::queue::Queue;
 use xen_page::Bus;
@@ -27,9 +26,7 @@ impl<'p, 'b> Queue<'p, 'b> {
     {
         // The borrow checker has to see this type in the body.
         let _vif = &self.wiring.vif;
-        let (after, delivery) = sent_out(&self.wiring, &self.state, packet, bus, ports);
-        self.state = after;
-        delivery
+        self.send_out(packet, bus, ports)
     }
 
     /// Begins the delivery of a packet of the host's own, one event at a time. The queue takes no turn until

@@ -11,9 +11,10 @@ use crate::by_event::stage::Stage;
 use crate::copy_buf::CopyBuf;
 use crate::desc::QueueDesc;
 use crate::queue::Queue;
-use bpf_lists::KeyedRows;
+use bpf_lists::MapList;
 use bpf_verify::Verified;
 use bpf_vm::Buffer;
+use xen_host::Engine;
 use xen_rx_fill::Vif;
 use xen_turns::{State, Wiring};
 
@@ -22,7 +23,7 @@ impl<'p, 'b> Queue<'p, 'b> {
     /// numbers.
     pub fn make(
         program: &'p Verified,
-        lists: &'p [Option<KeyedRows>],
+        lists: &'p [Option<MapList>],
         desc: QueueDesc<'p>,
         buffer: &'b mut Buffer,
     ) -> Queue<'p, 'b>
@@ -44,7 +45,7 @@ impl<'p, 'b> Queue<'p, 'b> {
     /// [`Queue::state`] was between turns. The description's `start` isn't looked at; a queue that had halted stays halted.
     pub fn resume(
         program: &'p Verified,
-        lists: &'p [Option<KeyedRows>],
+        lists: &'p [Option<MapList>],
         desc: QueueDesc<'p>,
         state: State,
         buffer: &'b mut Buffer,
@@ -79,6 +80,7 @@ impl<'p, 'b> Queue<'p, 'b> {
             tx_ring: desc.tx,
             rx_ring: desc.rx,
             state,
+            engine: Engine::new(state),
             stage: Some(stage),
         }
     }

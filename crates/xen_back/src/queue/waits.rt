@@ -6,7 +6,6 @@ ghost use Rattle.xen_back.specs.Awaited.{HasAwaited};
 ghost use Rattle.xen_back.specs.Queues.{IsReady, wiring_of};
 ghost use Rattle.xen_back.specs.WaitsByEvent.{IsWaitBegun, IsWaitOf, IsWaitOver, left_of_wait};
 
-use crate::delivery::wait::looked_for;
 use crate::delivery::wait_by_event::begun;
 use crate::delivery::wait_stage::{Awaiting, Looking};
 use crate::queue::Queue;
@@ -27,9 +26,7 @@ impl<'p, 'b> Queue<'p, 'b> {
     {
         // The borrow checker has to see this type in the body.
         let _vif = &self.wiring.vif;
-        let (after, awaited) = looked_for(&self.wiring, &self.state, pages, bus);
-        self.state = after;
-        awaited
+        self.look_for(pages, bus)
     }
 
     /// Begins a wait for `pages` rx slots, as [`Queue::await_slots`] makes it, one event at a time. The queue takes no

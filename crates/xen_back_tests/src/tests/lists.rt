@@ -6,7 +6,7 @@ use super::kind::Kind;
 use super::programs::COUNTS;
 use super::slots::slot;
 use crate::bench::{Bench, ready};
-use bpf_lists::KeyedRows;
+use bpf_lists::{KeyedRows, MapList};
 use bpf_note::{Kind as KeyKind, MapKey, MapShape};
 use bpf_vm::Buffer;
 use std::alloc::Global;
@@ -40,7 +40,7 @@ fn counted(alloc: Global, keys: &[u8]) -> Option<(Option<Kind>, Option<Kind>)> {
     let shape = MapShape::keyed(MapKey::Listed(KeyKind::Exact(4)), 2, 1)?;
     let rows = KeyedRows::make(alloc, KeyKind::Exact(4), keys).ok()?;
     let mut lists = Vec::new(alloc);
-    lists.push(Some(rows)).ok()?;
+    lists.push(Some(MapList::Rows(rows))).ok()?;
     let shapes = [shape];
     let (bench, mut buffer) = ready(alloc, &COUNTS, &shapes)?;
     let bench = bench.with_lists(lists);

@@ -4,7 +4,7 @@ ghost use Rattle.std.specs.Prelude.{◌≡◌, length};
 ghost use Rattle.xen_back.specs.Queues.{IsReady, wiring_of};
 
 use super::fixtures::{PASSES, Seen, Told, seen_with, told_by};
-use crate::bench::{counters, page, shipped};
+use crate::bench::{counters, shipped};
 use std::alloc::Global;
 use xen_back::Delivery;
 use xen_back_tests::bench::{FRAMES, ready};
@@ -27,15 +27,12 @@ fn told_of(delivery: Delivery) -> Told {
 fn of_shipped(alloc: Global, packet: &[u8], answers: &[u32]) -> Option<Seen> {
     let mut queue = shipped(alloc, &PASSES, &[], 0)?;
     let mut counters = counters(alloc, &queue)?;
-    let mut words = page(alloc)?;
     let mut bus = ScriptBus::make(alloc, FRAMES, answers, 34_000).ok()?;
     let ports = Ports::new();
     let op = deliver(
         &mut queue,
         packet,
-        18,
         &mut bus,
-        words.as_mut_slice(),
         counters.as_mut_slice(),
         &ports,
     );

@@ -3,7 +3,7 @@
 ghost use Rattle.std.specs.Prelude.{◌≡◌, ◌≤◌, length};
 ghost use Rattle.xen_back.specs.Queues.{IsReady, wiring_of};
 
-use crate::bench::{counters, page, shipped};
+use crate::bench::{counters, shipped};
 use bpf_note::MapShape;
 use std::alloc::Global;
 use xen_back::Turn;
@@ -97,17 +97,9 @@ fn of_shipped(
 ) -> Option<Seen> {
     let mut queue = shipped(alloc, bytes, shapes, start)?;
     let mut counters = counters(alloc, &queue)?;
-    let mut words = page(alloc)?;
     let mut bus = ScriptBus::make(alloc, FRAMES, answers, 34_000).ok()?;
     let ports = Ports::new();
-    let op = drive(
-        &mut queue,
-        17,
-        &mut bus,
-        words.as_mut_slice(),
-        counters.as_mut_slice(),
-        &ports,
-    );
+    let op = drive(&mut queue, &mut bus, counters.as_mut_slice(), &ports);
     seen_with(alloc, told_by(&op)?, queue.packet(), bus.accesses(), &ports)
 }
 

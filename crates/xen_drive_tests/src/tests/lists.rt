@@ -3,7 +3,7 @@
 use super::seats::{NONE, READS};
 use super::turns::COUNTS;
 use crate::bench::{counters, page, shipped};
-use bpf_lists::KeyedRows;
+use bpf_lists::{KeyedRows, MapList};
 use bpf_note::{Kind, MapKey, MapShape};
 use std::alloc::Global;
 use xen_host::{Lists, Op, Queue, Relist};
@@ -12,7 +12,7 @@ use xen_host::{Lists, Op, Queue, Relist};
 fn listed(alloc: Global, key: &[u8]) -> Option<Lists> {
     let rows = KeyedRows::make(alloc, Kind::Exact(4), key).ok()?;
     let mut lists = Vec::new(alloc);
-    lists.push(Some(rows)).ok()?;
+    lists.push(Some(MapList::Rows(rows))).ok()?;
     Lists::make(alloc, lists).ok()
 }
 

@@ -3,7 +3,7 @@
 ghost use Rattle.std.specs.Prelude.{◌≡◌, IfSome};
 
 use super::fixtures::{PASSES, Seen, seen_with, told_by, turn};
-use crate::bench::{counters, page, shipped};
+use crate::bench::{counters, shipped};
 use std::alloc::Global;
 use xen_drive::drive;
 use xen_page::{Bus, Frames, PageBus, Place, Recorder};
@@ -44,17 +44,9 @@ fn turn_over_pages(alloc: Global) -> Option<(Seen, Vec<u32>)> {
     let frames = filled(alloc)?;
     let mut queue = shipped(alloc, &PASSES, &[], 0)?;
     let mut counters = counters(alloc, &queue)?;
-    let mut words = page(alloc)?;
     let mut bus = Recorder::make(alloc, PageBus::of(&frames), 100).ok()?;
     let ports = Ports::new();
-    let op = drive(
-        &mut queue,
-        17,
-        &mut bus,
-        words.as_mut_slice(),
-        counters.as_mut_slice(),
-        &ports,
-    );
+    let op = drive(&mut queue, &mut bus, counters.as_mut_slice(), &ports);
     let seen = seen_with(alloc, told_by(&op)?, queue.packet(), bus.accesses(), &ports)?;
     match bus.answers(alloc) {
         Ok(answers) => Some((seen, answers)),

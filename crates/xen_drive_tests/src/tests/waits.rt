@@ -4,7 +4,7 @@ ghost use Rattle.std.specs.Prelude.{◌≡◌, length};
 ghost use Rattle.xen_back.specs.Queues.{IsReady, wiring_of};
 
 use super::fixtures::{PASSES, Seen, Told, seen_with, told_by};
-use crate::bench::{counters, page, shipped};
+use crate::bench::{counters, shipped};
 use std::alloc::Global;
 use xen_back::Awaited;
 use xen_back_tests::bench::{FRAMES, ready};
@@ -25,17 +25,9 @@ fn told_of(awaited: Awaited) -> Told {
 fn of_shipped(alloc: Global, pages: u32, producer: u32) -> Option<Seen> {
     let mut queue = shipped(alloc, &PASSES, &[], 0)?;
     let mut counters = counters(alloc, &queue)?;
-    let mut words = page(alloc)?;
     let mut bus = ScriptBus::make(alloc, FRAMES, &[producer], 100).ok()?;
     let ports = Ports::new();
-    let op = await_slots(
-        &mut queue,
-        pages,
-        &mut bus,
-        words.as_mut_slice(),
-        counters.as_mut_slice(),
-        &ports,
-    );
+    let op = await_slots(&mut queue, pages, &mut bus, counters.as_mut_slice(), &ports);
     seen_with(alloc, told_by(&op)?, &[], bus.accesses(), &ports)
 }
 

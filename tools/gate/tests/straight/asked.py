@@ -16,13 +16,16 @@ TOOLS = pathlib.Path(__file__).resolve().parents[3]
 EXAMPLES = TOOLS.parent / "examples/straightened"
 # examples whose result is proved to be the same, and how
 PROVED = {"loop": "proved", "loop-with-break": "proved", "nine-ways": "proved", "plain-count": "proved by counts"}
-# programs whose result is proved to be the same by counts, and those with a counter that is stored to otherwise
+PROVED |= {"read-and-count": "proved alone", "syn-share": "proved alone"}
+# programs whose result is proved to be the same by counts, those with a counter that is stored to otherwise, and those with halves of one
 BY_COUNTS = "COUNT", "COUNT_OF_A_NUMBER", "TWO_COUNTS", "COUNT_IN_A_LOOP"
-NO_COUNTS = "COUNT_READ", "DOUBLED", "COUNTER_SET", "COUNTED_TWICE"
+ALONE = "COUNT_READ", "DOUBLED", "COUNTER_SET", "COUNTER_SET_ON_SOME_WAYS", "COUNTED_TWICE"
+HALVES = "HALF_COUNTER", "UPPER_HALF", "BOTH_HALVES"
 # what stands in place of `xdpbox same`, and which of the ways it leaves
 ANSWERS = {
     "a yes": ("echo 'same, 1 slots for 1'", "proved"),
     "a yes by counts": ("echo 'same by counts, 1 slots for 1'", "proved by counts"),
+    "a yes alone": ("echo 'same alone, 1 slots for 1'", "proved alone"),
     "a yes by something else": ("echo 'same by chance, 1 slots for 1'", "compared"),
     "a no": ("echo 'not shown'; exit 1", "compared"),
     "an xdpbox without the command": ("echo 'words refused'; exit 2", "compared"),
@@ -89,7 +92,10 @@ def tests(xdpbox):
     for name in BY_COUNTS:
         found = how(xdpbox, getattr(programs, name), proved=True)
         yield f"{name} is proved by counts", "" if found == "proved by counts" else found
-    for name in NO_COUNTS:
+    for name in ALONE:
+        found = how(xdpbox, getattr(programs, name), proved=True)
+        yield f"{name} is proved alone", "" if found == "proved alone" else found
+    for name in HALVES:
         found = how(xdpbox, getattr(programs, name))
         yield f"{name} isn't", "" if found == "compared" else found
     yield "constants in memory aren't asked of", "" if question(programs.TABLE, programs.TABLE, {}) is None else "they are"

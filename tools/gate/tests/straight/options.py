@@ -1,6 +1,7 @@
 """What tools/settings-from-c is asked for besides a file, and tools/filter-test."""
 import os
 import pathlib
+import re
 import subprocess
 import tempfile
 import tomllib
@@ -58,13 +59,51 @@ def set_tests(clang, xdpbox, path):
     for values, wanted in SET.items():
         words = [word for value in values for word in ("--set", value)]
         made, said, _ = ran(clang, xdpbox, "settings-from-c", *words, path)
-        settings = tomllib.loads(made) if made else {"program": []}
-        runs, _ = machine.filtered(xdpbox, settings, settings["program"], [], [bytes([4, 128, 9, 11]) + bytes(10)])
-        yield f"--set {' '.join(values)}", "" if runs and runs[0][0] == wanted else f"{runs} {said}"
+        yield f"--set {' '.join(values)}", "" if action_of(xdpbox, made) == wanted else said
     for value, wanted in WRONG_VALUES.items():
         made, said, status = ran(clang, xdpbox, "settings-from-c", "--set", value, path)
         yield f"--set {value} is named", "" if status and not made and wanted in said and said.count("\n") == 1 else said
 
+
+def action_of(xdpbox, text):
+    """What becomes of the packet by printed settings."""
+    settings = tomllib.loads(text) if text else {"program": []}
+    runs, _ = machine.filtered(xdpbox, settings, settings["program"], [], [bytes([4, 128, 9, 11]) + bytes(10)])
+    return runs[0][0] if runs else None
+
+
+# settings in which a number can't be set
+WRONG_SETTINGS = {
+    "no comment": lambda text: re.sub("(?m)^# constant .*\n", "", text),
+    "another map": lambda text: text.replace("of map .rodata", "of map a"),
+    "too far": lambda text: text.replace("bytes 0 to 0", "bytes 99 to 99"),
+    "turned round": lambda text: text.replace("bytes 0 to 0", "bytes 3 to 0"),
+    "no TOML": lambda text: text + "]",
+    "a row in two notations": lambda text: text.replace('"01', '"\\u00301'),
+}
+
+
+def set_again_tests(clang, xdpbox, path):
+    """Settings that were printed, with other numbers: nothing is compiled, and xdpbox isn't asked."""
+    source = path.with_suffix(".c")
+    source.write_text(HEADERS + LIMITS)
+    first, _, _ = ran(clang, xdpbox, "settings-from-c", source)
+    path.write_text(first)
+    for values, wanted in SET.items():
+        words = [word for value in values for word in ("--set", value)]
+        made, said, _ = ran("/nowhere", "/nowhere", "settings-from-c", *words, path) if values else (first, "", 0)
+        yield f"{' '.join(values)} set again", "" if action_of(xdpbox, made) == wanted else said
+        yield "with the same program", "" if made and tomllib.loads(made)["program"] == tomllib.loads(first)["program"] else made
+    for value in ("fifth=1", "first=256", "second=-32769"):
+        made, said, status = ran(clang, xdpbox, "settings-from-c", "--set", value, path)
+        yield f"{value} set again is named", "" if status and not made and said.count("\n") == 1 else made + said
+    for words in ((), ("--set", "first=1", "--guard"), ("--set", "first=1", "m=9")):
+        made, said, status = ran(clang, xdpbox, "settings-from-c", *words[:2], path, *words[2:])
+        yield f"{words} of settings", "" if status and not made and "and nothing else" in said else made + said
+    for name, changed in WRONG_SETTINGS.items():
+        path.write_text(changed(first))
+        made, said, status = ran(clang, xdpbox, "settings-from-c", "--set", "first=4", path)
+        yield f"{name}: no number is set", "" if status == 1 and not made and said.count("\n") == 1 else made + said
 
 SIZES = """struct { __uint(type, BPF_MAP_TYPE_%s); __type(key, __u32); __type(value, struct { __u64 n[2]; }); } m SEC(".maps");
 SEC("xdp") int f(struct xdp_md *ctx) { __u32 k = 0; __u64 *v = bpf_map_lookup_elem(&m, &k); if (v) __sync_fetch_and_add(v + 1, 1); return XDP_PASS; }
@@ -110,7 +149,7 @@ def same_tests(clang, xdpbox, path):
     made, said, status = ran(clang, xdpbox, "settings-from-c", "--same", kept, source)
     right = made and not status and called(xdpbox, kept.read_text()) == "same"
     yield "--same keeps a question", "" if right else said
-    for source, wanted in ((FILTERS / "31-syslog.c", ""), (path, "isn't asked about")):
+    for source, wanted in ((path, "nothing was asked"), (FILTERS / "34-sack.c", "isn't asked about")):
         kept.unlink(missing_ok=True)
         made, said, status = ran(clang, xdpbox, "settings-from-c", "--same", kept, source)
         asked = kept.exists() and not status
@@ -173,10 +212,11 @@ def example_tests(clang, xdpbox, folder):
         yield f"the example {name}", "" if not status and "passed, 0 failed\n" in made else made[-600:] + said
 
 
-# filters of which Linux makes the same: arrays and constants, and lists of keys
+# filters of which Linux makes the same: arrays, lists of keys, and constants in memory
 BESIDE_LINUX = (
     "47-majority", "61-narrow-values", "63-open-ports", "59-replay-window", "16-blocklist", "65-host-list",
     "66-routes", "67-mac-and-port", "68-keys-in-packets", "69-either-trie", "70-listed-ports", "71-name-hashes",
+    "46-backend-hash", "48-teid-table", "73-lists-and-ports",
 )
 # here the interface has number 0, and in a test run of Linux's it is the loopback one
 OF_INTERFACE = 'SEC("xdp") int f(struct xdp_md *ctx) { return ctx->ingress_ifindex ? XDP_DROP : XDP_PASS; }\n'
@@ -209,6 +249,7 @@ def tests(clang, xdpbox):
     with tempfile.TemporaryDirectory() as name:
         folder = pathlib.Path(name)
         yield from set_tests(clang, xdpbox, folder / "limits.c")
+        yield from set_again_tests(clang, xdpbox, folder / "again.toml")
         yield from size_tests(clang, xdpbox, folder / "sizes.c")
         yield from same_tests(clang, xdpbox, folder / "limits.c")
         yield from packet_tests(clang, xdpbox, folder)

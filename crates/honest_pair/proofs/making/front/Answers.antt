@@ -7,7 +7,7 @@ use Rattle.xen_buffers.specs.declared.desc.FrontDesc.{FrontDesc}
 use Rattle.xen_front.specs.Fronts.{state_of}
 use Rattle.xen_front.specs.Making.{IsMade, IsNew}
 use Rattle.xen_front.specs.declared.front.Front.{Front}
-use Rattle.honest_machine.specs.Layout.{table_frames}
+use Rattle.honest_pair.specs.Machine.Layout.{table_frames}
 use Rattle.honest_pair.specs.Made.{IsFresh}
 use Rattle.xdp_world.specs.Buffers.{granted, granted_from}
 use Rattle.xdp_world.proofs.WiringLemmas.{is_wired}

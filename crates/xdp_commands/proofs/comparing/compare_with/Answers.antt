@@ -1,4 +1,5 @@
 use Rattle.std.proofs.Common.{◌≡◌, List, [], ◌∷◌, refl, ap, sym, ◌∙◌, length, map, subst, rules}
+use Rattle.bpf_same.specs.Alone.{IsSameAlone}
 use Rattle.bpf_same.specs.Counts.{IsSameByCounts, IsWholeByCounts}
 use Rattle.bpf_same.specs.Renumbered.{IsRenumbering}
 use Rattle.bpf_same.specs.Same.{IsSame}
@@ -36,6 +37,21 @@ returns-in-SameByCounts c = record {
       (c.in_ok-compare.ensures.counts_whole c.in-SameByCounts.is);
   counted = c.slots-in-SameByCounts.ensures.slots;
   originals_counted = ap length c.insns-in-SameByCounts.ensures.same;
+}
+
+pub returns-in-SameAlone : goal.returns-in-SameAlone
+returns-in-SameAlone c = record {
+  program = c.args.program.now;
+  original = c.args.original.now;
+  pair = record { accepted = c.requires.program; spelled = c.requires.original };
+  alone =
+      subst (λ s. IsSameAlone s c.args.original.now c.args.program.now.code) c.requires.program.maps
+      (c.in_ok-compare.ensures.alone c.in-SameAlone.is);
+  whole =
+      subst (λ s. IsSameAlone s c.args.program.now.code c.args.original.now) c.requires.program.maps
+      (c.in_ok-compare.ensures.alone_whole c.in-SameAlone.is);
+  counted = c.slots-in-SameAlone.ensures.slots;
+  originals_counted = ap length c.insns-in-SameAlone.ensures.same;
 }
 
 two_maps : (xs : List Read) → map tried (map place_view xs) ≡ map tried_of xs

@@ -1,5 +1,5 @@
 use Rattle.std.proofs.Common.{◌∙◌, ◌++◌, List, [], ◌∷◌, Option, ap, get_or, option_map, sym, subst}
-use Rattle.bpf_lists.specs.Keys.{Keyed}
+use Rattle.bpf_lists.specs.declared.list.MapList.{MapList}
 use Rattle.xdp_load.specs.ListedFault.{IsListed}
 use Rattle.xdp_load.specs.ListedSeen.{list_seen}
 use Rattle.xdp_load.proofs.ListedLemmas.{below_more, lists_taken}
@@ -9,11 +9,11 @@ pub loop-i-preserved : goal.loop-i-preserved
 loop-i-preserved c =
     let (made, below) = c.loop-i.invariant in
     let item = c.index-lists-i.result in
-    let seen : Option Keyed = option_map list_seen (get_or c.args.lists.now c.loop-i.i item) in
+    let seen : Option MapList = option_map list_seen (get_or c.args.lists.now c.loop-i.i item) in
     let at = ap (option_map list_seen) c.index-lists-i.is in
-    let rows = c.in_ok-rows.ensures.rows ∙ at in
-    let listed = subst IsListed at c.in_ok-rows.ensures.listed in (
-      c.in_ok-push.ensures.items ∙ ap (λ (x : Option Keyed). c.loop-i.sorted.items ++ (x ∷ [])) rows ∙ ap (λ (xs : List (Option Keyed)). xs ++ (seen ∷ [])) made
+    let rows = c.in_ok-given.ensures.list ∙ at in
+    let listed = subst IsListed at c.in_ok-given.ensures.listed in (
+      c.in_ok-push.ensures.items ∙ ap (λ (x : Option MapList). c.loop-i.sorted.items ++ (x ∷ [])) rows ∙ ap (λ (xs : List (Option MapList)). xs ++ (seen ∷ [])) made
           ∙ sym (lists_taken c.args.lists.now c.loop-i.i item c.loop-i-test.true),
       below_more c.args.lists.now c.loop-i.i item c.loop-i-test.true below listed,
     )

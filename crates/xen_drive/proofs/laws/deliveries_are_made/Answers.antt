@@ -1,5 +1,5 @@
 use Rattle.xen_host.specs.Queues.{wired_to}
-use Rattle.xen_drive.specs.Driving.{delivery}
+use Rattle.xen_host.specs.Driving.{delivery}
 use Rattle.xen_drive.proofs.BoundLemmas.{delivery_begins, delivery_ends}
 use Rattle.xen_drive.proofs.StepLemmas.{carried_by}
 use Rattle.xen_drive.proofs.laws.deliveries_are_made.Goals as goal

@@ -1,5 +1,5 @@
 use Rattle.xen_host.specs.Queues.{wired_to}
-use Rattle.xen_drive.specs.Driving.{turn}
+use Rattle.xen_host.specs.Driving.{turn}
 use Rattle.xen_drive.proofs.BoundLemmas.{turn_begins, turn_ends}
 use Rattle.xen_drive.proofs.StepLemmas.{carried_by}
 use Rattle.xen_drive.proofs.laws.turns_are_made.Goals as goal

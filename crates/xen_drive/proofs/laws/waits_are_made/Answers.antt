@@ -1,5 +1,5 @@
 use Rattle.xen_host.specs.Queues.{packet_of, wired_to}
-use Rattle.xen_drive.specs.Driving.{wait}
+use Rattle.xen_host.specs.Driving.{wait}
 use Rattle.xen_drive.proofs.BoundLemmas.{wait_begins, wait_ends}
 use Rattle.xen_drive.proofs.StepLemmas.{carried_by}
 use Rattle.xen_drive.proofs.laws.waits_are_made.Goals as goal

@@ -4,8 +4,8 @@ use Rattle.xen_steps.specs.Pages.{HasRoom}
 use Rattle.xen_host.proofs.copying.push_parts.Given as goal
 
 abbrev pub invariant-loop-number : goal.invariant-loop-number
-invariant-loop-number l =
+invariant-loop-number g l =
     record {
-      room : HasRoom (length l.packet) l.fragment (l.from + l.number) 0;
-      read : l.packet ≡ l.fn.packet ++ bytes_from l.fragment l.from (take l.number l.words);
+      room : HasRoom (length (g.R.Room.held l.packet)) l.fragment (l.from + l.number) 0;
+      read : (g.R.Room.held l.packet) ≡ (g.R.Room.held l.fn.packet) ++ bytes_from l.fragment l.from (take l.number l.words);
     }

@@ -16,3 +16,8 @@ pub returns-in-Stx-clause-gives : goal.returns-in-Stx-clause-gives
 returns-in-Stx-clause-gives c =
     let off : FitsSigned w16 c.in-Stx.off = search rules in
     subst (λ (i : Insn). Decides c.stx.result c.args.self.now.pc (facts c.args.self.now.note.now) (after_of i c.args.self.now.pc (facts c.args.self.now.note.now) c.args.self.now.shapes.now)) (sym c.in-Stx.is) (simp to_z-of_z at c.stx.ensures.gives)
+
+pub returns-in-Ldx-clause-gives : goal.returns-in-Ldx-clause-gives
+returns-in-Ldx-clause-gives c =
+    let off : FitsSigned w16 c.in-Ldx.off = search rules in
+    subst (λ (i : Insn). Decides c.ldx.result c.args.self.now.pc (facts c.args.self.now.note.now) (after_of i c.args.self.now.pc (facts c.args.self.now.note.now) c.args.self.now.shapes.now)) (sym c.in-Ldx.is) (simp to_z-of_z at c.ldx.ensures.gives)

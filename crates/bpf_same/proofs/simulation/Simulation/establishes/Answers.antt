@@ -11,5 +11,6 @@ returns-then-preserves c = λ t.
       next = k.next;
       here = k.here;
       preserves = k.preserves;
+      contents = k.contents;
       simulated = subst (λ (n : Noted). SimulatesFrom (candidate_of c.args.self.now) (facts n) c.args.from c.args.there.now.pc) c.deref.ensures (c.simulates_from.ensures t);
     }

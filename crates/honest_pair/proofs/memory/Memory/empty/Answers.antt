@@ -1,6 +1,6 @@
 use Rattle.std.proofs.Common.{ap, false, ℕ}
 use Rattle.xen_page.specs.declared.place.Place.{Place}
-use Rattle.honest_machine.specs.declared.awaits.Awaits.TheVariants as awaits
+use Rattle.honest_pair.specs.declared.awaits.Awaits.TheVariants as awaits
 use Rattle.honest_pair.proofs.WordLemmas.{empty_words}
 use Rattle.honest_pair.proofs.memory.Memory.empty.Goals as goal
 

@@ -1,8 +1,8 @@
 use Rattle.std.proofs.Common.{◌∙◌, ap, ℕ, false}
-use Rattle.honest_machine.specs.Memory.{Memory}
+use Rattle.honest_pair.specs.Machine.Memory.{Memory}
 use Rattle.xen_page.specs.declared.place.Place.{Place}
 use Rattle.honest_pair.specs.Words.{opened}
-use Rattle.honest_machine.specs.declared.awaits.Awaits.TheVariants as awaits
+use Rattle.honest_pair.specs.declared.awaits.Awaits.TheVariants as awaits
 use Rattle.honest_pair.proofs.WordLemmas.{opened_words}
 use Rattle.honest_pair.proofs.memory.Memory.make.Goals as goal
 

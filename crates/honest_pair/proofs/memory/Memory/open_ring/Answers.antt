@@ -1,5 +1,5 @@
 use Rattle.std.proofs.Common.{◌≡◌, ◌∙◌, ap, ℕ}
-use Rattle.honest_machine.specs.Memory.{Memory, put}
+use Rattle.honest_pair.specs.Machine.Memory.{Memory, put}
 use Rattle.xen_page.specs.declared.place.Place.{Place}
 use Rattle.xen_steps.specs.Places.{add32, page_word}
 use Rattle.honest_pair.proofs.memory.Memory.open_ring.Goals as goal

@@ -3,7 +3,7 @@ use Rattle.xen_front.specs.Fronts.{rest}
 use Rattle.xen_steps.specs.Steps.{next}
 use Rattle.xen_steps.specs.Event.{Event, Occurs}
 use Rattle.xen_steps.specs.declared.want.Want.{Want}
-use Rattle.honest_machine.specs.Memory.{Memory, answer}
+use Rattle.honest_pair.specs.Machine.Memory.{Memory, answer}
 use Rattle.honest_pair.specs.Held.{memory_in}
 use Rattle.honest_pair.specs.Shows.{IsGoing}
 use Rattle.honest_pair.proofs.FrontLemmas.{goes_front, not_done, on_ok_map, rests_front}

@@ -1,5 +1,5 @@
 use Rattle.std.proofs.Common.{◌≡◌, refl, sym, ◌∙◌, ap}
-use Rattle.honest_machine.specs.Pair.{Await, Deliver, Poll, Post, Send}
+use Rattle.honest_pair.specs.Machine.Pair.{Await, Deliver, Poll, Post, Send}
 use Rattle.honest_pair.specs.Events.{event_in}
 use Rattle.honest_pair.proofs.FrontLemmas.{does_as, on_ok_map, poll_does, post_does, send_does}
 use Rattle.honest_pair.proofs.pair.Pair.step.Goals as goal

@@ -2,7 +2,7 @@ use Rattle.std.proofs.Common.{List, ℕ, ◌∙◌, ap}
 use Rattle.xen_turns.specs.Turned.{turned}
 use Rattle.xen_steps.specs.Steps.{done}
 use Rattle.xen_back.specs.declared.by_event.phase.Phase.TheVariants as phases
-use Rattle.xen_back.proofs.InOneGoLemmas.{packet_at_phase}
+use Rattle.xen_back.proofs.StageLemmas.{packet_at_phase}
 use Rattle.xen_back.specs.Rest.{at_phase}
 use Rattle.xen_back.specs.declared.by_event.stage.Stage.{Stage}
 use Rattle.xen_back.proofs.by_event.ending.over.Goals as goal

@@ -8,16 +8,16 @@ use Rattle.xen_host.proofs.engine.Engine.after_fill.Goals as goal
 
 pub returns-in-Producer : goal.returns-in-Producer
 returns-in-Producer g c =
-    let q = engine_at (g.W.Wires.wiring c.args.wires.now) c.args.packet.now c.args.self.now in
+    let q = engine_at (g.W.Wires.wiring c.args.wires.now) (g.R.Room.held c.args.packet.now) c.args.self.now in
     let r = c.found in
     record {
-      led = subst (λ (f : Fill). FillGoesOn g.H.Host.was_asked g.H.Host.is_full g.H.Host.has_given f c.args.purpose q (engine_at q.wires r.new.packet r.new.self) c.args.host.now r.new.host) (sym c.in-Producer.is)
+      led = subst (λ (f : Fill). FillGoesOn g.H.Host.was_asked g.H.Host.is_full g.H.Host.has_given f c.args.purpose q (engine_at q.wires (g.R.Room.held r.new.packet) r.new.self) c.args.host.now r.new.host) (sym c.in-Producer.is)
           (record { words = _; mid = c.word-producer.new.self; given = (refl, c.word-producer.ensures.given, (c.word-producer.type_inv, tt)); led = r.ensures.led });
     }
 
 pub returns-in-Slot : goal.returns-in-Slot
 returns-in-Slot g c =
-    let q = engine_at (g.W.Wires.wiring c.args.wires.now) c.args.packet.now c.args.self.now in
+    let q = engine_at (g.W.Wires.wiring c.args.wires.now) (g.R.Room.held c.args.packet.now) c.args.self.now in
     let r = c.after_post in
     record {
       led = subst (λ (f : Fill). FillGoesOn g.H.Host.was_asked g.H.Host.is_full g.H.Host.has_given f c.args.purpose q (engine_at q.wires q.work.packet r.new.self) c.args.host.now r.new.host) (sym c.in-Slot.is)
@@ -26,7 +26,7 @@ returns-in-Slot g c =
 
 pub returns-in-Grant : goal.returns-in-Grant
 returns-in-Grant g c =
-    let q = engine_at (g.W.Wires.wiring c.args.wires.now) c.args.packet.now c.args.self.now in
+    let q = engine_at (g.W.Wires.wiring c.args.wires.now) (g.R.Room.held c.args.packet.now) c.args.self.now in
     let r = c.after_grant in
     record {
       led = subst (λ (f : Fill). FillGoesOn g.H.Host.was_asked g.H.Host.is_full g.H.Host.has_given f c.args.purpose q (engine_at q.wires q.work.packet r.new.self) c.args.host.now r.new.host) (sym c.in-Grant.is)
@@ -35,7 +35,7 @@ returns-in-Grant g c =
 
 pub returns-in-Words : goal.returns-in-Words
 returns-in-Words g c =
-    let q = engine_at (g.W.Wires.wiring c.args.wires.now) c.args.packet.now c.args.self.now in
+    let q = engine_at (g.W.Wires.wiring c.args.wires.now) (g.R.Room.held c.args.packet.now) c.args.self.now in
     let r = c.write_page in
     record {
       led = subst (λ (f : Fill). FillGoesOn g.H.Host.was_asked g.H.Host.is_full g.H.Host.has_given f c.args.purpose q (engine_at q.wires q.work.packet r.new.self) c.args.host.now r.new.host) (sym c.in-Words.is)
@@ -44,7 +44,7 @@ returns-in-Words g c =
 
 pub returns-in-Respond : goal.returns-in-Respond
 returns-in-Respond g c =
-    let q = engine_at (g.W.Wires.wiring c.args.wires.now) c.args.packet.now c.args.self.now in
+    let q = engine_at (g.W.Wires.wiring c.args.wires.now) (g.R.Room.held c.args.packet.now) c.args.self.now in
     let r = c.reply_from in
     record {
       led = subst (λ (f : Fill). FillGoesOn g.H.Host.was_asked g.H.Host.is_full g.H.Host.has_given f c.args.purpose q (engine_at q.wires q.work.packet r.new.self) c.args.host.now r.new.host) (sym c.in-Respond.is)
@@ -53,18 +53,18 @@ returns-in-Respond g c =
 
 pub returns-in-Push : goal.returns-in-Push
 returns-in-Push g c =
-    let q = engine_at (g.W.Wires.wiring c.args.wires.now) c.args.packet.now c.args.self.now in
+    let q = engine_at (g.W.Wires.wiring c.args.wires.now) (g.R.Room.held c.args.packet.now) c.args.self.now in
     let r = c.after_reply_event in
     record {
-      led = subst (λ (f : Fill). FillGoesOn g.H.Host.was_asked g.H.Host.is_full g.H.Host.has_given f c.args.purpose q (engine_at q.wires r.new.packet r.new.self) c.args.host.now r.new.host) (sym c.in-Push.is)
+      led = subst (λ (f : Fill). FillGoesOn g.H.Host.was_asked g.H.Host.is_full g.H.Host.has_given f c.args.purpose q (engine_at q.wires (g.R.Room.held r.new.packet) r.new.self) c.args.host.now r.new.host) (sym c.in-Push.is)
           (record { words = _; mid = c.word-event.new.self; given = (refl, c.word-event.ensures.given, (c.word-event.type_inv, tt)); led = r.ensures.led });
     }
 
 pub returns-in-Notice : goal.returns-in-Notice
 returns-in-Notice g c =
-    let q = engine_at (g.W.Wires.wiring c.args.wires.now) c.args.packet.now c.args.self.now in
+    let q = engine_at (g.W.Wires.wiring c.args.wires.now) (g.R.Room.held c.args.packet.now) c.args.self.now in
     let r = c.replied in
     record {
-      led = subst (λ (f : Fill). FillGoesOn g.H.Host.was_asked g.H.Host.is_full g.H.Host.has_given f c.args.purpose q (engine_at q.wires r.new.packet r.new.self) c.args.host.now r.new.host) (sym c.in-Notice.is)
+      led = subst (λ (f : Fill). FillGoesOn g.H.Host.was_asked g.H.Host.is_full g.H.Host.has_given f c.args.purpose q (engine_at q.wires (g.R.Room.held r.new.packet) r.new.self) c.args.host.now r.new.host) (sym c.in-Notice.is)
           (record { words = []; mid = c.args.host.now; given = (refl, refl); led = r.ensures.led });
     }

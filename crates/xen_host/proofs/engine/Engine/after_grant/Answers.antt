@@ -14,7 +14,7 @@ use Rattle.xen_host.proofs.engine.Engine.after_grant.Goals as goal
 
 pub returns-in-Err : goal.returns-in-Err
 returns-in-Err g c =
-    let q = engine_at (g.W.Wires.wiring c.args.wires.now) c.args.packet.now c.args.self.now in
+    let q = engine_at (g.W.Wires.wiring c.args.wires.now) (g.R.Room.held c.args.packet.now) c.args.self.now in
     let w = q.wires.vif in
     let x = q.state.rx_index in
     let ts = q.work.targets in
@@ -25,7 +25,7 @@ returns-in-Err g c =
 
 pub returns-else-left-eq0 : goal.returns-else-left-eq0
 returns-else-left-eq0 g c =
-    let q = engine_at (g.W.Wires.wiring c.args.wires.now) c.args.packet.now c.args.self.now in
+    let q = engine_at (g.W.Wires.wiring c.args.wires.now) (g.R.Room.held c.args.packet.now) c.args.self.now in
     let w = q.wires.vif in
     let x = q.state.rx_index in
     let ts = q.work.targets in

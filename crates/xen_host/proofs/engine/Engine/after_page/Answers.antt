@@ -7,7 +7,7 @@ use Rattle.xen_host.proofs.engine.Engine.after_page.Goals as goal
 
 pub returns : goal.returns
 returns g c =
-    let q = engine_at (g.W.Wires.wiring c.args.wires.now) c.args.packet.now c.args.self.now in
+    let q = engine_at (g.W.Wires.wiring c.args.wires.now) (g.R.Room.held c.args.packet.now) c.args.self.now in
     let w = q.wires in
     let b = q.work in
     let p = c.page.ensures.given in

@@ -17,7 +17,7 @@ use Rattle.xen_host.proofs.engine.Engine.after_post.Goals as goal
 
 pub returns-in-None : goal.returns-in-None
 returns-in-None g c =
-    let q = engine_at (g.W.Wires.wiring c.args.wires.now) c.args.packet.now c.args.self.now in
+    let q = engine_at (g.W.Wires.wiring c.args.wires.now) (g.R.Room.held c.args.packet.now) c.args.self.now in
     let w = q.wires.vif in
     let x = q.state.rx_index in
     let ts = q.work.targets in
@@ -30,7 +30,7 @@ returns-in-None g c =
 
 pub returns-in-Some : goal.returns-in-Some
 returns-in-Some g c =
-    let q = engine_at (g.W.Wires.wiring c.args.wires.now) c.args.packet.now c.args.self.now in
+    let q = engine_at (g.W.Wires.wiring c.args.wires.now) (g.R.Room.held c.args.packet.now) c.args.self.now in
     let w = q.wires.vif in
     let x = q.state.rx_index in
     let ts = q.work.targets in

@@ -9,7 +9,7 @@ use Rattle.xen_host.proofs.engine.Engine.after_reply_event.Goals as goal
 
 pub returns-then-due : goal.returns-then-due
 returns-then-due g c =
-    let q = engine_at (g.W.Wires.wiring c.args.wires.now) c.args.packet.now c.args.self.now in
+    let q = engine_at (g.W.Wires.wiring c.args.wires.now) (g.R.Room.held c.args.packet.now) c.args.self.now in
     let w = q.wires.vif in
     let x = q.state.rx_index in
     let due : true ≡ is_due x (add32 x (length q.work.targets)) c.args.event = sym c.if-due.true ∙ c.due.ensures ∙ ap (λ k. is_due x (add32 x k) c.args.event) c.len.ensures.value in
@@ -17,7 +17,7 @@ returns-then-due g c =
 
 pub returns-else-due : goal.returns-else-due
 returns-else-due g c =
-    let q = engine_at (g.W.Wires.wiring c.args.wires.now) c.args.packet.now c.args.self.now in
+    let q = engine_at (g.W.Wires.wiring c.args.wires.now) (g.R.Room.held c.args.packet.now) c.args.self.now in
     let w = q.wires.vif in
     let x = q.state.rx_index in
     let due : false ≡ is_due x (add32 x (length q.work.targets)) c.args.event = sym c.if-due.false ∙ c.due.ensures ∙ ap (λ k. is_due x (add32 x k) c.args.event) c.len.ensures.value in

@@ -17,7 +17,7 @@ use Rattle.xen_host.proofs.engine.Engine.after_slot.Goals as goal
 
 pub returns-in-Err : goal.returns-in-Err
 returns-in-Err g c =
-    let q = engine_at (g.W.Wires.wiring c.args.wires.now) c.args.packet.now c.args.self.now in
+    let q = engine_at (g.W.Wires.wiring c.args.wires.now) (g.R.Room.held c.args.packet.now) c.args.self.now in
     let w = q.wires in
     let l = q.work.chain ++ c.args.slot ∷ [] in
     let rest = read_slots w q.state.tx_index c.args.left l in
@@ -26,13 +26,13 @@ returns-in-Err g c =
     let n = c.args.counters.now in
     let did = g.T.Tallies.did q.wires.program.now.shapes in
     record {
-      led = subst (λ (f : TxFlags). TurnRanLeads g.H.Host.was_asked g.H.Host.is_full f from (engine_at q.wires c.halt.new.packet c.halt.new.self) (Went did n n) c.args.host.now c.halt.new.host) c.flags_behind-flags.ensures
+      led = subst (λ (f : TxFlags). TurnRanLeads g.H.Host.was_asked g.H.Host.is_full f from (engine_at q.wires (g.R.Room.held c.halt.new.packet) c.halt.new.self) (Went did n n) c.args.host.now c.halt.new.host) c.flags_behind-flags.ensures
           (ran_led _ _ _ _ _ _ (Went (g.T.Tallies.did q.wires.program.now.shapes) c.args.counters.now c.args.counters.now) _ _ refl (sym same) (c.halt.ensures.led q.wires));
     }
 
 pub returns-in-Ok-Complete : goal.returns-in-Ok-Complete
 returns-in-Ok-Complete g c =
-    let q = engine_at (g.W.Wires.wiring c.args.wires.now) c.args.packet.now c.args.self.now in
+    let q = engine_at (g.W.Wires.wiring c.args.wires.now) (g.R.Room.held c.args.packet.now) c.args.self.now in
     let w = q.wires in
     let l = q.work.chain ++ c.args.slot ∷ [] in
     let rest = read_slots w q.state.tx_index c.args.left l in
@@ -41,13 +41,13 @@ returns-in-Ok-Complete g c =
     let same = ap (λ (o : Option (Result ChainState ChainFault)). bind (judged l o rest) (after_scan w q.state)) is in
     let whole = ap (λ (x : List Slot). after_chain w q.state x (fragments_of x)) c.in-Ok-Complete.ensures.ok in
     record {
-      led = subst (λ (f : TxFlags). TurnRanLeads g.H.Host.was_asked g.H.Host.is_full f from (engine_at q.wires c.begin_copy.new.packet c.begin_copy.new.self) (Went (g.T.Tallies.did q.wires.program.now.shapes) c.args.counters.now c.begin_copy.new.counters) c.args.host.now c.begin_copy.new.host) c.flags_behind-flags.ensures
+      led = subst (λ (f : TxFlags). TurnRanLeads g.H.Host.was_asked g.H.Host.is_full f from (engine_at q.wires (g.R.Room.held c.begin_copy.new.packet) c.begin_copy.new.self) (Went (g.T.Tallies.did q.wires.program.now.shapes) c.args.counters.now c.begin_copy.new.counters) c.args.host.now c.begin_copy.new.host) c.flags_behind-flags.ensures
           (ran_from_same _ _ _ _ _ _ _ _ _ (whole ∙ sym same) c.begin_copy.ensures.led);
     }
 
 pub returns-in-Ok-Data : goal.returns-in-Ok-Data
 returns-in-Ok-Data g c =
-    let q = engine_at (g.W.Wires.wiring c.args.wires.now) c.args.packet.now c.args.self.now in
+    let q = engine_at (g.W.Wires.wiring c.args.wires.now) (g.R.Room.held c.args.packet.now) c.args.self.now in
     let w = q.wires in
     let l = q.work.chain ++ c.args.slot ∷ [] in
     let rest = read_slots w q.state.tx_index c.args.left l in
@@ -58,13 +58,13 @@ returns-in-Ok-Data g c =
     let n = c.args.counters.now in
     let did = g.T.Tallies.did q.wires.program.now.shapes in
     record {
-      led = subst (λ (f : TxFlags). TurnRanLeads g.H.Host.was_asked g.H.Host.is_full f from (engine_at q.wires c.more_slots.new.packet c.more_slots.new.self) (Went did n n) c.args.host.now c.more_slots.new.host) c.flags_behind-flags.ensures
+      led = subst (λ (f : TxFlags). TurnRanLeads g.H.Host.was_asked g.H.Host.is_full f from (engine_at q.wires (g.R.Room.held c.more_slots.new.packet) c.more_slots.new.self) (Went did n n) c.args.host.now c.more_slots.new.host) c.flags_behind-flags.ensures
           (ran_led _ _ _ _ _ _ (Went (g.T.Tallies.did q.wires.program.now.shapes) c.args.counters.now c.args.counters.now) _ _ refl (more ∙ sym same) c.more_slots.ensures.led);
     }
 
 pub returns-in-Ok-Extra : goal.returns-in-Ok-Extra
 returns-in-Ok-Extra g c =
-    let q = engine_at (g.W.Wires.wiring c.args.wires.now) c.args.packet.now c.args.self.now in
+    let q = engine_at (g.W.Wires.wiring c.args.wires.now) (g.R.Room.held c.args.packet.now) c.args.self.now in
     let w = q.wires in
     let l = q.work.chain ++ c.args.slot ∷ [] in
     let rest = read_slots w q.state.tx_index c.args.left l in
@@ -76,6 +76,6 @@ returns-in-Ok-Extra g c =
     let did = g.T.Tallies.did q.wires.program.now.shapes in
     let m = c.more_slots-in-Ok-Extra in
     record {
-      led = subst (λ (f : TxFlags). TurnRanLeads g.H.Host.was_asked g.H.Host.is_full f from (engine_at q.wires m.new.packet m.new.self) (Went did n n) c.args.host.now m.new.host) c.flags_behind-flags.ensures
+      led = subst (λ (f : TxFlags). TurnRanLeads g.H.Host.was_asked g.H.Host.is_full f from (engine_at q.wires (g.R.Room.held m.new.packet) m.new.self) (Went did n n) c.args.host.now m.new.host) c.flags_behind-flags.ensures
           (ran_led _ _ _ _ _ _ (Went (g.T.Tallies.did q.wires.program.now.shapes) c.args.counters.now c.args.counters.now) _ _ refl (more ∙ sym same) m.ensures.led);
     }

@@ -10,14 +10,14 @@ use Rattle.xen_host.proofs.engine.Engine.begin.Goals as goal
 
 pub returns-in-Some : goal.returns-in-Some
 returns-in-Some g c =
-    let q = engine_at (g.W.Wires.wiring c.args.wires.now) c.args.packet.now c.args.self.now in
+    let q = engine_at (g.W.Wires.wiring c.args.wires.now) (g.R.Room.held c.args.packet.now) c.args.self.now in
     let w = q.wires in
     let same = sym (ap (λ (o : Option Halt). next (unless_halted w q.state o) c.args.producer) c.in-Some.is) in
     record { led = asked_from _ _ _ _ _ _ _ _ _ same (c.end.ensures.led q.wires) }
 
 pub returns-in-None : goal.returns-in-None
 returns-in-None g c =
-    let q = engine_at (g.W.Wires.wiring c.args.wires.now) c.args.packet.now c.args.self.now in
+    let q = engine_at (g.W.Wires.wiring c.args.wires.now) (g.R.Room.held c.args.packet.now) c.args.self.now in
     let w = q.wires in
     let live = ap (λ (o : Option Halt). next (unless_halted w q.state o) c.args.producer) c.in_default.is in
     let shown = ap (λ (o : Option ℕ). bind (seen w q.state.tx_index o) (after_look w q.state)) (sym c.requests_shown.ensures ∙ c.in-None.is) in
@@ -25,7 +25,7 @@ returns-in-None g c =
 
 pub returns-then-n-eq0 : goal.returns-then-n-eq0
 returns-then-n-eq0 g c =
-    let q = engine_at (g.W.Wires.wiring c.args.wires.now) c.args.packet.now c.args.self.now in
+    let q = engine_at (g.W.Wires.wiring c.args.wires.now) (g.R.Room.held c.args.packet.now) c.args.self.now in
     let w = q.wires in
     let n = c.in-Some-requests_shown.n in
     let live = ap (λ (o : Option Halt). next (unless_halted w q.state o) c.args.producer) c.in_default.is in
@@ -35,7 +35,7 @@ returns-then-n-eq0 g c =
 
 pub returns-else-n-eq0 : goal.returns-else-n-eq0
 returns-else-n-eq0 g c =
-    let q = engine_at (g.W.Wires.wiring c.args.wires.now) c.args.packet.now c.args.self.now in
+    let q = engine_at (g.W.Wires.wiring c.args.wires.now) (g.R.Room.held c.args.packet.now) c.args.self.now in
     let w = q.wires in
     let n = c.in-Some-requests_shown.n in
     let some : 0 < n = omega (arith, c.if-n-eq0.false) in

@@ -15,7 +15,7 @@ use Rattle.xen_host.proofs.engine.Engine.begin_copy.Goals as goal
 
 pub returns-in-Err : goal.returns-in-Err
 returns-in-Err g c =
-    let q = engine_at (g.W.Wires.wiring c.args.wires.now) c.args.packet.now c.args.self.now in
+    let q = engine_at (g.W.Wires.wiring c.args.wires.now) (g.R.Room.held c.args.packet.now) c.args.self.now in
     let w = q.wires in
     let chain = q.work.chain in
     let fault = c.in-Err.fault in
@@ -24,7 +24,7 @@ returns-in-Err g c =
 
 pub returns-in-Ok : goal.returns-in-Ok
 returns-in-Ok g c =
-    let q = engine_at (g.W.Wires.wiring c.args.wires.now) c.args.packet.now c.args.self.now in
+    let q = engine_at (g.W.Wires.wiring c.args.wires.now) (g.R.Room.held c.args.packet.now) c.args.self.now in
     let w = q.wires in
     let chain = q.work.chain in
     let new = c.place_fragments.new.self in

@@ -13,7 +13,7 @@ use Rattle.xen_host.proofs.engine.Engine.begin_page.Goals as goal
 
 pub returns-then-words : goal.returns-then-words
 returns-then-words g c =
-    let q = engine_at (g.W.Wires.wiring c.args.wires.now) c.args.packet.now c.args.self.now in
+    let q = engine_at (g.W.Wires.wiring c.args.wires.now) (g.R.Room.held c.args.packet.now) c.args.self.now in
     let w = q.wires in
     let b = q.work in
     let f = c.args.fragment in
@@ -24,7 +24,7 @@ returns-then-words g c =
 
 pub returns : goal.returns
 returns g c =
-    let q = engine_at (g.W.Wires.wiring c.args.wires.now) c.args.packet.now c.args.self.now in
+    let q = engine_at (g.W.Wires.wiring c.args.wires.now) (g.R.Room.held c.args.packet.now) c.args.self.now in
     let w = q.wires in
     let b = q.work in
     let f = c.args.fragment in

@@ -13,7 +13,7 @@ use Rattle.xen_host.proofs.engine.Engine.found.Goals as goal
 
 pub returns-else-pages-eq0 : goal.returns-else-pages-eq0
 returns-else-pages-eq0 g c =
-    let q = engine_at (g.W.Wires.wiring c.args.wires.now) c.args.packet.now c.args.self.now in
+    let q = engine_at (g.W.Wires.wiring c.args.wires.now) (g.R.Room.held c.args.packet.now) c.args.self.now in
     let w = q.wires.vif in
     let x = q.state.rx_index in
     let p = q.work.packet in

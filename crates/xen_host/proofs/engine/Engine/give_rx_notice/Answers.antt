@@ -11,13 +11,13 @@ use Rattle.xen_host.proofs.engine.Engine.give_rx_notice.Goals as goal
 
 pub returns-then-has_room : goal.returns-then-has_room
 returns-then-has_room g c =
-    let q = engine_at (g.W.Wires.wiring c.args.wires.now) c.args.packet.now c.args.self.now in
+    let q = engine_at (g.W.Wires.wiring c.args.wires.now) (g.R.Room.held c.args.packet.now) c.args.self.now in
     let left = done (outcome_of c.args.grants (length q.work.targets)) in
     record { led = fill_before _ _ c.args.purpose (beside q) _ left _ _ _ _ (ask.Notify q.wires.vif.port) [] (subst (λ p. g.H.Host.was_asked c.args.host.now (ask.Notify p) [] c.notify.new.self) c.port.ensures c.notify.ensures.asked) refl tt (left, (0, (refl, refl), refl), refl) c.replied.ensures.led }
 
 pub returns-else-has_room : goal.returns-else-has_room
 returns-else-has_room g c =
-    let q = engine_at (g.W.Wires.wiring c.args.wires.now) c.args.packet.now c.args.self.now in
+    let q = engine_at (g.W.Wires.wiring c.args.wires.now) (g.R.Room.held c.args.packet.now) c.args.self.now in
     let ts = q.work.targets in
     let f = fill.Notice c.args.grants in
     let left = done (outcome_of c.args.grants (length ts)) in

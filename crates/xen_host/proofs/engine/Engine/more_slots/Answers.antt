@@ -8,14 +8,14 @@ use Rattle.xen_host.proofs.engine.Engine.more_slots.Goals as goal
 
 pub returns-then-left-eq0 : goal.returns-then-left-eq0
 returns-then-left-eq0 g c =
-    let q = engine_at (g.W.Wires.wiring c.args.wires.now) c.args.packet.now c.args.self.now in
+    let q = engine_at (g.W.Wires.wiring c.args.wires.now) (g.R.Room.held c.args.packet.now) c.args.self.now in
     let w = q.wires in
     let same = ap (λ k. bind (read_slots w q.state.tx_index k q.work.chain) (after_scan w q.state)) c.if-left-eq0.true in
     record { led = asked_from _ _ _ _ _ _ _ _ _ (sym same) (c.halt.ensures.led q.wires) }
 
 pub returns-else-left-eq0 : goal.returns-else-left-eq0
 returns-else-left-eq0 g c =
-    let q = engine_at (g.W.Wires.wiring c.args.wires.now) c.args.packet.now c.args.self.now in
+    let q = engine_at (g.W.Wires.wiring c.args.wires.now) (g.R.Room.held c.args.packet.now) c.args.self.now in
     let w = q.wires in
     let some : 0 < c.args.left = omega (arith, c.if-left-eq0.false) in
     let same = ap (λ x. bind x (after_scan w q.state)) (read_slots_more w q.state c.args.left q.work.chain some) in

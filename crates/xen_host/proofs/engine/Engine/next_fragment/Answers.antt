@@ -10,7 +10,7 @@ use Rattle.xen_host.proofs.engine.Engine.next_fragment.Goals as goal
 
 pub returns-else-i-fragment_count : goal.returns-else-i-fragment_count
 returns-else-i-fragment_count g c =
-    let q = engine_at (g.W.Wires.wiring c.args.wires.now) c.args.packet.now c.args.self.now in
+    let q = engine_at (g.W.Wires.wiring c.args.wires.now) (g.R.Room.held c.args.packet.now) c.args.self.now in
     let w = q.wires in
     let b = q.work in
     let h : c.args.i < length b.fragments = omega (arith, c.if-i-fragment_count.false, c.requires.copies.within, c.fragment_count.ensures.value) in

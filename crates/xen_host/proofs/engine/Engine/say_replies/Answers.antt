@@ -8,7 +8,7 @@ loop-i-init g c = record { asked = (0, omega arith, refl); free = c.requires.fre
 
 pub loop-i-preserved : goal.loop-i-preserved
 loop-i-preserved g c =
-    let q = engine_at (g.W.Wires.wiring c.args.wires.now) c.args.packet.now c.args.self.now in
+    let q = engine_at (g.W.Wires.wiring c.args.wires.now) (g.R.Room.held c.args.packet.now) c.args.self.now in
     let s = c.loop-i.invariant.asked in
     record {
       asked = (suc s.0, omega (arith, s.1), replies_asked _ q.wires.vif q.state.rx_index q.work.packet c.args.grants q.work.targets c.args.from s.0 c.loop-i.i _ _ _ s.1 s.2 c.say_reply.ensures.asked);
@@ -17,7 +17,7 @@ loop-i-preserved g c =
 
 pub returns-then-not-has_room : goal.returns-then-not-has_room
 returns-then-not-has_room g c =
-    let q = engine_at (g.W.Wires.wiring c.args.wires.now) c.args.packet.now c.args.self.now in
+    let q = engine_at (g.W.Wires.wiring c.args.wires.now) (g.R.Room.held c.args.packet.now) c.args.self.now in
     let s = c.loop-i.invariant.asked in
     (s.0, omega (arith, s.1), omega (arith, c.loop-i-test.true, c.len-i-end.ensures.value), replies_asked _ q.wires.vif q.state.rx_index q.work.packet c.args.grants q.work.targets c.args.from s.0 c.loop-i.i _ _ _ s.1 s.2 c.say_reply.ensures.asked, c.has_room.ensures.full c.if-not-has_room.true)
 

@@ -9,7 +9,7 @@ use Rattle.xen_host.proofs.engine.Engine.sent.Goals as goal
 
 pub returns-in-Err : goal.returns-in-Err
 returns-in-Err g c =
-    let q = engine_at (g.W.Wires.wiring c.args.wires.now) c.args.packet.now c.args.self.now in
+    let q = engine_at (g.W.Wires.wiring c.args.wires.now) (g.R.Room.held c.args.packet.now) c.args.self.now in
     let w = q.wires in
     let b = q.work in
     let same = c.after_sending.ensures w b.chain b.packet (sym c.len-slots.ensures.len) ∙ ap (λ (r : Result Reply Halt). after_reply w q.state b.chain b.packet r) c.in-Err.is in
@@ -17,7 +17,7 @@ returns-in-Err g c =
 
 pub returns-in-Ok : goal.returns-in-Ok
 returns-in-Ok g c =
-    let q = engine_at (g.W.Wires.wiring c.args.wires.now) c.args.packet.now c.args.self.now in
+    let q = engine_at (g.W.Wires.wiring c.args.wires.now) (g.R.Room.held c.args.packet.now) c.args.self.now in
     let w = q.wires in
     let b = q.work in
     let r = c.in-Ok in

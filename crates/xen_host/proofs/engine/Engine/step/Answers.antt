@@ -14,51 +14,51 @@ use Rattle.xen_host.proofs.engine.Engine.step.Goals as goal
 
 pub returns-in-Announce : goal.returns-in-Announce
 returns-in-Announce g c =
-    let q = engine_at (g.W.Wires.wiring c.args.wires.now) c.args.packet.now c.args.self.now in
+    let q = engine_at (g.W.Wires.wiring c.args.wires.now) (g.R.Room.held c.args.packet.now) c.args.self.now in
     let n = c.args.counters.now in
     let did = g.T.Tallies.did q.wires.program.now.shapes in
     let r = c.looked_again in
     record {
-      led = subst (λ (x : Stage). GoesOnAt g.H.Host.was_asked g.H.Host.is_full g.H.Host.has_given x q (engine_at q.wires r.new.packet r.new.self) (Went did n n) c.args.host.now r.new.host) (sym c.in-Announce.is)
+      led = subst (λ (x : Stage). GoesOnAt g.H.Host.was_asked g.H.Host.is_full g.H.Host.has_given x q (engine_at q.wires (g.R.Room.held r.new.packet) r.new.self) (Went did n n) c.args.host.now r.new.host) (sym c.in-Announce.is)
           (record { words = _; mid = c.word-producer.new.self; given = (refl, c.word-producer.ensures.given, (c.word-producer.type_inv, tt)); led = ran_none _ _ _ _ _ (Went (g.T.Tallies.did q.wires.program.now.shapes) c.args.counters.now c.args.counters.now) _ _ refl r.ensures.led });
     }
 
 pub returns-in-Slot : goal.returns-in-Slot
 returns-in-Slot g c =
-    let q = engine_at (g.W.Wires.wiring c.args.wires.now) c.args.packet.now c.args.self.now in
+    let q = engine_at (g.W.Wires.wiring c.args.wires.now) (g.R.Room.held c.args.packet.now) c.args.self.now in
     let n = c.args.counters.now in
     let did = g.T.Tallies.did q.wires.program.now.shapes in
     let r = c.after_slot in
     record {
-      led = subst (λ (x : Stage). GoesOnAt g.H.Host.was_asked g.H.Host.is_full g.H.Host.has_given x q (engine_at q.wires r.new.packet r.new.self) (Went did n r.new.counters) c.args.host.now r.new.host) (sym c.in-Slot.is)
+      led = subst (λ (x : Stage). GoesOnAt g.H.Host.was_asked g.H.Host.is_full g.H.Host.has_given x q (engine_at q.wires (g.R.Room.held r.new.packet) r.new.self) (Went did n r.new.counters) c.args.host.now r.new.host) (sym c.in-Slot.is)
           (record { words = _; mid = c.three.new.self; given = (refl, c.three.ensures.given, words_below (slice_index c.three.result 0 ∷ slice_index c.three.result 1 ∷ slice_index c.three.result 2 ∷ []) c.are_words.ensures); led = r.ensures.led });
     }
 
 pub returns-in-Entry : goal.returns-in-Entry
 returns-in-Entry g c =
-    let q = engine_at (g.W.Wires.wiring c.args.wires.now) c.args.packet.now c.args.self.now in
+    let q = engine_at (g.W.Wires.wiring c.args.wires.now) (g.R.Room.held c.args.packet.now) c.args.self.now in
     let n = c.args.counters.now in
     let did = g.T.Tallies.did q.wires.program.now.shapes in
     let r = c.after_entry in
     record {
-      led = subst (λ (x : Stage). GoesOnAt g.H.Host.was_asked g.H.Host.is_full g.H.Host.has_given x q (engine_at q.wires r.new.packet r.new.self) (Went did n r.new.counters) c.args.host.now r.new.host) (sym c.in-Entry.is)
+      led = subst (λ (x : Stage). GoesOnAt g.H.Host.was_asked g.H.Host.is_full g.H.Host.has_given x q (engine_at q.wires (g.R.Room.held r.new.packet) r.new.self) (Went did n r.new.counters) c.args.host.now r.new.host) (sym c.in-Entry.is)
           (record { words = _; mid = c.two.new.self; given = (refl, c.two.ensures.given, words_below (slice_index c.two.result 0 ∷ slice_index c.two.result 1 ∷ []) c.are_words-in-Entry.ensures); led = r.ensures.led });
     }
 
 pub returns-in-Push : goal.returns-in-Push
 returns-in-Push g c =
-    let q = engine_at (g.W.Wires.wiring c.args.wires.now) c.args.packet.now c.args.self.now in
+    let q = engine_at (g.W.Wires.wiring c.args.wires.now) (g.R.Room.held c.args.packet.now) c.args.self.now in
     let n = c.args.counters.now in
     let did = g.T.Tallies.did q.wires.program.now.shapes in
     let r = c.after_event in
     record {
-      led = subst (λ (x : Stage). GoesOnAt g.H.Host.was_asked g.H.Host.is_full g.H.Host.has_given x q (engine_at q.wires r.new.packet r.new.self) (Went did n n) c.args.host.now r.new.host) (sym c.in-Push.is)
+      led = subst (λ (x : Stage). GoesOnAt g.H.Host.was_asked g.H.Host.is_full g.H.Host.has_given x q (engine_at q.wires (g.R.Room.held r.new.packet) r.new.self) (Went did n n) c.args.host.now r.new.host) (sym c.in-Push.is)
           (record { words = _; mid = c.word-event.new.self; given = (refl, c.word-event.ensures.given, (c.word-event.type_inv, tt)); led = ran_none _ _ _ _ _ (Went (g.T.Tallies.did q.wires.program.now.shapes) c.args.counters.now c.args.counters.now) _ _ refl r.ensures.led });
     }
 
 pub returns-in-Respond : goal.returns-in-Respond
 returns-in-Respond g c =
-    let q = engine_at (g.W.Wires.wiring c.args.wires.now) c.args.packet.now c.args.self.now in
+    let q = engine_at (g.W.Wires.wiring c.args.wires.now) (g.R.Room.held c.args.packet.now) c.args.self.now in
     let n = c.args.counters.now in
     let did = g.T.Tallies.did q.wires.program.now.shapes in
     let r = c.respond_from in
@@ -69,23 +69,23 @@ returns-in-Respond g c =
 
 pub returns-in-Notice : goal.returns-in-Notice
 returns-in-Notice g c =
-    let q = engine_at (g.W.Wires.wiring c.args.wires.now) c.args.packet.now c.args.self.now in
+    let q = engine_at (g.W.Wires.wiring c.args.wires.now) (g.R.Room.held c.args.packet.now) c.args.self.now in
     let n = c.args.counters.now in
     let did = g.T.Tallies.did q.wires.program.now.shapes in
     let r = c.answered in
     record {
-      led = subst (λ (x : Stage). GoesOnAt g.H.Host.was_asked g.H.Host.is_full g.H.Host.has_given x q (engine_at q.wires r.new.packet r.new.self) (Went did n n) c.args.host.now r.new.host) (sym c.in-Notice.is)
+      led = subst (λ (x : Stage). GoesOnAt g.H.Host.was_asked g.H.Host.is_full g.H.Host.has_given x q (engine_at q.wires (g.R.Room.held r.new.packet) r.new.self) (Went did n n) c.args.host.now r.new.host) (sym c.in-Notice.is)
           (record { words = []; mid = c.args.host.now; given = (refl, refl); led = ran_none _ _ _ _ _ (Went (g.T.Tallies.did q.wires.program.now.shapes) c.args.counters.now c.args.counters.now) _ _ refl (r.ensures.led q.wires) });
     }
 
 pub returns-in-Page : goal.returns-in-Page
 returns-in-Page g c =
-    let q = engine_at (g.W.Wires.wiring c.args.wires.now) c.args.packet.now c.args.self.now in
+    let q = engine_at (g.W.Wires.wiring c.args.wires.now) (g.R.Room.held c.args.packet.now) c.args.self.now in
     let n = c.args.counters.now in
     let did = g.T.Tallies.did q.wires.program.now.shapes in
     let r = c.after_page in
     record {
-      led = subst (λ (x : Stage). GoesOnAt g.H.Host.was_asked g.H.Host.is_full g.H.Host.has_given x q (engine_at q.wires r.new.packet r.new.self) (Went did n r.new.counters) c.args.host.now r.new.host) (sym c.in-Page.is)
+      led = subst (λ (x : Stage). GoesOnAt g.H.Host.was_asked g.H.Host.is_full g.H.Host.has_given x q (engine_at q.wires (g.R.Room.held r.new.packet) r.new.self) (Went did n r.new.counters) c.args.host.now r.new.host) (sym c.in-Page.is)
           (let f = c.in-Page.fragment in
           let w = q.wires in
           let b = q.work in
@@ -101,29 +101,29 @@ returns-in-Page g c =
 
 pub returns-in-Fill : goal.returns-in-Fill
 returns-in-Fill g c =
-    let q = engine_at (g.W.Wires.wiring c.args.wires.now) c.args.packet.now c.args.self.now in
+    let q = engine_at (g.W.Wires.wiring c.args.wires.now) (g.R.Room.held c.args.packet.now) c.args.self.now in
     let n = c.args.counters.now in
     let did = g.T.Tallies.did q.wires.program.now.shapes in
     let r = c.after_fill in
     record {
-      led = subst (λ (x : Stage). GoesOnAt g.H.Host.was_asked g.H.Host.is_full g.H.Host.has_given x q (engine_at q.wires r.new.packet r.new.self) (Went did n n) c.args.host.now r.new.host) (sym c.in-Fill.is)
-          (fill_goes _ _ _ c.in-Fill.fill c.in-Fill.purpose q (engine_at q.wires r.new.packet r.new.self) (Went did n n) _ _ refl r.ensures.led);
+      led = subst (λ (x : Stage). GoesOnAt g.H.Host.was_asked g.H.Host.is_full g.H.Host.has_given x q (engine_at q.wires (g.R.Room.held r.new.packet) r.new.self) (Went did n n) c.args.host.now r.new.host) (sym c.in-Fill.is)
+          (fill_goes _ _ _ c.in-Fill.fill c.in-Fill.purpose q (engine_at q.wires (g.R.Room.held r.new.packet) r.new.self) (Went did n n) _ _ refl r.ensures.led);
     }
 
 pub returns-in-Deliver : goal.returns-in-Deliver
 returns-in-Deliver g c =
-    let q = engine_at (g.W.Wires.wiring c.args.wires.now) c.args.packet.now c.args.self.now in
+    let q = engine_at (g.W.Wires.wiring c.args.wires.now) (g.R.Room.held c.args.packet.now) c.args.self.now in
     let n = c.args.counters.now in
     let did = g.T.Tallies.did q.wires.program.now.shapes in
     let r = c.set_out in
     record {
-      led = subst (λ (x : Stage). GoesOnAt g.H.Host.was_asked g.H.Host.is_full g.H.Host.has_given x q (engine_at q.wires r.new.packet r.new.self) (Went did n n) c.args.host.now r.new.host) (sym c.in-Deliver.is)
+      led = subst (λ (x : Stage). GoesOnAt g.H.Host.was_asked g.H.Host.is_full g.H.Host.has_given x q (engine_at q.wires (g.R.Room.held r.new.packet) r.new.self) (Went did n n) c.args.host.now r.new.host) (sym c.in-Deliver.is)
           (r.ensures.led, refl);
     }
 
 pub returns-in-Wait : goal.returns-in-Wait
 returns-in-Wait g c =
-    let q = engine_at (g.W.Wires.wiring c.args.wires.now) c.args.packet.now c.args.self.now in
+    let q = engine_at (g.W.Wires.wiring c.args.wires.now) (g.R.Room.held c.args.packet.now) c.args.self.now in
     let n = c.args.counters.now in
     let did = g.T.Tallies.did q.wires.program.now.shapes in
     let r = c.wait_begun in
@@ -134,7 +134,7 @@ returns-in-Wait g c =
 
 pub returns-in-WaitLook : goal.returns-in-WaitLook
 returns-in-WaitLook g c =
-    let q = engine_at (g.W.Wires.wiring c.args.wires.now) c.args.packet.now c.args.self.now in
+    let q = engine_at (g.W.Wires.wiring c.args.wires.now) (g.R.Room.held c.args.packet.now) c.args.self.now in
     let n = c.args.counters.now in
     let did = g.T.Tallies.did q.wires.program.now.shapes in
     let r = c.wait_looked in

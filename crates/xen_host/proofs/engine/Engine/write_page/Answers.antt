@@ -21,7 +21,7 @@ use Rattle.xen_host.proofs.engine.Engine.write_page.Goals as goal
 
 pub returns-then-to-all : goal.returns-then-to-all
 returns-then-to-all g c =
-    let q = engine_at (g.W.Wires.wiring c.args.wires.now) c.args.packet.now c.args.self.now in
+    let q = engine_at (g.W.Wires.wiring c.args.wires.now) (g.R.Room.held c.args.packet.now) c.args.self.now in
     let w = q.wires.vif in
     let x = q.state.rx_index in
     let p = q.work.packet in
@@ -49,7 +49,7 @@ returns-then-to-all g c =
 
 pub returns : goal.returns
 returns g c =
-    let q = engine_at (g.W.Wires.wiring c.args.wires.now) c.args.packet.now c.args.self.now in
+    let q = engine_at (g.W.Wires.wiring c.args.wires.now) (g.R.Room.held c.args.packet.now) c.args.self.now in
     let w = q.wires.vif in
     let x = q.state.rx_index in
     let p = q.work.packet in

@@ -7,7 +7,7 @@ use Rattle.xen_host.proofs.FedLemmas.{words_below}
 use Rattle.xen_host.proofs.host.OpsHost.page.Goals as goal
 
 pub returns-clause-given : goal.returns-clause-given
-returns-clause-given c =
+returns-clause-given g c =
     let f = c.args.fragment.now in
     let lent = c.args.self.now.words.now in
     let r = c.covered_words-covered.result in
@@ -19,6 +19,6 @@ returns-clause-given c =
       words = take k lent;
       all = all ∙ n;
       below = subst (λ (l : List ℕ). AreWords l) c.front-front.ensures (words_below c.front-front.result.now c.are_words.ensures);
-      read = c.push_words.ensures.read ∙ ap (λ (l : List ℕ). c.args.packet.now ++ bytes_from f (f.offset / 4) l) c.front-front.ensures;
+      read = c.push_words.ensures.read ∙ ap (λ (l : List ℕ). (g.R.Room.held c.args.packet.now) ++ bytes_from f (f.offset / 4) l) c.front-front.ensures;
       given = (sym (ap (λ m. take m lent) all), refl);
     }

@@ -14,7 +14,7 @@ push_all-requires g c =
     let v = c.word_behind-word.result in
     let e = ap length (c.as_slice.ensures.value ∙ c.bytes_in-bytes.ensures) in
     let b = bytes_short f place v refl in
-    omega (arith, e, room_at_end f place (length c.loop-place.packet) (length (bytes_in f place v)) 0 (c.requires.covers place i.up c.loop-place-test.true) b.0 i.room)
+    omega (arith, e, room_at_end f place (length (g.R.Room.held c.loop-place.packet)) (length (bytes_in f place v)) 0 (c.requires.covers place i.up c.loop-place-test.true) b.0 i.room)
 
 pub loop-place-preserved : goal.loop-place-preserved
 loop-place-preserved g c =
@@ -24,12 +24,12 @@ loop-place-preserved g c =
     let v = c.word_behind-word.result in
     let from = c.args.from in
     let place = c.loop-place.place in
-    let packet = c.loop-place.packet in
+    let packet = (g.R.Room.held c.loop-place.packet) in
     let at : place ≡ from + length ws = omega (arith, i.up, i.read.1) in
     let next : place - c.args.start ≡ from - c.args.start + length ws = omega (arith, at, c.requires.ordered.0) in
     let b = bytes_short f place v refl in
-    let same : c.push_all.new.self ≡ packet ++ bytes_in f place v = c.push_all.ensures ∙ ap (λ l. packet ++ l) (c.as_slice.ensures.value ∙ c.bytes_in-bytes.ensures) in
-    let len : length c.push_all.new.self ≡ length packet + length (bytes_in f place v) = ap length same ∙ length-append packet (bytes_in f place v) in
+    let same : (g.R.Room.held c.push_all.new.self) ≡ packet ++ bytes_in f place v = c.push_all.ensures ∙ ap (λ l. packet ++ l) (c.as_slice.ensures.value ∙ c.bytes_in-bytes.ensures) in
+    let len : length (g.R.Room.held c.push_all.new.self) ≡ length packet + length (bytes_in f place v) = ap length same ∙ length-append packet (bytes_in f place v) in
     record {
       up = omega (arith, i.up);
       room = subst (λ k. HasRoom k f (place + 1) 0) (sym len) (room_goes_on f place (length packet) (length (bytes_in f place v)) 0 (c.requires.covers place i.up c.loop-place-test.true) b.1 i.room);
@@ -39,8 +39,8 @@ loop-place-preserved g c =
         run_then g.B.Bus.log g.B.Bus.access_gives g.B.Bus.size (from - c.args.start) (place - c.args.start) ws (v ∷ []) c.args.self.now c.loop-place.self c.word_behind-word.new.self next i.read.2 c.word_behind-word.ensures,
         same
             ∙ ap (λ l. l ++ bytes_in f place v) i.read.3
-            ∙ append_assoc c.args.packet.now (bytes_from f from ws) (bytes_in f place v)
-            ∙ ap (λ l. c.args.packet.now ++ (bytes_from f from ws ++ l)) (ap (λ p. bytes_in f p v) at ∙ sym (append-nil (bytes_in f (from + length ws) v)))
-            ∙ sym (ap (λ l. c.args.packet.now ++ l) (bytes_from-append f from ws (v ∷ []))),
+            ∙ append_assoc (g.R.Room.held c.args.packet.now) (bytes_from f from ws) (bytes_in f place v)
+            ∙ ap (λ l. (g.R.Room.held c.args.packet.now) ++ (bytes_from f from ws ++ l)) (ap (λ p. bytes_in f p v) at ∙ sym (append-nil (bytes_in f (from + length ws) v)))
+            ∙ sym (ap (λ l. (g.R.Room.held c.args.packet.now) ++ l) (bytes_from-append f from ws (v ∷ []))),
       );
     }

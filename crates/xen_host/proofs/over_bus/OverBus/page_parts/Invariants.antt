@@ -8,6 +8,6 @@ abbrev pub invariant-loop-place : goal.invariant-loop-place
 invariant-loop-place g l =
     record {
       up : l.from ≤ l.place;
-      room : HasRoom (length l.packet) l.fragment l.place 0;
-      read : (words : List ℕ) × (length words ≡ l.place - l.from) × MayReadRun g.B.Bus.log g.B.Bus.access_gives g.B.Bus.size l.fn.self (l.from - l.start) words l.self × (l.packet ≡ l.fn.packet ++ bytes_from l.fragment l.from words);
+      room : HasRoom (length (g.R.Room.held l.packet)) l.fragment l.place 0;
+      read : (words : List ℕ) × (length words ≡ l.place - l.from) × MayReadRun g.B.Bus.log g.B.Bus.access_gives g.B.Bus.size l.fn.self (l.from - l.start) words l.self × ((g.R.Room.held l.packet) ≡ (g.R.Room.held l.fn.packet) ++ bytes_from l.fragment l.from words);
     }

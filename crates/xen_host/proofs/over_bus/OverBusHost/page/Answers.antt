@@ -7,19 +7,19 @@ use Rattle.xen_host.specs.Buses.{MayReadRun}
 use Rattle.xen_host.proofs.BusLemmas.{has_read, run_then}
 use Rattle.xen_host.proofs.over_bus.OverBusHost.page.Goals as goal
 
-pub push_due-requires-clause-room : goal.push_due-requires-clause-room
-push_due-requires-clause-room g c =
+pub page_run-requires-clause-room : goal.page_run-requires-clause-room
+page_run-requires-clause-room g c =
     let f = c.args.fragment.now in
     let r = c.whole_words-whole.result in
-    λ h. whole_room f r.start r.end (length c.page_parts.new.packet) c.whole_words-whole.ensures.whole c.page_parts.ensures.room (omega (arith, h))
+    λ h. whole_room f r.start r.end (length (g.R.Room.held c.page_parts.new.packet)) c.whole_words-whole.ensures.whole c.page_parts.ensures.room (omega (arith, h))
 
 pub page_parts-requires-2-clause-room : goal.page_parts-requires-2-clause-room
 page_parts-requires-2-clause-room g c =
     let f = c.args.fragment.now in
     let r = c.whole_words-whole.result in
-    let d = c.push_due.ensures in
-    let before = c.page_parts.new.packet in
-    let len : length c.push_due.new.self ≡ length before + 4 * (r.end - r.start) =
+    let d = c.page_run.ensures in
+    let before = (g.R.Room.held c.page_parts.new.packet) in
+    let len : length (g.R.Room.held c.page_run.new.packet) ≡ length before + 4 * (r.end - r.start) =
     ap length d.3 ∙ length-append before (bytes_of d.0) ∙ ap (λ k. length before + k) (length-bytes_of d.0 ∙ ap (λ k. 4 * k) d.1) in
     subst (λ k. HasRoom k f r.end 0) (sym len)
     (room_after_whole f r.start r.end (length before) c.whole_words-whole.ensures.inside.1 c.whole_words-whole.ensures.whole c.page_parts.ensures.room)
@@ -31,17 +31,17 @@ returns-clause-given g c =
     let size = g.B.Bus.size in
     let x = c.args.self.now in
     let y = c.page_parts.new.self in
-    let z = c.push_due.new.host in
+    let z = c.page_run.new.self in
     let last = c.page_parts-2.new.self in
     let f = c.args.fragment.now in
-    let p0 = c.args.packet.now in
+    let p0 = (g.R.Room.held c.args.packet.now) in
     let e = c.covered_words-covered.ensures in
     let s = c.covered_words-covered.result.start in
     let r = c.whole_words-whole.result in
     let inside = c.whole_words-whole.ensures.inside in
     let start = f.offset / 4 in
     let a = c.page_parts.ensures.read in
-    let b = c.push_due.ensures in
+    let b = c.page_run.ensures in
     let d = c.page_parts-2.ensures.read in
     let none : s - s ≡ 0 = omega arith in
     let ab_count : length (a.0 ++ b.0) ≡ r.end - s = omega (arith, length-append a.0 b.0, e.start, inside.0, inside.1, a.1, b.1) in
@@ -51,8 +51,8 @@ returns-clause-given g c =
     let two = run_then log gives size 0 (r.start - s) a.0 b.0 x y z (omega (arith, a.1)) one b.2 in
     let all = run_then log gives size 0 (r.end - s) (a.0 ++ b.0) d.0 x z last (omega (arith, ab_count)) two d.2 in
     let whole : bytes_of b.0 ≡ bytes_from f r.start b.0 = sym (whole_bytes f r.start r.end b.0 b.1 inside.1 c.whole_words-whole.ensures.whole) in
-    let front : c.page_parts.new.packet ≡ p0 ++ bytes_from f start a.0 = a.3 ∙ ap (λ k. p0 ++ bytes_from f k a.0) e.start in
-    let mid : c.push_due.new.self ≡ p0 ++ bytes_from f start (a.0 ++ b.0) =
+    let front : (g.R.Room.held c.page_parts.new.packet) ≡ p0 ++ bytes_from f start a.0 = a.3 ∙ ap (λ k. p0 ++ bytes_from f k a.0) e.start in
+    let mid : (g.R.Room.held c.page_run.new.packet) ≡ p0 ++ bytes_from f start (a.0 ++ b.0) =
     b.3 ∙ ap (λ l. l ++ bytes_of b.0) front ∙ append_assoc p0 (bytes_from f start a.0) (bytes_of b.0)
     ∙ ap (λ l. p0 ++ (bytes_from f start a.0 ++ l)) (whole ∙ ap (λ k. bytes_from f k b.0) (sym a_at))
     ∙ sym (ap (λ l. p0 ++ l) (bytes_from-append f start a.0 b.0)) in
@@ -74,5 +74,5 @@ returns-clause-length g c =
     let h = returns-clause-given g c in
     let n : length h.words ≡ s.end - s.start = omega (arith, e.count, h.all) in
     let copied : bytes_from f (f.offset / 4) h.words ≡ copy_of f h.words = ap (λ p. bytes_from f p h.words) (sym e.start) ∙ e.copied h.words n in
-    let len = ap length (h.read ∙ ap (λ l. c.args.packet.now ++ l) copied) in
-    omega (arith, len, length-append c.args.packet.now (copy_of f h.words), e.whole h.words n)
+    let len = ap length (h.read ∙ ap (λ l. (g.R.Room.held c.args.packet.now) ++ l) copied) in
+    omega (arith, len, length-append (g.R.Room.held c.args.packet.now) (copy_of f h.words), e.whole h.words n)

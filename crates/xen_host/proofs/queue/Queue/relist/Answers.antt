@@ -2,7 +2,7 @@ use Rattle.std.proofs.Common.{ap, refl, subst, sym}
 use Rattle.std.specs.Prelude.{IsSome}
 use Rattle.xen_rx_fill.specs.Wired.{IsWired}
 use Rattle.xen_host.specs.Completing.{TaskCompletes}
-use Rattle.xen_host.specs.Queues.{between}
+use Rattle.xen_host.specs.UnderWay.{between}
 use Rattle.xen_host.specs.EngineAt.{work_at}
 use Rattle.xen_host.specs.Wired.{wiring_of}
 use Rattle.xen_host.specs.declared.engine.Engine.{Engine}

@@ -1,6 +1,7 @@
 use Rattle.std.proofs.Common.{◌≤◌, length, arith}
 use Rattle.std.proofs.lemmas.Bool.Decides.{nat_tests}
-use Rattle.xen_host.proofs.QueueLemmas.{busy_at, not_few}
+use Rattle.xen_host.proofs.EngineLemmas.{busy_at}
+use Rattle.xen_host.proofs.QueueLemmas.{not_few}
 use Rattle.xen_host.proofs.queue.Queue.step.Goals as goal
 
 pub say_next-requires-clause-busy : goal.say_next-requires-clause-busy

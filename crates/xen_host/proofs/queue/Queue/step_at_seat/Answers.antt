@@ -2,7 +2,8 @@ use Rattle.std.proofs.Common.{◌∙◌, ◌≤◌, List, length, ap, sym, arith
 use Rattle.std.proofs.lemmas.Bool.Decides.{nat_tests}
 use Rattle.bpf_maps.specs.Seats.{SeatView}
 use Rattle.bpf_note.specs.declared.op.Op.{Op}
-use Rattle.xen_host.proofs.QueueLemmas.{busy_at, not_few_at_seat}
+use Rattle.xen_host.proofs.EngineLemmas.{busy_at}
+use Rattle.xen_host.proofs.QueueLemmas.{not_few_at_seat}
 use Rattle.xen_host.proofs.queue.Queue.step_at_seat.Goals as goal
 
 pub say_next_at_seat-requires-clause-busy : goal.say_next_at_seat-requires-clause-busy

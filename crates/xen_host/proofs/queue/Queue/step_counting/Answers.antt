@@ -1,15 +1,16 @@
 use Rattle.std.proofs.Common.{◌≡◌, refl, sym}
 use Rattle.xen_host.specs.EngineAt.{engine_at}
 use Rattle.xdp_program.specs.Tallies.{Went}
-use Rattle.xen_host.specs.Queues.{wired_to, wiring}
-use Rattle.xen_host.proofs.QueueLemmas.{not_ready, step_stands, stepped}
+use Rattle.xen_host.specs.Queues.{seen, wired_to, wiring}
+use Rattle.xen_host.proofs.EngineLemmas.{step_stands}
+use Rattle.xen_host.proofs.QueueLemmas.{not_ready, stands, stepped}
 use Rattle.xen_host.proofs.queue.Queue.step_counting.Goals as goal
 
 pub invariant_of-self : goal.invariant_of-self
 invariant_of-self g c =
     let r = c.step in
     let q = c.args.self.now in
-    let s = step_stands g.H.Host.was_asked g.H.Host.is_full g.H.Host.has_given _ _ q (engine_at (wiring q) r.new.packet r.new.self) (Went (g.T.Tallies.did (wired_to q).program.shapes) c.args.counters.now r.new.counters) refl r.ensures.led in
+    let s = step_stands g.H.Host.was_asked g.H.Host.is_full g.H.Host.has_given _ _ (seen q) (stands q) (engine_at (wiring q) r.new.packet r.new.self) (Went (g.T.Tallies.did (wired_to q).program.shapes) c.args.counters.now r.new.counters) refl r.ensures.led in
     record { fits = s.fits; wired = s.wired; turns = s.turns; seated = q.seated; left = s.left }
 
 pub returns : goal.returns

@@ -2,7 +2,7 @@ use Rattle.std.proofs.Common.{◌≤◌, inl, inr, length, refl, sym, ap, subst,
 use Rattle.std.specs.Prelude.{IsSome, Option}
 use Rattle.std.proofs.lemmas.Bool.Decides.{nat_tests}
 use Rattle.xen_turns.specs.declared.state.State.{State}
-use Rattle.xen_host.specs.Queues.{between}
+use Rattle.xen_host.specs.UnderWay.{between}
 use Rattle.xen_host.specs.declared.stage.Stage.{Stage}
 use Rattle.xen_host.proofs.queue.Queue.turn.Goals as goal
 

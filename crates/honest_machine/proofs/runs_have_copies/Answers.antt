@@ -1,5 +1,0 @@
-use Rattle.honest_machine.proofs.CopyLemmas.{has_copy}
-use Rattle.honest_machine.proofs.runs_have_copies.Goals as goal
-
-pub returns : goal.returns
-returns c = λ w s t slots packet left h. has_copy w s slots packet left t h

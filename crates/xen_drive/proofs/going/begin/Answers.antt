@@ -1,8 +1,0 @@
-use Rattle.std.proofs.Common.{[], ◌∷◌, ◌++◌}
-use Rattle.xen_drive.proofs.GoingLemmas.{asked_loan}
-use Rattle.xen_drive.proofs.going.begin.Goals as goal
-
-pub returns-clause-loan : goal.returns-clause-loan
-returns-clause-loan g c =
-    let b = c.turn_by.ensures in
-    asked_loan g.B.Bus.log g.B.Bus.access_gives g.B.Bus.size (b.first ++ b.last ∷ []) c.args.host.now c.turn_by.new.host b.asked

@@ -1,3 +1,0 @@
-//! A whole transmit over a bus.
-
-pub(crate) mod straight;

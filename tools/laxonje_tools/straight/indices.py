@@ -1,0 +1,69 @@
+"""Indices of constants: the number that is added to an address of a map of constants."""
+from __future__ import annotations
+
+from typing import TYPE_CHECKING, NamedTuple, Optional
+
+from laxonje_tools.from_c.constants import room_behind
+
+from .copies import Wide
+from .instructions import ADD, ALU64, MOV, WIDE_LOAD, writes
+
+if TYPE_CHECKING:
+    from .instructions import Code
+    from .marks import Marks
+
+
+class Index(NamedTuple):
+    """An addition of a number to an address of constants: its slot, the number's register, and the most that it may be."""
+
+    slot: int
+    register: int
+    most: int
+
+
+def bound_index(code: Code, slot: int, settings: dict, marks: Marks) -> bool:
+    """Marks the addition of an index in front of an access to constants, for a test of the index; whether that is new."""
+    index = index_of(code, slot, settings)
+    if index is None or index.most < 0:
+        return False
+    before = marks.wide.get(index.slot)
+    if before is not None and (before.register != index.register or before.most <= index.most):
+        return False
+    marks.wide[index.slot] = Wide(index.register, False, index.most)
+    return True
+
+
+def index_of(code: Code, slot: int, settings: dict) -> Optional[Index]:
+    """The index of an access to constants, by what was written last in front of it."""
+    register, end = code[slot].base, code[slot].offset + code[slot].size
+    at = last_write(code, slot, register)
+    while at is not None and code[at].kind == ALU64:
+        instruction = code[at]
+        if instruction.operation == MOV and instruction.by_register:
+            register = instruction.source
+        elif instruction.operation == ADD and instruction.by_register:
+            return index_added(code, at, end, settings)
+        elif instruction.operation == ADD:
+            end += instruction.immediate
+        else:
+            return None
+        at = last_write(code, at, register)
+    return None
+
+
+def index_added(code: Code, at: int, end: int, settings: dict) -> Optional[Index]:
+    """The index that this addition adds to an address. `end`: how far after the sum the bytes end that are read."""
+    registers = code[at].destination, code[at].source
+    for address, number in (registers, registers[::-1]):
+        wide = last_write(code, at, address)
+        if wide is None or code[wide].opcode != WIDE_LOAD or code[wide].source:
+            continue
+        room = room_behind(code[wide].immediate, settings["map"])
+        if room is not None:
+            return Index(at, number, room - end)
+    return None
+
+
+def last_write(code: Code, slot: int, register: int) -> Optional[int]:
+    """The last slot in front of this one that writes a register; None if there is none."""
+    return next((at for at in range(slot - 1, -1, -1) if at in code and register in writes(code[at])), None)
