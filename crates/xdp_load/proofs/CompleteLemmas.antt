@@ -1,5 +1,5 @@
 -- Each sound setup is that of a document: the one that spells its fields.
-use Rattle.std.proofs.Common.{append-nil, not, true, None, Result, ◌≡◌, ◌<◌, ◌≤◌, ◌/◌, ℕ, pos, List, [], ◌∷◌, length, map, codes, Ok, refl, ap, sym, arith, suc}
+use Rattle.std.proofs.Common.{append-nil, not, true, None, Result, ◌≡◌, ◌<◌, ◌≤◌, ◌/◌, ℕ, pos, List, [], ◌∷◌, length, map, codes, Ok, refl, ap, sym, ◌∙◌, arith, suc, Bool, false}
 use Rattle.std.proofs.lemmas.Bool.{and_parts, le-leb, lt-ltb, not-true}
 use Rattle.std.specs.List.{AllByRecursion}
 use Rattle.bpf_note.specs.declared.key.MapKey.{MapKey}
@@ -105,7 +105,8 @@ limited_all k n a b = rw (le-leb (least k) n a, le-leb n (most k) b) refl
 shape_limited : (n : Text) (s : Shape) → IsNarrow s → limited_shape (map_text (n, s)) ≡ Ok s
 shape_limited n s h =
     rw (limited_all key.Entries s.entries h.some_entries h.most_entries, limited_all key.Counters s.counters h.some_counters h.most_counters)
-    (ap (λ (k : MapKey). Ok (record { entries = s.entries; counters = s.counters; key = k })) (sym h.index))
+    (ap (λ (k : MapKey). Ok (record { entries = s.entries; counters = s.counters; key = k; parts = false })) (sym h.index)
+    ∙ ap (λ (p : Bool). Ok (record { entries = s.entries; counters = s.counters; key = s.key; parts = p })) (sym h.whole))
 
 shapes_limited : (i : ℕ) (ns : List Text) (ss : List Shape) → length ns ≡ length ss → AllByRecursion IsNarrow ss → each fault.Limit limited_shape i (map map_text (named ns ss)) ≡ Ok ss
 shapes_limited i [] [] e a = refl

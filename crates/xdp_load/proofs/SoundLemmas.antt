@@ -109,7 +109,7 @@ shape_within m s e =
     bind_ok (limited key.Counters m.counters) _ s rest (λ counters there same.
     let most = limited_within key.Entries m.entries entries here in
     let each = limited_within key.Counters m.counters counters there in
-    subst IsNarrow (same_Ok _ _ same) (record { some_entries = most.0; most_entries = most.1; some_counters = each.0; most_counters = each.1; index = refl })))
+    subst IsNarrow (same_Ok _ _ same) (record { some_entries = most.0; most_entries = most.1; some_counters = each.0; most_counters = each.1; index = refl; whole = refl })))
 
 -- a packet's numbers, its bytes still being hex
 pub record IsHexPacket (queues : ℕ) (p : HexPacket) : Type 0 where

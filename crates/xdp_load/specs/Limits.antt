@@ -20,7 +20,7 @@ abbrev pub limited_shape : MapText → Result Shape Key
 limited_shape m = do
   entries ← limited key.Entries m.entries
   counters ← limited key.Counters m.counters
-  Ok (record { entries = entries; counters = counters; key = Index })
+  Ok (record { entries = entries; counters = counters; key = Index; parts = false })
 
 abbrev pub limited_step : ℕ → StepText → Result (ℕ × ℕ) Key
 limited_step queues s = do

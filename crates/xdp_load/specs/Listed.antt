@@ -68,7 +68,7 @@ listed_shape wide m = do
   entries ← limited (entries_key wide) m.map.entries
   counters ← limited key.Counters m.map.counters
   k ← limited_key m.key
-  if are_rows k entries m.key.rows then Ok (record { entries = entries; counters = counters; key = k }) else Err key.Rows
+  if are_rows k entries m.key.rows then Ok (record { entries = entries; counters = counters; key = k; parts = m.key.parts }) else Err key.Rows
 
 unfoldable pub listed_limits_with : ListedWritten → Limits → Result LimitedText Refused
 listed_limits_with x n = each fault.Limit (listed_shape x.wide) 0 x.maps >>= limited_with x.written n

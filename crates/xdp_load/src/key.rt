@@ -33,6 +33,7 @@ pub enum Key {
     KeySize,
     ConstantSize,
     Rows,
+    Parts,
 }
 
 impl Key {
@@ -47,7 +48,7 @@ impl Key {
             Key::Start => "start",
             Key::Map | Key::WideMap | Key::Name | Key::Entries | Key::WideEntries | Key::Counters =>
                 "map",
-            Key::KeyKind | Key::KeySize | Key::ConstantSize | Key::Rows => "map",
+            Key::KeyKind | Key::KeySize | Key::ConstantSize | Key::Rows | Key::Parts => "map",
             Key::Reloc | Key::Slot | Key::OfMap => "reloc",
             Key::Step | Key::StepQueue | Key::Answer => "script",
             Key::Packet | Key::PacketQueue | Key::Bytes | Key::Times => "packet",
@@ -74,6 +75,7 @@ impl Key {
             Key::KeyKind => Some("key"),
             Key::KeySize | Key::ConstantSize => Some("size"),
             Key::Rows => Some("rows"),
+            Key::Parts => Some("parts"),
             _ => None,
         }
     }
@@ -149,9 +151,9 @@ impl Key {
             Key::Times => "a whole number, 1 to 100000",
             Key::Original => "a table with program, places and, optionally, reloc (required)",
             Key::Place => "places, each of a whole number, 0 to 4294967295, and true or false",
-            Key::Wide => "true or false",
+            Key::Wide | Key::Parts => "true or false",
             Key::WideMap =>
-                "at most 16 tables, each with name, entries and, optionally, counters, key, size and rows",
+                "at most 16 tables, each with name, entries and, optionally, counters, key, size, rows and parts",
             Key::WideEntries => "a whole number, 1 to 65536 (required)",
             Key::KeyKind => "index, exact, prefix or constants",
             Key::KeySize => "a whole number, 1 to 64; of an index 4",

@@ -139,7 +139,12 @@ fn listed_shape(wide: bool, row: &ListedRow<'_>) -> Result<MapShape, Key>
     if !are_rows(key, entries, row.key.rows) {
         return Err(Key::Rows);
     }
-    MapShape::keyed(key, entries, counters).ok_or(Key::Map)
+    let shape = MapShape::keyed(key, entries, counters).ok_or(Key::Map)?;
+    if row.key.parts {
+        Ok(shape.with_parts())
+    } else {
+        Ok(shape)
+    }
 }
 
 /// The shapes of the maps, each within its limits.

@@ -211,6 +211,12 @@ pub fn constant_at(alloc: Global, text: &str, number: usize, place: usize) -> Op
     }
 }
 
+/// Whether loads may take parts of the counters of a map of settings, if there is one.
+pub fn has_parts(alloc: Global, text: &str, number: usize) -> Option<bool> {
+    let listed = load_listed(alloc, text.as_bytes()).ok()?;
+    Some(listed.setup.shapes.as_slice().get(number)?.has_parts())
+}
+
 /// How many maps of settings have a list.
 pub fn lists_given(alloc: Global, text: &str) -> Option<usize> {
     let listed = load_listed(alloc, text.as_bytes()).ok()?;

@@ -19,7 +19,7 @@ SizedMap = tuple[str, int, Optional[int]]  # its name, entries and counters, Non
 
 class Map(NamedTuple):
     """A map of settings. `kind`: of its keys, None for an array's. `size`: how many bytes of data a key has. `rows`: its list,
-    in hex."""
+    in hex. `parts`: whether a load may take a part of a counter."""
 
     name: str
     entries: int
@@ -27,9 +27,11 @@ class Map(NamedTuple):
     kind: Optional[str] = None
     size: int = faults.INDEX_BYTES
     rows: tuple = ()
+    parts: bool = False
 
     def settings(self) -> dict:
         row = {"name": self.name, "entries": self.entries, "counters": self.counters}
+        row = {**row, "parts": True} if self.parts else row
         return row if self.kind is None else {**row, "key": self.kind, "size": self.size, "rows": list(self.rows)}
 
 
@@ -78,7 +80,8 @@ def declared_in(asked: Asked, sections: dict[str, Part], named: set[str]) -> Ite
 
 def map_of(row: MapOfC) -> Map:
     """A map that is declared."""
-    return Map(row.name, row.entries, row.counters, faults.KEYED.get(row.type), faults.data_bytes(row))
+    kind, size = faults.KEYED.get(row.type), faults.data_bytes(row)
+    return Map(row.name, row.entries, row.counters, kind, size, parts=row.has_parts)
 
 
 def with_lists(asked: Asked, maps: list[Map]) -> list[Map]:

@@ -73,8 +73,8 @@ def is_text_of(text: str, settings: dict, words: list[str], relocations: list[tu
 
 
 def with_defaults(settings: dict) -> dict:
-    """Settings of which each list is there, and each map's number of counters."""
-    maps = [{"counters": 1, "rows": [], **row} for row in settings.get("map", [])]
+    """Settings of which each list is there, and each map's number of counters and whether it has parts."""
+    maps = [{"counters": 1, "rows": [], "parts": False, **row} for row in settings.get("map", [])]
     return {"reloc": [], "packet": [], **settings, "map": maps}
 
 
@@ -86,6 +86,7 @@ def text_of(settings: dict, words: list[str], relocations: list[tuple[int, str]]
         lines += ["", "[[map]]", f"name = {quoted(row['name'])}", f"entries = {row['entries']}"]
         if row.get("counters", 1) != 1:
             lines.append(f"counters = {row['counters']}")
+        lines += ["parts = true"] if row.get("parts") else []
         lines += lines_of_list(row)
     for slot, name in relocations:
         lines += ["", "[[reloc]]", f"slot = {slot}", f"map = {quoted(name)}"]
