@@ -69,7 +69,7 @@ impl SeatBack {
 
 impl Promise<BackDone> for SeatBack {
     ghost kept_by = { λ p d. (d.seat.table ≡ p.seat.value.table) × (d.seat.shapes ≡ p.seat.value.shapes) ×
-        (d.seat.number ≡ p.seat.value.number)
+        (d.seat.begin ≡ p.seat.value.begin) × (d.seat.number ≡ p.seat.value.number)
         × IsWork (record { program = p.program.value; queues = p.queues; ifindex = p.ifindex; start = p.start; host = p.host })
         p.turns d.row d.seat };
 }

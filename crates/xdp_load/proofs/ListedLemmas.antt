@@ -15,6 +15,7 @@ use Rattle.xdp_load.specs.Listed.{AreListedBelow, IsFirstUnlisted, list_of, list
 use Rattle.xdp_load.specs.ListedFault.{IsListed, IsListError, IsUnlistedError}
 use Rattle.xdp_load.specs.ListedSeen.{list_seen, lists_seen, row_texts}
 use Rattle.xdp_load.specs.MapKeys.{ListedText}
+use Rattle.xdp_load.specs.Seen.{row_numbers}
 use Rattle.xdp_load.specs.Setup.{bytes_in}
 use Rattle.xdp_load.specs.Spot.{Refused}
 use Rattle.xdp_load.specs.declared.fault.LoadError.{LoadError}
@@ -26,6 +27,11 @@ use Rattle.xdp_load.specs.declared.lists.ListBytes.{ListBytes}
 pub texts_counted : (vs : List Value) → length (row_texts vs) ≡ length vs
 texts_counted [] = refl
 texts_counted (v ∷ vs) = ap suc (texts_counted vs)
+
+-- each value is a number
+pub numbers_counted : (vs : List Value) → length (row_numbers vs) ≡ length vs
+numbers_counted [] = refl
+numbers_counted (v ∷ vs) = ap suc (numbers_counted vs)
 
 -- ---- lists
 

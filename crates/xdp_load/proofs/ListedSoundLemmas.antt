@@ -33,7 +33,8 @@ use Rattle.xdp_load.specs.declared.key.Key.{Key}
 use Rattle.xdp_load.specs.declared.key.Key.TheVariants as key
 use Rattle.xdp_load.specs.declared.numbers.Limits.{Limits}
 use Rattle.xdp_load.specs.declared.numbers.Numbers.{Numbers}
-use Rattle.xdp_load.proofs.SoundLemmas.{IsLimited, bind_ok, bytes_length, cond_ok, each_length, else_ok, key_ok, row_ok, limited_within, numbers_within, of_decoded, same_Ok, with_limited}
+use Rattle.xdp_load.proofs.SoundLemmas.{IsLimited, bind_ok, bytes_length, cond_ok, each_length, else_ok, key_ok, row_ok, limited_within, maps_filled, numbers_within, of_decoded, same_Ok, values_fit, with_limited}
+use Rattle.xdp_load.specs.Values.{AreFilled, are_values, room_of, values_of}
 
 -- ---- a map's key
 
@@ -70,17 +71,22 @@ entries_most false n h = let low = h.0 in let high = h.1 in (low, omega (arith, 
 
 -- a shape is within its limits, and the map can have the rows that are written
 abbrev IsMapWithin : Shape → ListedText → Type 0
-IsMapWithin s m = IsShape s × (are_rows s.key s.entries m.key.rows ≡ true)
+IsMapWithin s m = IsShape s × (are_rows s.key s.entries m.key.rows ≡ true) × (length (values_of m.map) ≤ room_of s.key (s.counters * s.entries))
+
+which_ok : {A E P : Type 0} (b : Bool) (r : Result A E) (y : A) (d : E) → cond b r (Err d) ≡ Ok y → (b ≡ true → r ≡ Ok y → P) → P
+which_ok true r y d e k = k refl e
+which_ok false r y d e k = absurd (cc)
 
 shape_within : (wide : Bool) (m : ListedText) (s : Shape) → listed_shape wide m ≡ Ok s → IsMapWithin s m
 shape_within wide m s e =
     bind_ok (limited (entries_key wide) m.map.entries) _ s e (λ entries here rest.
     bind_ok (limited key.Counters m.map.counters) _ s rest (λ counters there more.
     bind_ok (limited_key m.key) _ s more (λ k last end.
-    let (held, same) = cond_ok (are_rows k entries m.key.rows) _ s key.Rows end in
+    which_ok (are_rows k entries m.key.rows) _ s key.Rows end (λ held filled.
+    let (room, same) = cond_ok (are_values (room_of k (counters * entries)) m.map.values) _ s key.Values filled in
     let most = entries_most wide entries (limited_within (entries_key wide) m.map.entries entries here) in
     let each = limited_within key.Counters m.map.counters counters there in
-    subst (λ (x : Shape). IsMapWithin x m) same (record { some_entries = most.0; most_entries = most.1; some_counters = each.0; most_counters = each.1; key = key_within m.key k last }, held))))
+    subst (λ (x : Shape). IsMapWithin x m) same (record { some_entries = most.0; most_entries = most.1; some_counters = each.0; most_counters = each.1; key = key_within m.key k last }, held, values_fit _ m.map.values room)))))
 
 -- each of the shapes is one of the map beside it
 abbrev AreWithin : List Shape → List ListedText → Type 0
@@ -186,7 +192,9 @@ limits_with x n l are few q e =
     bind_ok (each fault.Limit (listed_shape x.wide) 0 x.maps) (limited_with x.written n) l e (λ shapes e1 rest.
     let all = maps_within x.wide 0 x.maps shapes e1 in
     let counted : length shapes ≡ length x.written.maps = each_length fault.Limit (listed_shape x.wide) 0 x.maps shapes e1 ∙ sym (length-map x.maps (λ m. m.map)) ∙ sym (ap length are) in
-    let (held, same) = with_limited most_maps IsShape x.written n shapes l (few_of x.wide (length x.written.maps) few) q counted (shapes_within shapes x.maps all) rest in
+    let filled = maps_filled (listed_shape x.wide) (λ m. m.map) (λ m s h. (shape_within x.wide m s h).2) 0 x.maps shapes e1 in
+    let (held, same) = with_limited most_maps IsShape x.written n shapes l (few_of x.wide (length x.written.maps) few) q counted (shapes_within shapes x.maps all)
+    (subst (λ (ms : List MapText). AreFilled shapes (map values_of ms)) (sym are) filled) rest in
     (held, subst (λ (ss : List Shape). AreWithin ss x.maps) (sym same) all))
 
 limits_of : (x : ListedWritten) (n : Limits) (l : LimitedText) → AreMaps x → (1 ≤ n.queues) × (n.queues ≤ 8) → listed_limits_of x n ≡ Ok l → IsListedLimited x l
@@ -241,6 +249,7 @@ sound_with x l d y held named e1 e =
       few_queues = given.few_queues;
       few_maps = given.few_maps;
       shapes = given.shapes;
+      values = given.values;
       named = given.named;
       names = given.names;
       script = given.script;

@@ -33,6 +33,7 @@ pub enum Key {
     KeySize,
     ConstantSize,
     Rows,
+    Values,
 }
 
 impl Key {
@@ -47,7 +48,7 @@ impl Key {
             Key::Start => "start",
             Key::Map | Key::WideMap | Key::Name | Key::Entries | Key::WideEntries | Key::Counters =>
                 "map",
-            Key::KeyKind | Key::KeySize | Key::ConstantSize | Key::Rows => "map",
+            Key::KeyKind | Key::KeySize | Key::ConstantSize | Key::Rows | Key::Values => "map",
             Key::Reloc | Key::Slot | Key::OfMap => "reloc",
             Key::Step | Key::StepQueue | Key::Answer => "script",
             Key::Packet | Key::PacketQueue | Key::Bytes | Key::Times => "packet",
@@ -74,6 +75,7 @@ impl Key {
             Key::KeyKind => Some("key"),
             Key::KeySize | Key::ConstantSize => Some("size"),
             Key::Rows => Some("rows"),
+            Key::Values => Some("values"),
             _ => None,
         }
     }
@@ -158,6 +160,8 @@ impl Key {
             Key::ConstantSize => "a whole number, 1 to 65536",
             Key::Rows =>
                 "hex texts, each a key of the map, none twice, at most as many as entries; of an index none; of constants one, their bytes",
+            Key::Values =>
+                "whole numbers, each 0 to 9223372036854775807, at most as many as the map has counters; of constants none",
         }
     }
 }

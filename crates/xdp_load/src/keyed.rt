@@ -98,10 +98,11 @@ fn listed_of_fields<'a>(table: &'a Table) -> Result<ListedRow<'a>, Key>
 }
 
 /// The keys of a map's table.
-const MAP_KEYS: [Key; 6] = [
+const MAP_KEYS: [Key; 7] = [
     Key::Name,
     Key::Entries,
     Key::Counters,
+    Key::Values,
     Key::KeyKind,
     Key::KeySize,
     Key::Rows,

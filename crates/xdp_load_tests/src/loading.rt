@@ -211,6 +211,31 @@ pub fn constant_at(alloc: Global, text: &str, number: usize, place: usize) -> Op
     }
 }
 
+/// The number with that place among those of a map, if there is one.
+fn number_in(setup: &Setup, number: usize, place: usize) -> Option<u64> {
+    setup
+        .values
+        .as_slice()
+        .get(number)?
+        .as_slice()
+        .get(place)
+        .copied()
+}
+
+/// The number with that place among those that settings give a map.
+pub fn value_at(alloc: Global, text: &str, number: usize, place: usize) -> Option<u64> {
+    number_in(&load(alloc, text.as_bytes()).ok()?, number, place)
+}
+
+/// The same of settings with lists.
+pub fn listed_value_at(alloc: Global, text: &str, number: usize, place: usize) -> Option<u64> {
+    number_in(
+        &load_listed(alloc, text.as_bytes()).ok()?.setup,
+        number,
+        place,
+    )
+}
+
 /// How many maps of settings have a list.
 pub fn lists_given(alloc: Global, text: &str) -> Option<usize> {
     let listed = load_listed(alloc, text.as_bytes()).ok()?;

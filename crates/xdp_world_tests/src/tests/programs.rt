@@ -134,7 +134,8 @@ pub(crate) fn report_of(
     ensures count { IfSome result (λ r. vec_len r.turns ≡ queues) }
     ensures shapes { IfSome result (λ r. r.totals.shapes ≡ program.now.shapes) }
 {
-    let Ok(mut world) = World::make(alloc, layout, program, &[], buffers, queues, 0, start) else {
+    let Ok(mut world) = World::make(alloc, layout, program, &[], &[], buffers, queues, 0, start)
+    else {
         return None;
     };
     match step_all(&mut world, queues, steps) {

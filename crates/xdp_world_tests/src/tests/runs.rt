@@ -112,7 +112,7 @@ fn whole_run(
     }
     let (ifindex, start) = interface_and_start;
     let program = accepted(alloc, slots)?;
-    match World::run(alloc, &program, &[], queues, ifindex, start, steps) {
+    match World::run(alloc, &program, &[], &[], queues, ifindex, start, steps) {
         Ok(report) => Some(seen_of(&report)),
         Err(_) => None,
     }
