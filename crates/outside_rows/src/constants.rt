@@ -12,13 +12,13 @@ const MOST_MAPS: usize = 16;
 
 /// Maps of constants, and what is given for each.
 #[derive(Drop)]
-struct Constants {
+struct ConstantMaps {
     shapes: Vec<MapShape>,
     lists: Vec<Option<MapList>>,
 }
 
 /// The maps of a question, with a comma between the bytes of two.
-fn constants(alloc: Global, text: &str) -> Option<Constants> {
+fn maps_of_constants(alloc: Global, text: &str) -> Option<ConstantMaps> {
     let mut shapes = Vec::new(alloc);
     let mut lists = Vec::new(alloc);
     for map in text.split(',') {
@@ -31,7 +31,7 @@ fn constants(alloc: Global, text: &str) -> Option<Constants> {
             .push(Some(MapList::Constants(ConstantBytes::make(bytes))))
             .ok()?;
     }
-    Some(Constants { shapes, lists })
+    Some(ConstantMaps { shapes, lists })
 }
 
 /// The program of a question, if it is accepted.
@@ -60,7 +60,7 @@ fn ended(alloc: Global, rest: &str) -> Option<String> {
     let mut words = rest.split(' ');
     let program = words.next()?;
     let packet = hex::decode(alloc, words.next()?).ok()?;
-    let Constants { shapes, lists } = constants(alloc, words.next()?)?;
+    let ConstantMaps { shapes, lists } = maps_of_constants(alloc, words.next()?)?;
     let program = accepted(alloc, program, &shapes)?;
     let mut buffer = Buffer::make(alloc).ok()?;
     let packet = PacketBuf::copy(&mut buffer, &packet).ok()?;

@@ -7,9 +7,11 @@ ghost use Rattle.xen_host.specs.Driven.{HasAwaitedAt, HasDeliveredAt, HasTurnedA
 ghost use Rattle.xen_host.specs.Queues.{resting, seen, wired_to};
 
 use crate::queue::Queue;
+use crate::room::hold;
 use xdp_program::Tallies;
 use xen_page::Bus;
 use xen_ring::Ports;
+use xen_turns::decisions::can_be_delivered;
 use xen_turns::{Awaited, Delivery, Kind};
 
 impl Queue {
@@ -35,7 +37,8 @@ impl Queue {
             .drive_turn(&self.wires, &mut self.packet, counters, bus, ports)
     }
 
-    /// Delivers a packet of the host's own to the frontend, between two turns, and returns what became of it.
+    /// Delivers a packet of the host's own to the frontend, between two turns, and returns what became of it. The packet is copied, into
+    /// the room that the queue has for one.
     pub fn drive_delivery<T: Tallies, B: Bus>(
         &mut self,
         packet: &[u8],
@@ -53,7 +56,12 @@ impl Queue {
         ensures wires { wired_to self.new ≡ wired_to self.old }
         ensures share { self.new.share ≡ self.old.share }
     {
-        self.engine.deliver(packet, &self.wires, &mut self.packet, counters, bus, ports)
+        if !can_be_delivered(packet) {
+            return Delivery::NoFrame;
+        }
+        hold(packet, &mut self.packet);
+        self.engine
+            .deliver_held(&self.wires, &mut self.packet, counters, bus, ports)
     }
 
     /// Asks the frontend for a notice as soon as it has posted `pages` rx slots, and looks whether it has by now, between two turns.

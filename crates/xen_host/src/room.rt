@@ -80,6 +80,16 @@ fn write_words(words: &[u32], room: &mut [u8])
     }
 }
 
+/// Puts a packet into a room, in place of what it holds.
+#[inline(always)]
+pub(crate) fn hold<R: Room>(packet: &[u8], room: &mut R)
+    requires { length packet.now ≤ 65535 }
+    ensures { R.held room.new ≡ packet.now }
+{
+    room.clear();
+    room.push_all(packet)
+}
+
 /// Puts whole words after a packet's bytes, each as its bytes from the lowest on.
 #[inline(always)]
 pub(crate) fn push_whole<R: Room>(words: &[u32], packet: &mut R)

@@ -16,6 +16,7 @@ ghost use Rattle.xen_host.specs.Stands.{Stands};
 ghost use Rattle.xen_host.specs.UnderWay.{IsBegunAt, IsWaitBegunAt, first_read, resting_at};
 
 use crate::engine::Engine;
+use crate::lent::LentPacket;
 use crate::over_bus::{Over, OverBus};
 use crate::room::Room;
 use crate::stage::Stage;
@@ -72,15 +73,13 @@ impl Engine {
         self.turn_by(producer, wires, packet, host)
     }
 
-    /// Is to deliver a packet, which is copied into the room.
-    fn begin_delivery<R: Room>(&mut self, producer: u32, packet: &[u8], room: &mut R)
-        requires frame { is_frame packet.now ≡ true }
-        ensures stands { (w : Wiring) → Stands (engine_at w (R.held room.old) self.old) → Stands (engine_at w (R.held room.new) self.new) }
-        ensures begun { (w : Wiring) → IsSome (resting_at (engine_at w (R.held room.old) self.old)) → IsBegunAt (engine_at w (R.held
-            room.old) self.old) (engine_at w (R.held room.new) self.new) producer packet.now }
+    /// Is to deliver the packet that its room holds.
+    fn begin_delivery(&mut self, producer: u32)
+        ensures stands { (w : Wiring) (packet : List ℕ) → is_frame packet ≡ true → Stands (engine_at w packet self.old) → Stands (engine_at w
+            packet self.new) }
+        ensures begun { (w : Wiring) (packet : List ℕ) → is_frame packet ≡ true → IsSome (resting_at (engine_at w packet self.old)) →
+            IsBegunAt (engine_at w packet self.old) (engine_at w packet self.new) producer packet }
     {
-        room.clear();
-        room.push_all(packet);
         self.stage = Stage::Deliver { producer };
     }
 
@@ -127,7 +126,42 @@ impl Engine {
         }
     }
 
-    /// Delivers a packet of the host's own to the frontend, between two turns, and returns what became of it.
+    /// Delivers the packet that its room holds to the frontend, between two turns, and returns what became of it.
+    pub(crate) fn deliver_held<W: Wires, R: Room, T: Tallies, B: Bus>(
+        &mut self,
+        wires: &W,
+        packet: &mut R,
+        counters: &mut T,
+        bus: &mut B,
+        ports: &Ports,
+    ) -> Delivery
+        requires frame { is_frame (R.held packet.old) ≡ true }
+        requires stands { Stands (engine_at (W.wiring wires.now) (R.held packet.old) self.old) }
+        requires rests { IsSome (resting_at (engine_at (W.wiring wires.now) (R.held packet.old) self.old)) }
+        requires size { B.size bus.old ≡ length (W.wiring wires.now).vif.owners.now }
+        requires serving { (labels : List (Option Operation)) (after : T) → Went (T.did (W.wiring wires.now).program.now.shapes) counters.old
+            after labels → T.serves (W.wiring wires.now).program.now.shapes after }
+        ensures stands { Stands (engine_at (W.wiring wires.now) (R.held packet.new) self.new) }
+        ensures size { B.size bus.new ≡ B.size bus.old }
+        ensures delivered { HasDeliveredAt B.log B.access_gives (engine_at (W.wiring wires.now) (R.held packet.old) self.old) (engine_at
+            (W.wiring wires.now) (R.held packet.new) self.new) (R.held packet.old) result bus.old bus.new counters.old counters.new }
+    {
+        // Only the proof uses what these calls ensure.
+        deliveries_are_rests();
+        deliveries_are_bounded();
+        let producer = self.look(wires.rx(), bus);
+        self.begin_delivery(producer);
+        let mut host = OverBus::new(bus, ports);
+        self.step_over(wires, packet, counters, &mut host);
+        match self.go_on(DELIVERY_STEPS, wires, packet, counters, &mut host) {
+            Over::Delivery(delivery) => delivery,
+            Over::Turn(_) => unreachable!(),
+            Over::Wait(_) => unreachable!(),
+        }
+    }
+
+    /// Delivers a packet of the host's own to the frontend, between two turns, and returns what became of it. The packet is read where it
+    /// lies.
     pub fn deliver<W: Wires, R: Room, T: Tallies, B: Bus>(
         &mut self,
         packet: &[u8],
@@ -145,23 +179,13 @@ impl Engine {
         ensures stands { Stands (engine_at (W.wiring wires.now) (R.held room.new) self.new) }
         ensures size { B.size bus.new ≡ B.size bus.old }
         ensures delivered { HasDeliveredAt B.log B.access_gives (engine_at (W.wiring wires.now) (R.held room.old) self.old) (engine_at
-            (W.wiring wires.now) (R.held room.new) self.new) packet.now result bus.old bus.new counters.old counters.new }
+            (W.wiring wires.now) packet.now self.new) packet.now result bus.old bus.new counters.old counters.new }
     {
-        // Only the proof uses what these calls ensure.
-        deliveries_are_rests();
-        deliveries_are_bounded();
         if !can_be_delivered(packet) {
             return Delivery::NoFrame;
         }
-        let producer = self.look(wires.rx(), bus);
-        self.begin_delivery(producer, packet, room);
-        let mut host = OverBus::new(bus, ports);
-        self.step_over(wires, room, counters, &mut host);
-        match self.go_on(DELIVERY_STEPS, wires, room, counters, &mut host) {
-            Over::Delivery(delivery) => delivery,
-            Over::Turn(_) => unreachable!(),
-            Over::Wait(_) => unreachable!(),
-        }
+        let mut lent = LentPacket::new(packet, room);
+        self.deliver_held(wires, &mut lent, counters, bus, ports)
     }
 
     /// Asks the frontend for a notice as soon as it has posted `pages` rx slots, and looks whether it has by now, between two turns.

@@ -193,6 +193,12 @@ def named(file: str, source: str) -> str:
     return file if near.startswith("..") else near
 
 
+def maps_in(sections: dict[str, Part]) -> Iterator[MapOfC]:
+    """The maps that an object declares."""
+    if ".maps" in sections and ".BTF" in sections:
+        yield from Types(sections[".BTF"].data).maps()
+
+
 def lines_of(sections: dict[str, Part], function: Function, source: str) -> dict[int, str]:
     """The line of C of each slot at which one begins, as `file.c:12`: what .BTF.ext has, if it is there."""
     if ".BTF.ext" not in sections or ".BTF" not in sections:

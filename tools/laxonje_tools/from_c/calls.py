@@ -1,98 +1,38 @@
 """Calls that have an honest answer: functions of the file, which are written where they are called, and helpers in the place
-of which stand the instructions that do the same.
+of which stand the instructions that do the same, or the answer of what isn't here (`absent`).
 
-It is done before anything is compared. A function's frame lies below that of its caller, and registers that it
-saves for the caller are kept there. Of a helper that copies or sums the size has to be a constant."""
+It is done before anything is compared. A function's frame lies below that of its caller, and registers that the caller
+still reads are kept there. Of a helper that copies or sums the size has to be a constant."""
 from __future__ import annotations
 
 import struct
-from dataclasses import dataclass
-from typing import TYPE_CHECKING, Callable, Iterator, NamedTuple, Optional
+from functools import partial
+from typing import TYPE_CHECKING, AbstractSet, Callable, Iterator, NamedTuple, Optional
 
+from .absent import ABORTED, ACTION, ALL_DEVICES, DEVICES, DROPPED, PRINTS, REDIRECT_MAP
 from .elf import SLOT_BYTES
+from .lines import CALL, EXIT, FAR_JUMP, JUMP, SAVED, WIDE, Fault, Line, lines_of, packed, read_later, writes, written
 
 if TYPE_CHECKING:
-    from .elf import Function, Relocation
+    from collections.abc import Mapping
 
-CALL, EXIT, JUMP, FAR_JUMP, WIDE = 0x85, 0x95, 0x05, 0x06, 0x18
+    from .absent import Absent
+    from .elf import Function
+
 LOCAL, FRAME, STACK_BYTES, MOST_DEPTH, MOST_SLOTS = 1, 10, 512, 8, 4096
-SAVED = 6, 7, 8, 9  # registers that a function leaves as they were
-MOV_64, MOV_32, MOV_CONSTANT, ADD_CONSTANT, ADD, SUB, XOR_CONSTANT, AND_CONSTANT, RSH_CONSTANT, LSH_CONSTANT = (
-    0xBF, 0xBC, 0xB7, 0x07, 0x0F, 0x1F, 0xA7, 0x57, 0x77, 0x67,
+MOV_64, MOV_32, MOV_CONSTANT, ADD_CONSTANT, ADD, SUB, XOR_CONSTANT, AND, AND_CONSTANT, RSH_CONSTANT = (
+    0xBF, 0xBC, 0xB7, 0x07, 0x0F, 0x1F, 0xA7, 0x5F, 0x57, 0x77,
 )  # fmt: skip
-LOAD_BYTE, LOAD_WORD, LOAD_DOUBLE, STORE_BYTE, STORE_DOUBLE = 0x71, 0x61, 0x79, 0x73, 0x7B
-IF_ABOVE, IF_ABOVE_CONSTANT = 0x2D, 0x25
+LOAD_BYTE, LOAD_HALF, LOAD_WORD, LOAD_DOUBLE = 0x71, 0x69, 0x61, 0x79
+STORE_BYTE, STORE_HALF, STORE_WORD, STORE_DOUBLE = 0x73, 0x6B, 0x63, 0x7B
+DOUBLE = 8  # bytes
+COPIES = {1: (LOAD_BYTE, STORE_BYTE), 2: (LOAD_HALF, STORE_HALF), 4: (LOAD_WORD, STORE_WORD), 8: (LOAD_DOUBLE, STORE_DOUBLE)}  # by size
+IF_ABOVE, IF_ABOVE_CONSTANT, IF_NOT_CONSTANT = 0x2D, 0x25, 0x55
+LOOKUP, UPDATE, ANY, THERE, TOO_BIG = 1, 2, 0, 2, -7  # the third and fourth are flags: BPF_ANY, BPF_EXIST; the last is E2BIG
 PRINTK, CPU, CSUM_DIFF, VPRINTK, BUFF_LEN, LOAD_BYTES, STORE_BYTES = 6, 8, 28, 177, 188, 189, 190
 TOO_FAR, TOO_LONG, MOST_OFFSET = -14, -22, 0xFFFF  # of Linux: EFAULT, EINVAL, and the offset from which on it is the former
 MOST_COPIED, MOST_SUMMED = 128, 512  # bytes
 START_FIELD, END_FIELD = 0, 4  # of the context
-
-
-class Fault(Exception):
-    """Why a call can't be replaced, in words. `slot`: of the function that calls."""
-
-    slot = 0
-
-
-@dataclass(eq=False)
-class Line:
-    """An instruction: its slots' bytes, its relocation, where it jumps to, its slot in its function, and the slot of the
-    whole program's function that it is for."""
-
-    raw: bytes
-    origin: int
-    row: Optional[Relocation] = None
-    target: Optional[Line] = None
-    slot: int = 0
-
-    @property
-    def opcode(self) -> int:
-        return self.raw[0]
-
-    @property
-    def destination(self) -> int:
-        return self.raw[1] & 15
-
-    @property
-    def source(self) -> int:
-        return self.raw[1] >> 4
-
-    @property
-    def offset(self) -> int:
-        return struct.unpack_from("<h", self.raw, 2)[0]
-
-    @property
-    def immediate(self) -> int:
-        return struct.unpack_from("<i", self.raw, 4)[0]
-
-    @property
-    def is_jump(self) -> bool:
-        return self.opcode & 7 in (5, 6) and self.opcode not in (CALL, EXIT)
-
-    def put(self, *fields: int) -> None:
-        """Makes it another instruction: opcode, destination, source, offset, immediate."""
-        self.raw, self.row, self.target = packed(*fields), None, None
-
-
-def packed(opcode: int, destination: int = 0, source: int = 0, offset: int = 0, immediate: int = 0) -> bytes:
-    return struct.pack("<BBhi", opcode, destination | source << 4, offset, immediate)
-
-
-def lines_of(code: bytes, relocations: list[Relocation]) -> list[Line]:
-    """The instructions of a function, with the lines that they jump to."""
-    rows, by_slot, slot = {row.slot: row for row in relocations}, {}, 0
-    while SLOT_BYTES * slot < len(code):
-        size = 2 if code[SLOT_BYTES * slot] == WIDE else 1
-        raw = code[SLOT_BYTES * slot : SLOT_BYTES * (slot + size)]
-        by_slot[slot] = Line(raw, slot, rows.get(slot), slot=slot)
-        slot += size
-    for at, line in by_slot.items():
-        if line.is_jump:
-            after = at + 1 + (line.immediate if line.opcode == FAR_JUMP else line.offset)
-            if after not in by_slot:
-                raise Fault("jumps out of its function")
-            line.target = by_slot[after]
-    return list(by_slot.values())
 
 
 class Replaced(NamedTuple):
@@ -105,20 +45,23 @@ class Replaced(NamedTuple):
 
 
 class Calls:
-    """The functions of a file, and of a call the one that it leads to. `relocations`: of a function. `prints`: whether calls
-    that print are left out."""
+    """The functions of a file, and of a call the one that it leads to. `absent`: what is left out. `arrays`: by name the numbers
+    of a value of each array, as (place, size)."""
 
-    def __init__(self, functions: list[Function], relocations: Callable, prints: bool) -> None:
-        self.functions, self.relocations, self.prints, self.notes = functions, relocations, prints, []
+    def __init__(self, functions: list[Function], relocations: Callable, absent: Absent, arrays: Mapping[str, list[tuple[int, int]]]) -> None:
+        self.functions, self.relocations, self.absent, self.arrays, self.notes = functions, relocations, absent, arrays, []
 
     def replaced(self, function: Function) -> Replaced:
         lines = self.inlined(function, 0, 0)
+        for line in lines:
+            if line.row is not None and self.absent.has(line.row.name):
+                line.put(MOV_CONSTANT, line.destination, 0, 0, self.absent.flags_of(line.row.name))
         return Replaced(*written(lines), sorted(set(self.notes)))
 
     def inlined(self, function: Function, depth: int, above: int, origin: Optional[int] = None) -> list[Line]:
         """A function's lines without calls. `depth`: how many calls lead to it; `above`: the stack that they use."""
         lines = lines_of(function.code, list(self.relocations(function)))
-        own = frame_of(lines)
+        own, needed = frame_of(lines), read_later(lines)
         if depth:
             move_frame(lines, above)
         out = []
@@ -126,7 +69,7 @@ class Calls:
             line.origin = line.origin if origin is None else origin
             try:
                 called = self.called(function, line)
-                out += self.helped(line, lines) if called is None else self.call(line, called, depth, above + own)
+                out += self.helped(line, lines, above + own) if called is None else self.call(line, called, depth, above + own, needed[line])
             except Fault as fault:
                 fault.slot = line.origin
                 raise
@@ -144,12 +87,12 @@ class Calls:
             section, place = line.row.section, line.row.place + SLOT_BYTES * (line.immediate + 1)
         return next((other for other in self.functions if (other.section, other.place) == (section, place)), None)
 
-    def call(self, line: Line, function: Function, depth: int, above: int) -> list[Line]:
-        """A function in the place of its call."""
+    def call(self, line: Line, function: Function, depth: int, above: int, needed: AbstractSet[int]) -> list[Line]:
+        """A function in the place of its call. `needed`: the registers that its caller reads later."""
         if depth == MOST_DEPTH:
             raise Fault(f"calls functions more than {MOST_DEPTH} deep")
         inner = self.inlined(function, depth + 1, above, line.origin)
-        kept = [register for register in SAVED if any(writes(row, register) for row in inner)]
+        kept = [register for register in SAVED if register in needed and any(writes(row, register) for row in inner)]
         used = above + frame_of_moved(inner, above)
         places = {register: -(used + 8 * (number + 1)) for number, register in enumerate(kept)}
         if used + 8 * len(kept) > STACK_BYTES:
@@ -170,21 +113,31 @@ class Calls:
 
     # --- helpers
 
-    def helped(self, line: Line, lines: list[Line]) -> list[Line]:
-        """The lines in the place of one: itself, or what a helper does."""
+    def helped(self, line: Line, lines: list[Line], above: int) -> list[Line]:
+        """The lines in the place of one: itself, or what a helper does. `above`: how much of the stack is in use."""
         if line.opcode != CALL or line.source or line.row is not None:
             return [line]
         number = line.immediate
         if number == CPU:
             self.notes.append((line.origin, "bpf_get_smp_processor_id gives 0 here, as Linux may"))
             return put_all(line, [(MOV_CONSTANT, 0)])
-        if number in (PRINTK, VPRINTK) and self.prints:
+        constant, named = (partial(of, lines, line) for of in (constant_in, map_in))
+        answer = self.absent.answer(number, constant, named)
+        if answer is not None:
+            self.notes.append((line.origin, answer[1]))
+            return put_all(line, [(MOV_CONSTANT, 0, 0, 0, answer[0])])
+        if number == REDIRECT_MAP and DEVICES in self.absent.left_out:
+            self.notes.append((line.origin, "bpf_redirect_map gives the action in its flags, as in Linux while the map is empty"))
+            return action_in_flags(line)
+        if number in (PRINTK, VPRINTK) and PRINTS in self.absent.left_out:
             self.notes.append((line.origin, "what it prints is left out, and the answer is 0"))
             return put_all(line, [(MOV_CONSTANT, 0)])
         if number == BUFF_LEN:
             return put_all(line, [(LOAD_WORD, 0, 1, END_FIELD), (LOAD_WORD, 1, 1, START_FIELD), (SUB, 0, 1)])
         if number in (LOAD_BYTES, STORE_BYTES):
             return copied(line, constant_in(lines, line, 4), number == STORE_BYTES)
+        if number == UPDATE and map_in(lines, line, 1) in self.arrays and constant_in(lines, line, 4) in (ANY, THERE):
+            return updated(line, self.arrays[map_in(lines, line, 1)], above)
         if number == CSUM_DIFF:
             return summed(line, *(constant_in(lines, line, register) for register in (2, 4)))
         return [line]
@@ -197,17 +150,29 @@ def put_all(line: Line, rows: list[tuple]) -> list[Line]:
     return [line, *(Line(packed(*fields), line.origin) for fields in rest)]
 
 
-def constant_in(lines: list[Line], line: Line, register: int) -> Optional[int]:
-    """The constant that a register has at a line, from the lines in front of it; None if they don't give it one."""
+def set_in(lines: list[Line], line: Line, register: int) -> Optional[Line]:
+    """The line that surely gave a register what it has at a line, of those in front of it; None if there is none."""
     targets = {row.target for row in lines}
     for row in reversed(lines[: lines.index(line) + 1]):
-        if row is not line and row.is_jump and row.opcode in (JUMP, FAR_JUMP):
+        if row is not line and row.opcode in (JUMP, FAR_JUMP):
             return None
-        if row is not line and row.opcode == MOV_CONSTANT and row.destination == register:
-            return row.immediate
-        if row is not line and writes(row, register) or row in targets:
+        if row is not line and writes(row, register):
+            return row
+        if row in targets:
             return None
     return None
+
+
+def constant_in(lines: list[Line], line: Line, register: int) -> Optional[int]:
+    """The constant that a register has at a line, from the lines in front of it; None if they don't give it one."""
+    row = set_in(lines, line, register)
+    return row.immediate if row is not None and row.opcode == MOV_CONSTANT else None
+
+
+def map_in(lines: list[Line], line: Line, register: int) -> Optional[str]:
+    """The map whose address a register has at a line; None if the lines in front of it don't say."""
+    row = set_in(lines, line, register)
+    return row.row.name if row is not None and row.opcode == WIDE and row.row is not None else None
 
 
 def copied(line: Line, size: Optional[int], is_store: bool) -> list[Line]:
@@ -250,17 +215,33 @@ def summed(line: Line, first: Optional[int], second: Optional[int]) -> list[Line
     return put_all(line, rows)
 
 
+def updated(line: Line, parts: list[tuple[int, int]], above: int) -> list[Line]:
+    """bpf_map_update_elem: (an array, key, value, flags). The value's address is kept below what is in use of the stack.
+    `parts`: the numbers of a value, as (place, size)."""
+    place = -(above + DOUBLE)
+    if -place > STACK_BYTES:
+        raise Fault(f"calls bpf_map_update_elem with more than {STACK_BYTES - DOUBLE} bytes of the stack in use")
+    rows = [(STORE_DOUBLE, FRAME, 3, place), (CALL, 0, 0, 0, LOOKUP), (MOV_64, 1, 0), (MOV_CONSTANT, 0, 0, 0, TOO_BIG)]
+    rows += [(IF_NOT_CONSTANT, 1, 0, 1), (JUMP,), (LOAD_DOUBLE, 3, FRAME, place)]
+    for at, size in parts:
+        load, store = COPIES[size]
+        rows += [(load, 2, 3, at), (store, 1, 2, at)]
+    out = put_all(line, [*rows, (MOV_CONSTANT,), (JUMP,)])
+    out[4].target, out[5].target = out[6], out[-1]
+    return out
+
+
+def action_in_flags(line: Line) -> list[Line]:
+    """bpf_redirect_map: (the flags that the map knows, key, flags), while there is nothing in the map."""
+    rows = [(MOV_CONSTANT, 0, 0, 0, ABORTED), (XOR_CONSTANT, 1, 0, 0, -1), (AND, 1, 3), (IF_NOT_CONSTANT, 1)]
+    rows += [(MOV_CONSTANT, 0, 0, 0, DROPPED), (MOV_64, 2, 3), (AND_CONSTANT, 2, 0, 0, ALL_DEVICES), (IF_NOT_CONSTANT, 2)]
+    out = put_all(line, [*rows, (MOV_64, 0, 3), (AND_CONSTANT, 0, 0, 0, ACTION), (JUMP,)])
+    for row in out[3], out[7]:
+        row.target = out[-1]
+    return out
+
+
 # --- frames
-
-
-def writes(line: Line, register: int) -> bool:
-    """Whether a line may change a register."""
-    kind = line.opcode & 7
-    if line.opcode == CALL:
-        return register < 6
-    if kind in (0, 1, 4, 7):
-        return line.destination == register
-    return kind == 3 and line.opcode >> 5 == 6 and line.source == register
 
 
 def frame_of(lines: list[Line]) -> int:
@@ -308,28 +289,6 @@ def move_frame(lines: list[Line], above: int) -> None:
                 following.raw = packed(ADD_CONSTANT, line.destination, 0, 0, following.immediate - above)
             else:
                 lines.insert(at + 1, Line(packed(ADD_CONSTANT, line.destination, 0, 0, -above), line.origin))
-
-
-def written(lines: list[Line]) -> tuple[bytes, list[Relocation], list[int]]:
-    """The bytes of lines, their relocations, and the slot that each slot is for."""
-    slots, total = {}, 0
-    for line in lines:
-        slots[line] = total
-        total += len(line.raw) // SLOT_BYTES
-    out, rows, origins = b"", [], []
-    for line in lines:
-        raw = line.raw
-        if line.target is not None:
-            apart = slots[line.target] - slots[line] - 1
-            if not -(1 << 15) <= apart < 1 << 15:
-                raise Fault("has a jump that is too far once its calls are written out")
-            raw = raw[:2] + struct.pack("<hi", apart, 0 if line.opcode == FAR_JUMP else line.immediate)
-            raw = (bytes([JUMP]) if line.opcode == FAR_JUMP else raw[:1]) + raw[1:]
-        out += raw
-        origins += [line.origin] * (len(raw) // SLOT_BYTES)
-        if line.row is not None:
-            rows.append(line.row._replace(slot=slots[line]))
-    return out, rows, origins
 
 
 def has_calls(code: bytes) -> Iterator[int]:

@@ -20,15 +20,21 @@ INDEX_BYTES, MOST_DATA = 4, 64  # of keys
 MOST_TEXT, BESIDE_ROW = 1 << 20, 6  # bytes of settings, and of a row's line beside its digits
 INLINED_LATER = ("memcmp", "memcpy", "memmove", "memset")
 # kinds of maps by their numbers in Linux's uapi/linux/bpf.h
-ARRAYS, PER_CPU, KEYED = (2, 6), (5, 6), {1: EXACT, 5: EXACT, 11: PREFIX}
+ARRAYS, PER_CPU, KEYED = (2, 6), (5, 6, 10), {1: EXACT, 5: EXACT, 9: EXACT, 10: EXACT, 11: PREFIX}
 
 NO_ROWS = (
     "a program adds no row and takes none away: those of a BPF_MAP_TYPE_HASH or LPM_TRIE are given by --list; state by"
     " address is counted in a BPF_MAP_TYPE_ARRAY, under a hash of the address"
 )
 LISTED = f"{NO_ROWS}; or make it a BPF_MAP_TYPE_HASH, if it is such a list"
-NO_REDIRECT = "there is no other device here: XDP_PASS gives the packet to the host, which forwards it; XDP_TX sends it back"
-NO_EVENTS = "nothing is sent to user space: count in a BPF_MAP_TYPE_ARRAY, and read the counters from the host"
+NO_REDIRECT = (
+    "there is no other device here: XDP_PASS gives the packet to the host, which forwards it; XDP_TX sends it back;"
+    " --without-devices answers as Linux does where there is none"
+)
+NO_EVENTS = (
+    "nothing is sent to user space: count in a BPF_MAP_TYPE_ARRAY, and read the counters from the host; --without-events"
+    " answers as Linux does where nobody reads"
+)
 NO_TAIL_CALLS = "there are no tail calls: make one program of functions that are static and __always_inline"
 NO_STATE = "state is kept in counters alone, in a BPF_MAP_TYPE_ARRAY"
 # enum bpf_map_type of Linux's uapi/linux/bpf.h
@@ -37,8 +43,6 @@ MAP_TYPES = {
     4: ("PERF_EVENT_ARRAY", NO_EVENTS),
     7: ("STACK_TRACE", NO_EVENTS),
     8: ("CGROUP_ARRAY", NO_STATE),
-    9: ("LRU_HASH", LISTED),
-    10: ("LRU_PERCPU_HASH", LISTED),
     12: ("ARRAY_OF_MAPS", "name each map in the code"),
     13: ("HASH_OF_MAPS", "name each map in the code"),
     14: ("DEVMAP", NO_REDIRECT),
@@ -67,6 +71,7 @@ NO_CLOCK = "there is no clock: count here, and judge rates in the host, which re
 NO_PRINTS = "nothing is printed: --without-prints leaves it out, or count it in a map instead"
 NO_RESIZE = "a packet keeps its length: pass it on as it is, or write over its bytes"
 NO_KERNEL = "there is no kernel to ask"
+NO_SOCKETS = "there is no socket here: --without-devices answers as Linux does where there is none"
 # the helpers of Linux's uapi/linux/bpf.h that XDP programs call
 HELPERS = {
     2: ("bpf_map_update_elem", f"{NO_UPDATE}; {NO_ROWS}"),
@@ -83,16 +88,17 @@ HELPERS = {
     54: ("bpf_xdp_adjust_meta", NO_RESIZE),
     65: ("bpf_xdp_adjust_tail", NO_RESIZE),
     69: ("bpf_fib_lookup", NO_REDIRECT),
-    84: ("bpf_sk_lookup_tcp", NO_KERNEL),
-    85: ("bpf_sk_lookup_udp", NO_KERNEL),
+    84: ("bpf_sk_lookup_tcp", NO_SOCKETS),
+    85: ("bpf_sk_lookup_udp", NO_SOCKETS),
+    86: ("bpf_sk_release", NO_SOCKETS),
     87: ("bpf_map_push_elem", NO_STATE),
     88: ("bpf_map_pop_elem", NO_STATE),
     89: ("bpf_map_peek_elem", NO_STATE),
     93: ("bpf_spin_lock", NO_UPDATE),
     94: ("bpf_spin_unlock", NO_UPDATE),
-    99: ("bpf_skc_lookup_tcp", NO_KERNEL),
-    100: ("bpf_tcp_check_syncookie", NO_KERNEL),
-    110: ("bpf_tcp_gen_syncookie", NO_KERNEL),
+    99: ("bpf_skc_lookup_tcp", NO_SOCKETS),
+    100: ("bpf_tcp_check_syncookie", NO_SOCKETS),
+    110: ("bpf_tcp_gen_syncookie", NO_SOCKETS),
     112: ("bpf_probe_read_user", NO_KERNEL),
     113: ("bpf_probe_read_kernel", NO_KERNEL),
     118: ("bpf_jiffies64", NO_CLOCK),

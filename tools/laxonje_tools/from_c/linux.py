@@ -7,6 +7,7 @@ from typing import Iterable, Mapping, NamedTuple, Optional
 
 LIBRARY = "libbpf.so.1"
 ACTIONS = "ABORTED", "DROP", "PASS", "TX", "REDIRECT"
+XDP = 6  # BPF_PROG_TYPE_XDP
 MOST_LEFT = 1 << 16  # bytes of a packet as a program leaves it
 ZEROS = bytes(1 << 16)  # as much as a value has on all processors
 
@@ -71,6 +72,8 @@ def answers(path: str, function: str, packets: Iterable[bytes], lists: Mapping[s
         program = libbpf.bpf_object__find_program_by_name(opened, function.encode())
         if not program:
             raise Unasked(f"libbpf finds no program {function}")
+        # libbpf knows "xdp" and "xdp.frags"; a section of another name that begins so has no type for it
+        libbpf.bpf_program__set_type(ctypes.c_void_p(program), XDP)
         failed = libbpf.bpf_object__load(opened)
         if failed:
             raise Unasked(f"Linux doesn't load the program: {os.strerror(abs(failed))}")

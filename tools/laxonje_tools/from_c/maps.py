@@ -64,7 +64,7 @@ def maps_of(
 
 def declared_in(asked: Asked, sections: dict[str, Part], named: set[str]) -> Iterator[MapOfC]:
     """What a file declares of the maps that its function needs, with the numbers of entries that a command says."""
-    declared = list(btf.Types(sections[".BTF"].data).maps()) if ".maps" in sections and ".BTF" in sections else []
+    declared = list(btf.maps_in(sections))
     missing = dict(asked.entries).keys() - {row.name for row in declared}
     stop_on(f"{asked.source}: it declares no map {name}" for name in sorted(missing))
     entries = {**dict(asked.entries), **{name: number for name, number, _ in asked.maps}}

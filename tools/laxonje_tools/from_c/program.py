@@ -8,11 +8,12 @@ from typing import TYPE_CHECKING, Callable, Iterable, NamedTuple, Optional
 from laxonje_tools.output import fail, stop_on
 
 from . import btf, constants, elf, faults
+from .absent import Absent, kinds_of
 from .calls import Calls, Fault, Replaced, has_calls
 from .compiler import Compiler
 from .maps import SizedMap, maps_of, settings_of
 from .memory import faults_of_memory, memory_of
-from .values import Constant, set_values, values_of
+from .values import SIZES, Constant, set_values, values_of
 
 if TYPE_CHECKING:
     from .elf import Function, Part, Relocation
@@ -49,14 +50,14 @@ class Filter(NamedTuple):
 
 class Asked(NamedTuple):
     """What a command asks for: a file, maps whose sizes it gives, which function, if the file has several, numbers of
-    constants, as (name, number), whether calls that print are left out, entries of declared maps, as (name, number), and
+    constants, as (name, number), what is left out, in the words of `absent`, entries of declared maps, as (name, number), and
     files with the rows of maps, as (name, path)."""
 
     source: str
     maps: Iterable[SizedMap] = ()
     program: Optional[str] = None
     values: Iterable[tuple[str, int]] = ()
-    prints: bool = False
+    left_out: frozenset[str] = frozenset()
     entries: Iterable[tuple[str, int]] = ()
     lists: Iterable[tuple[str, str]] = ()
 
@@ -133,14 +134,29 @@ def filter_of(asked: Asked, sections: dict[str, Part], compiler: Optional[Compil
 
 def without_calls(asked: Asked, sections: dict[str, Part], function: Function, place: Callable) -> Replaced:
     """The function with what it calls written out. Ends if that can't be."""
-    relocations = list(elf.relocations_of(sections, function))
-    if not any(has_calls(function.code)):
+    relocations, found = list(elf.relocations_of(sections, function)), Absent(asked.left_out, kinds_of(btf.maps_in(sections)))
+    if not any(has_calls(function.code)) and not any(found.has(row.name) for row in relocations):
         return Replaced(function.code, relocations, range(len(function.code) // 8), [])
-    calls = Calls(list(elf.functions_of(sections)), lambda of: elf.relocations_of(sections, of), asked.prints)
+    arrays = {row.name: parts_of_value(row) for row in btf.maps_in(sections) if row.type in faults.ARRAYS}
+    calls = Calls(list(elf.functions_of(sections)), lambda of: elf.relocations_of(sections, of), found, arrays)
     try:
         return calls.replaced(function)
     except Fault as fault:
         fail(f"{place(fault.slot) or f'{asked.source}: slot {fault.slot}'} {fault}")
+
+
+def parts_of_value(declared: btf.MapOfC) -> list[tuple[int, int]]:
+    """The numbers of a map's value, as (place, size), if these are all of it; else its bytes, the most at once first."""
+    numbers = sorted((row.place, row.size) for row in declared.numbers if not row.bits and row.size in SIZES)
+    ends = [0, *(place + size for place, size in numbers)]
+    if [place for place, _ in numbers] == ends[:-1] and ends[-1] == declared.value_bytes:
+        return numbers
+    parts, at = [], 0
+    for size in sorted(SIZES, reverse=True):
+        while at + size <= declared.value_bytes:
+            parts.append((at, size))
+            at += size
+    return parts
 
 
 def chosen(asked: Asked, sections: dict[str, Part]) -> Function:

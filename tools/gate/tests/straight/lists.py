@@ -36,6 +36,7 @@ WIDE = {
     "1,024 entries": (MAP.format("ARRAY", 1024, "__u32", "m"), False),
     "1,025 entries": (MAP.format("ARRAY", 1025, "__u32", "m"), True),
     "1,025 rows": (MAP.format("HASH", 1025, "__u32", "m"), True),
+    "rows of a map that makes room, to which none is added": (MAP.format("LRU_HASH", 1024, "__u32", "m"), False),
     "four maps": ("".join(MAP.format("ARRAY", 1, "__u32", name) for name in "mnop"), False),
     "five maps": ("".join(MAP.format("ARRAY", 1, "__u32", name) for name in "mnopq"), True),
 }

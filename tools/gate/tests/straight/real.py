@@ -11,11 +11,12 @@ import subprocess
 import tempfile
 
 from laxonje_tools.from_c import elf
+from laxonje_tools.from_c.absent import LEFT_OUT
 
 TOOLS = pathlib.Path(__file__).resolve().parents[3]
 # objects, and programs that have objects in them: of libxdp1, suricata, xdp-tools and knot
 PLACES = "usr/lib/*/bpf/*.o", "usr/lib/suricata/ebpf/*.bpf", "usr/sbin/xdp*", "usr/lib/*/libknot.so.*"
-ACCEPTED = {"xdp_dispatcher", "xdp_pass", "xdp_drop", "xdp_basic_prog"}
+ACCEPTED = {"xdp_dispatcher", "xdp_pass", "xdp_drop", "xdp_basic_prog", "xdpdump", "xsk_def_prog"}
 MOST_WORDS = 4
 
 
@@ -49,7 +50,8 @@ def ran(xdpbox, path, name):
     """What is made of a program, with words for maps whose size a loader gives."""
     words = []
     for _ in range(MOST_WORDS):
-        command = [TOOLS / "settings-from-c", "--without-prints", "--program", name, path, *words]
+        left_out = (f"--without-{what}" for what in LEFT_OUT)
+        command = [TOOLS / "settings-from-c", *left_out, "--program", name, path, *words]
         run = subprocess.run(command, env={**os.environ, "XDPBOX": xdpbox}, capture_output=True, text=True, check=False)
         missing = re.findall(r"the map (\S+) has no number of entries", run.stderr)
         if not missing:

@@ -18,7 +18,12 @@ NOT_HERE = {
         LOOKUP,
         "BPF_MAP_TYPE_DEVMAP, and there are ARRAY, HASH, PERCPU_ARRAY, PERCPU_HASH and LPM_TRIE: there is no other device here: XDP_PASS gives",
     ),
-    "a map that packets change": (MAP.format("LRU_HASH", 8, "__u32", "__u64", "m"), LOOKUP, "BPF_MAP_TYPE_LRU_HASH, and there are ARRAY"),
+    "a map that packets change": (MAP.format("BLOOM_FILTER", 8, "__u32", "__u64", "m"), LOOKUP, "BPF_MAP_TYPE_BLOOM_FILTER, and there are ARRAY"),
+    "a row that is added to a map that makes room": (
+        MAP.format("LRU_HASH", 8, "__u32", "__u64", "m"),
+        "__u32 k = 0; __u64 v = 1; bpf_map_update_elem(&m, &k, &v, BPF_ANY); return XDP_PASS;",
+        "bpf_map_update_elem, which isn't here",
+    ),
     "a large map": (MAP.format("ARRAY", 65537, "__u32", "__u64", "m"), LOOKUP, "65537 entries: 1 to 65536; --entries m=N"),
     "seventeen maps": (
         "".join(MAP.format("ARRAY", 1, "__u32", "__u64", name) for name in "mnopqrstuvwxyzabc"),
