@@ -24,6 +24,7 @@ use std::sync::Wait;
 use std::thread::{Promise, PromisedHandle};
 use xdp_world::{BACK, FRONT};
 use xen_back::{Queue, QueueDesc};
+use xen_netif::NO_OFFERS;
 use xen_page::{Bus, Mapped};
 use xen_ring::Port;
 
@@ -108,6 +109,7 @@ fn make_queue<'p, 'b>(
         ifindex: shared.ifindex,
         queue: number as u32,
         port,
+        offers: NO_OFFERS,
         start: shared.start,
     };
     Queue::make(program, &[], desc, room)

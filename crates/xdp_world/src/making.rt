@@ -20,6 +20,7 @@ use bpf_verify::Verified;
 use bpf_vm::Buffer;
 use std::alloc::{AllocError, Global};
 use xen_back::{Queue, QueueDesc};
+use xen_netif::NO_OFFERS;
 
 /// A queue before its first turn.
 pub(crate) fn queue<'p, 'b>(
@@ -47,6 +48,7 @@ pub(crate) fn queue<'p, 'b>(
         ifindex,
         queue: number as u32,
         port: Layout::back_port(number),
+        offers: NO_OFFERS,
         start,
     };
     Ok(Queue::make(program, lists, desc, buffer))

@@ -319,6 +319,9 @@ extern "C" {
     pub fn laxonje_queue_deliver(queue: *mut laxonje_queue, producer: u32, packet: *const u8, packet_bytes: usize) -> u32;
     pub fn laxonje_queue_await(queue: *mut laxonje_queue, pages: u32) -> u32;
     pub fn laxonje_queue_flags(queue: *mut laxonje_queue) -> u32;
+    pub fn laxonje_queue_offer(queue: *mut laxonje_queue, offers: u32) -> u32;
+    pub fn laxonje_queue_segment_type(queue: *mut laxonje_queue) -> u32;
+    pub fn laxonje_queue_segment_size(queue: *mut laxonje_queue) -> u32;
     pub fn laxonje_queue_packet(queue: *mut laxonje_queue, out: *mut u8, out_bytes: usize) -> usize;
     pub fn laxonje_queue_state(queue: *mut laxonje_queue) -> laxonje_queue_standing;
     pub fn laxonje_queue_free(queue: *mut laxonje_queue);
