@@ -13,6 +13,8 @@ use Rattle.bpf_insn.specs.Register.{number}
 use Rattle.bpf_insn.specs.declared.alu_op.AluOp.TheVariants as op
 use Rattle.bpf_insn.specs.declared.register.Register.{Register}
 use Rattle.bpf_insn.specs.declared.operand.Operand.{Operand}
+use Rattle.bpf_insn.specs.declared.refusal.Cause.{Cause}
+use Rattle.bpf_insn.specs.declared.refusal.Cause.TheVariants as cause
 use Rattle.bpf_insn.specs.declared.insn.Insn.{Insn}
 use Rattle.bpf_insn.specs.declared.insn.Insn.TheVariants.{Alu}
 use Rattle.bpf_note.specs.declared.op.Op.TheVariants as ops
@@ -20,9 +22,12 @@ use Rattle.bpf_note.specs.declared.val.Val.TheVariants.{Num}
 use Rattle.bpf_note.specs.State.{State}
 use Rattle.bpf_note.specs.Facts.{Facts, with_reg}
 use Rattle.bpf_note.specs.Describes.{Describes, Reads, meaning}
+use Rattle.bpf_flow.specs.Edges.{Answer}
+use Rattle.bpf_flow.specs.Gives.{Fails}
 use Rattle.bpf_flow.specs.Sound.{Accounts, Covers}
 use Rattle.bpf_flow.specs.Step.{Outcome, Next, Loads, Adds, Exited, Fault, exec, operand, LeadsTo}
 use Rattle.bpf_same.specs.LinearForms.{plus}
+use Rattle.bpf_same.specs.Simulated.{IsRefused}
 use Rattle.bpf_same.specs.Ranges.{Lies, IsRead, IsOperandRead, IsAdded, IsUnited, IsSummed, IsSharper}
 use Rattle.bpf_same.proofs.ComputeLemmas.{added, computes_as, mod_word}
 use Rattle.bpf_same.proofs.StepLemmas.{alu_computes}
@@ -115,3 +120,25 @@ accounted i n m l q r s (Loads x y z go) e d k a = λ v fits. covered q r m l (g
 accounted i n m l q r s (Adds x y z delta go) e d k a = λ v fits. covered q r m l (go v) k.same (k.describes s (go v) (Some (ops.Add x y z delta v)) d (subst (λ (o : Outcome). LeadsTo o (Some (ops.Add x y z delta v)) (go v)) e (refl, refl, refl, refl, fits, refl))) (a v fits)
 accounted i n m l q r s (Exited x) e d k a = tt
 accounted i n m l q r s Fault e d k a = a
+
+-- a cause of refusal that isn't out of memory is the rule's
+pub refused_by_rule : (c : Cause) (a : Answer) → (c ≡ cause.Memory → ⊥) → Fails c a → IsRefused a
+refused_by_rule cause.Memory a other h = absurd (other refl)
+refused_by_rule cause.Length a other h = (cause.Length, h)
+refused_by_rule cause.Opcode a other h = (cause.Opcode, h)
+refused_by_rule cause.Register a other h = (cause.Register, h)
+refused_by_rule cause.Target a other h = (cause.Target, h)
+refused_by_rule cause.BackJump a other h = (cause.BackJump, h)
+refused_by_rule cause.End a other h = (cause.End, h)
+refused_by_rule cause.Unset a other h = (cause.Unset, h)
+refused_by_rule cause.FramePointer a other h = (cause.FramePointer, h)
+refused_by_rule cause.NoPointer a other h = (cause.NoPointer, h)
+refused_by_rule cause.Packet a other h = (cause.Packet, h)
+refused_by_rule cause.Stack a other h = (cause.Stack, h)
+refused_by_rule cause.Context a other h = (cause.Context, h)
+refused_by_rule cause.MayBeNull a other h = (cause.MayBeNull, h)
+refused_by_rule cause.MapAccess a other h = (cause.MapAccess, h)
+refused_by_rule cause.Helper a other h = (cause.Helper, h)
+refused_by_rule cause.MapNumber a other h = (cause.MapNumber, h)
+refused_by_rule cause.Argument a other h = (cause.Argument, h)
+refused_by_rule cause.Unsupported a other h = (cause.Unsupported, h)

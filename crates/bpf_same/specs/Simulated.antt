@@ -1,11 +1,12 @@
 -- For proofs: no claim rests on this file.
 -- When an old program simulates what a new one does.
-use Rattle.std.specs.Prelude.{ℕ, ℤ, ◌+◌, ◌≡◌, ◌<◌, ◌≤◌, ◌⊎◌, List, Option, None, Some, Bool, true, false, not, slice_get}
+use Rattle.std.specs.Prelude.{ℕ, ℤ, ◌+◌, ◌≡◌, ◌<◌, ◌≤◌, ◌⊎◌, List, Option, None, Some, Bool, true, false, not, slice_get, Err}
 use Rattle.std.specs.Global.{Box, Vec}
 use Rattle.bpf_insn.specs.declared.register.Register.{Register}
 use Rattle.bpf_insn.specs.declared.register.Register.TheVariants.{R10}
 use Rattle.bpf_insn.specs.declared.size.Size.TheVariants.{Double}
 use Rattle.bpf_insn.specs.declared.insn.Insn.{Insn}
+use Rattle.bpf_insn.specs.declared.refusal.Cause.{Cause}
 use Rattle.bpf_insn.specs.declared.insn.Insn.TheVariants.{Ldx, Ja, Jump}
 use Rattle.bpf_note.specs.Shape.{Shape}
 use Rattle.bpf_note.specs.State.{State}
@@ -13,7 +14,7 @@ use Rattle.bpf_note.specs.Parts.{Noted, facts}
 use Rattle.bpf_note.specs.Facts.{Facts, entry}
 use Rattle.bpf_note.specs.Describes.{Describes}
 use Rattle.bpf_note.specs.declared.op.Op.{Op}
-use Rattle.bpf_flow.specs.Edges.{Edges}
+use Rattle.bpf_flow.specs.Edges.{Answer, Edges}
 use Rattle.bpf_flow.specs.Graph.{next_slot}
 use Rattle.bpf_flow.specs.Sound.{Accounts}
 use Rattle.bpf_flow.specs.Step.{Exited, at_slot, exec, step, target, LeadsTo}
@@ -170,6 +171,10 @@ IsBranch i pc q r = ⊥
 -- the edges account for what an instruction does where this is known
 abbrev pub IsAccounted : Edges → List Shape → Insn → Facts → ℕ → Type 0
 IsAccounted es shapes i n pc = (s : State) → Describes n s → s.pc ≡ pc → s.shapes ≡ shapes → Accounts es (exec i s)
+
+-- the verifier's rule gives a cause of refusal
+abbrev pub IsRefused : Answer → Type 0
+IsRefused a = (c : Cause) × (a ≡ Err c)
 
 -- the old program at slot p simulates the new one's instruction at slot pc
 pub record Simulates (b : Candidate) (shapes : List Shape) (p : ℕ) (i : Insn) (e : Relation) (n : Facts) (pc : ℕ) : Type 0 where

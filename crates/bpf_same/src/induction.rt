@@ -1,5 +1,5 @@
 //! Whether a candidate is a simulation, by induction: its relation holds at the start, and the old program simulates each instruction.
-ghost use Rattle.std.specs.Prelude.{◌≡◌, ◌<◌, ◌≤◌, ℕ, Some, length, slice_get, IsTrue};
+ghost use Rattle.std.specs.Prelude.{◌≡◌, ◌<◌, ◌≤◌, ℕ, Some, length, slice_get, IfOk, IsTrue};
 ghost use Rattle.std.specs.Global.{Box};
 ghost use Rattle.bpf_note.specs.Facts.{entry};
 ghost use Rattle.bpf_note.specs.Parts.{Noted, facts};
@@ -13,7 +13,7 @@ use crate::start::{holds_at_entry, is_without_contents};
 use crate::witness::Witness;
 use bpf_insn::Insn;
 use bpf_note::{MapShape, Note};
-use std::alloc::Global;
+use std::alloc::{AllocError, Global};
 
 impl Simulation<'_> {
     /// Returns whether the old program simulates an instruction, whichever of the notes at its slot describes the state.
@@ -26,11 +26,11 @@ impl Simulation<'_> {
         relation: &Relation,
         pc: u32,
         shapes: &[MapShape],
-    ) -> bool
+    ) -> Result<bool, AllocError>
         requires short { length self.now.old.now ≤ 4096 }
         requires inside { pc < 4096 }
-        ensures { IsTrue result → (k : ℕ) (n : Box Noted) → slice_get notes.now k ≡ Some n →
-            Simulates (candidate_of self.now) shapes.now witness.at insn relation.now (facts n.value) pc }
+        ensures { IfOk result (λ yes. IsTrue yes → (k : ℕ) (n : Box Noted) → slice_get notes.now k ≡ Some n →
+            Simulates (candidate_of self.now) shapes.now witness.at insn relation.now (facts n.value) pc) }
     {
         for k in 0..notes.len() {
             let before = Point {
@@ -39,39 +39,40 @@ impl Simulation<'_> {
                 note: &notes[k],
                 relation,
             };
-            if !self.simulates(alloc, &before, pc, shapes) {
-                return false;
+            if !self.simulates(alloc, &before, pc, shapes)? {
+                return Ok(false);
             }
         }
-        true
+        Ok(true)
     }
 
     /// Returns whether the old program simulates the instruction of a slot.
-    fn simulates_slot(&self, alloc: Global, new: &[Insn], pc: u32, shapes: &[MapShape]) -> bool
+    fn simulates_slot(
+        &self,
+        alloc: Global,
+        new: &[Insn],
+        pc: u32,
+        shapes: &[MapShape],
+    ) -> Result<bool, AllocError>
         requires short { length self.now.old.now ≤ 4096 }
         requires inside { pc < length new.now }
         requires few { length new.now ≤ 4096 }
-        ensures { IsTrue result → SimulatesSlot (candidate_of self.now) new.now shapes.now pc }
+        ensures { IfOk result (λ yes. IsTrue yes → SimulatesSlot (candidate_of self.now) new.now shapes.now pc) }
     {
         let Some(witness) = witness_at(self.witnesses, pc) else {
-            return false;
+            return Ok(false);
         };
         let Some(insn) = insn_at(new, pc) else {
-            return false;
+            return Ok(false);
         };
         let Some(relation) = relation_at(self.relations, pc) else {
-            return false;
+            return Ok(false);
         };
-        (pc as usize) < self.notes.len()
-            && self.simulates_each(
-                alloc,
-                witness,
-                insn,
-                self.notes[pc as usize].as_slice(),
-                &relation,
-                pc,
-                shapes,
-            )
+        if pc as usize >= self.notes.len() {
+            return Ok(false);
+        }
+        let notes = self.notes[pc as usize].as_slice();
+        self.simulates_each(alloc, witness, insn, notes, &relation, pc, shapes)
     }
 
     /// Returns whether the old program reaches the first slot's witness silently.
@@ -98,19 +99,24 @@ impl Simulation<'_> {
     }
 
     /// Returns whether the candidate is a simulation.
-    pub(crate) fn is_simulation(&self, alloc: Global, new: &[Insn], shapes: &[MapShape]) -> bool
+    pub(crate) fn is_simulation(
+        &self,
+        alloc: Global,
+        new: &[Insn],
+        shapes: &[MapShape],
+    ) -> Result<bool, AllocError>
         requires short { length self.now.old.now ≤ 4096 }
         requires few { length new.now ≤ 4096 }
-        ensures { IsTrue result → IsSimulation (candidate_of self.now) new.now shapes.now }
+        ensures { IfOk result (λ yes. IsTrue yes → IsSimulation (candidate_of self.now) new.now shapes.now) }
     {
         if !self.is_initial(alloc) {
-            return false;
+            return Ok(false);
         }
         for pc in 0..new.len() as u32 {
-            if !self.simulates_slot(alloc, new, pc, shapes) {
-                return false;
+            if !self.simulates_slot(alloc, new, pc, shapes)? {
+                return Ok(false);
             }
         }
-        true
+        Ok(true)
     }
 }

@@ -1,5 +1,5 @@
 //! Where a comparison stops. Nothing is promised of it but that it is a slot of the new program: `simulation` judges.
-ghost use Rattle.std.specs.Prelude.{◌<◌, ◌≤◌, length, IfSome};
+ghost use Rattle.std.specs.Prelude.{◌<◌, ◌≤◌, length, IfOk, IfSome};
 
 use crate::access::{is_own_step, reads_alike};
 use crate::at_slot::{insn_at, relation_at, witness_at};
@@ -11,7 +11,7 @@ use crate::way::on_way;
 use bpf_flow::{Successor, Successors, next_slot};
 use bpf_insn::Insn;
 use bpf_note::{MapShape, Note};
-use std::alloc::Global;
+use std::alloc::{AllocError, Global};
 
 /// Why a slot isn't shown to be simulated.
 #[derive(Clone, Copy, Debug, PartialEq, Eq, Drop)]
@@ -176,44 +176,66 @@ impl Simulation<'_> {
     }
 
     /// Why an instruction isn't simulated.
-    fn insn_stop(&self, alloc: Global, before: &Point, pc: u32, shapes: &[MapShape]) -> Option<Stop>
+    fn insn_stop(
+        &self,
+        alloc: Global,
+        before: &Point,
+        pc: u32,
+        shapes: &[MapShape],
+    ) -> Result<Option<Stop>, AllocError>
         requires short { length self.now.old.now ≤ 4096 }
         requires inside { pc < 4096 }
     {
         let old = before.witness.at;
         if !is_ruled(before.insn, pc, shapes.len()) {
-            return stop_at(old, ObstacleKind::Registers);
+            return Ok(stop_at(old, ObstacleKind::Registers));
         }
-        match known_after(alloc, before.insn, pc, before.note, shapes) {
-            Some(Successors::One(there)) => self.plain_stop(before, &there),
-            Some(Successors::Two(next, taken)) => self.branch_stop(before, &next, &taken),
-            Some(Successors::None) if self.is_copied(before) => None,
-            Some(Successors::None) => stop_at(old, ObstacleKind::Instruction),
-            None => stop_at(old, ObstacleKind::Registers),
+        match known_after(alloc, before.insn, pc, before.note, shapes)? {
+            Some(Successors::One(there)) => Ok(self.plain_stop(before, &there)),
+            Some(Successors::Two(next, taken)) => Ok(self.branch_stop(before, &next, &taken)),
+            Some(Successors::None) if self.is_copied(before) => Ok(None),
+            Some(Successors::None) => Ok(stop_at(old, ObstacleKind::Instruction)),
+            None => Ok(stop_at(old, ObstacleKind::Registers)),
         }
     }
 
     /// Why a slot isn't simulated.
-    fn slot_stop(&self, alloc: Global, new: &[Insn], pc: u32, shapes: &[MapShape]) -> Option<Stop>
+    fn slot_stop(
+        &self,
+        alloc: Global,
+        new: &[Insn],
+        pc: u32,
+        shapes: &[MapShape],
+    ) -> Result<Option<Stop>, AllocError>
         requires short { length self.now.old.now ≤ 4096 }
         requires inside { pc < length new.now }
         requires few { length new.now ≤ 4096 }
     {
-        let witness = witness_at(self.witnesses, pc)?;
-        let (insn, relation) = (insn_at(new, pc)?, relation_at(self.relations, pc)?);
-        for note in self.notes.get(pc as usize)? {
+        let Some(witness) = witness_at(self.witnesses, pc) else {
+            return Ok(None);
+        };
+        let Some(insn) = insn_at(new, pc) else {
+            return Ok(None);
+        };
+        let Some(relation) = relation_at(self.relations, pc) else {
+            return Ok(None);
+        };
+        let Some(notes) = self.notes.get(pc as usize) else {
+            return Ok(None);
+        };
+        for note in notes {
             let before = Point {
                 insn,
                 witness,
                 note,
                 relation: &relation,
             };
-            let found = self.insn_stop(alloc, &before, pc, shapes);
+            let found = self.insn_stop(alloc, &before, pc, shapes)?;
             if found.is_some() {
-                return found;
+                return Ok(found);
             }
         }
-        None
+        Ok(None)
     }
 
     /// Why the first slot isn't where both programs begin.
@@ -229,21 +251,22 @@ impl Simulation<'_> {
         alloc: Global,
         new: &[Insn],
         shapes: &[MapShape],
-    ) -> Option<Obstacle>
+    ) -> Result<Option<Obstacle>, AllocError>
         requires short { length self.now.old.now ≤ 4096 }
         requires few { length new.now ≤ 4096 }
-        ensures { IfSome result (λ o. o.slot < length new.now) }
+        ensures { IfOk result (λ o. IfSome o (λ b. b.slot < length new.now)) }
     {
         for slot in 0..new.len() as u32 {
-            let found = if slot == 0 {
+            let before = if slot == 0 {
                 self.start_stop(alloc)
             } else {
                 None
             };
-            if let Some(Stop { old, kind }) = found.or(self.slot_stop(alloc, new, slot, shapes)) {
-                return Some(Obstacle { slot, old, kind });
+            let found = before.or(self.slot_stop(alloc, new, slot, shapes)?);
+            if let Some(Stop { old, kind }) = found {
+                return Ok(Some(Obstacle { slot, old, kind }));
             }
         }
-        None
+        Ok(None)
     }
 }

@@ -92,7 +92,7 @@ fn is_shown(
         low: findings.low,
         alone: false,
     };
-    Ok(simulation.is_simulation(alloc, new, shapes))
+    simulation.is_simulation(alloc, new, shapes)
 }
 
 /// Returns whether a simulation by the witnesses is found of programs that alone have the counters.
@@ -117,7 +117,7 @@ fn is_shown_alone(
         low: findings.low,
         alone: true,
     };
-    Ok(simulation.is_simulation(alloc, insns, shapes))
+    simulation.is_simulation(alloc, insns, shapes)
 }
 
 /// Returns where no simulation by the witnesses is found.
@@ -141,7 +141,7 @@ fn obstacle_to(
         low: findings.low,
         alone: false,
     };
-    Ok(simulation.first_obstacle(alloc, new, shapes))
+    simulation.first_obstacle(alloc, new, shapes)
 }
 
 /// Returns whether the old program's runs are the new one's by counts.

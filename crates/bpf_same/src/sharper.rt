@@ -1,20 +1,20 @@
 //! What an instruction leaves known: by the verifier's rule, and for a sum, or the bits of both, that it forgets, by the ranges of
 //! both numbers.
-ghost use Rattle.std.specs.Prelude.{◌≡◌, ◌<◌, length, true, IfSome, IsTrue};
+ghost use Rattle.std.specs.Prelude.{◌≡◌, ◌<◌, length, true, IfOk, IfSome, IsTrue, None};
 ghost use Rattle.bpf_insn.specs.declared.insn.Insn.TheVariants as insns;
 ghost use Rattle.bpf_note.specs.Parts.{facts};
-ghost use Rattle.bpf_flow.specs.Rule.{IsRuled};
+ghost use Rattle.bpf_flow.specs.Rule.{IsRuled, after_of};
 ghost use Rattle.bpf_same.specs.Ranges.{IsAdded, IsOperandRead, IsSharper, IsSummed, IsUnited};
 ghost use Rattle.bpf_same.specs.Stepped.{IsCombined};
-ghost use Rattle.bpf_same.specs.Simulated.{IsAccounted};
+ghost use Rattle.bpf_same.specs.Simulated.{IsAccounted, IsRefused};
 ghost use Rattle.bpf_flow.specs.Gives.{edges_of};
 
 use crate::linear_form::extended;
 use crate::range::{Range, range_of};
 use bpf_flow::{Successor, Successors, after};
-use bpf_insn::{AluOp, Insn, Operand, Register};
+use bpf_insn::{AluOp, Cause, Insn, Operand, Register};
 use bpf_note::{MapShape, Note, Val};
-use std::alloc::Global;
+use std::alloc::{AllocError, Global};
 
 /// A register, and the numbers that it may hold.
 #[derive(Clone, Copy, Drop)]
@@ -123,21 +123,25 @@ fn sharpened(insn: Insn, note: &Note, there: Successor) -> Successor
     there
 }
 
-/// Returns where an instruction leads from a slot, if the verifier's rule gives that.
+/// Returns where an instruction leads from a slot, or nothing where the verifier's rule refuses it. Memory that the rule is refused is
+/// no refusal of the instruction.
+#[tactic(auto, using(crate::proofs::SharperLemmas::refused_by_rule))]
 pub(crate) fn known_after(
     alloc: Global,
     insn: Insn,
     pc: u32,
     note: &Note,
     shapes: &[MapShape],
-) -> Option<Successors>
+) -> Result<Option<Successors>, AllocError>
     requires inside { pc < 4096 }
     requires ruled { IsRuled insn pc (length shapes.now) }
-    ensures { IfSome result (λ e. IsAccounted (edges_of e) shapes.now insn (facts note.now) pc) }
+    ensures accounted { IfOk result (λ known. IfSome known (λ e. IsAccounted (edges_of e) shapes.now insn (facts note.now) pc)) }
+    ensures refused { IfOk result (λ known. known ≡ None → IsRefused (after_of insn pc (facts note.now) shapes.now)) }
 {
     match after(alloc, &insn, pc, note, shapes) {
-        Ok(Successors::One(there)) => Some(Successors::One(sharpened(insn, note, there))),
-        Ok(there) => Some(there),
-        Err(_) => None,
+        Ok(Successors::One(there)) => Ok(Some(Successors::One(sharpened(insn, note, there)))),
+        Ok(there) => Ok(Some(there)),
+        Err(Cause::Memory) => Err(AllocError),
+        Err(_) => Ok(None),
     }
 }

@@ -1,5 +1,5 @@
 //! Whether the old program simulates an instruction of the new one.
-ghost use Rattle.std.specs.Prelude.{◌≡◌, ◌<◌, ◌≤◌, ◌⊎◌, ℕ, Some, length, slice_get, IsTrue, IfSome, not, true, false};
+ghost use Rattle.std.specs.Prelude.{◌≡◌, ◌<◌, ◌≤◌, ◌⊎◌, ℕ, Some, length, slice_get, IsTrue, IfOk, IfSome, not, true, false};
 ghost use Rattle.std.specs.Global.{Box};
 ghost use Rattle.bpf_note.specs.Describes.{Describes};
 ghost use Rattle.bpf_note.specs.Parts.{Noted, facts};
@@ -24,7 +24,7 @@ use crate::witness::Witness;
 use bpf_flow::{Successor, Successors, jump_target, next_slot};
 use bpf_insn::{Insn, Register, Size};
 use bpf_note::{MapShape, Note, covers};
-use std::alloc::Global;
+use std::alloc::{AllocError, Global};
 
 /// The longest row of silent steps of the old program.
 pub(crate) const MOST_JUMPS: u32 = 256;
@@ -343,29 +343,29 @@ impl Simulation<'_> {
         before: &Point,
         pc: u32,
         shapes: &[MapShape],
-    ) -> bool
+    ) -> Result<bool, AllocError>
         requires short { length self.now.old.now ≤ 4096 }
         requires inside { pc < 4096 }
-        ensures { IsTrue result → Simulates (candidate_of self.now) shapes.now before.now.witness.at before.now.insn before.now.relation.now (facts before.now.note.now) pc }
+        ensures { IfOk result (λ yes. IsTrue yes → Simulates (candidate_of self.now) shapes.now before.now.witness.at before.now.insn before.now.relation.now (facts before.now.note.now) pc) }
     {
         if !is_ruled(before.insn, pc, shapes.len()) {
-            return false;
+            return Ok(false);
         }
-        match known_after(alloc, before.insn, pc, before.note, shapes) {
-            Some(Successors::None) => {
+        match known_after(alloc, before.insn, pc, before.note, shapes)? {
+            Some(Successors::None) => Ok(
                 is_exit(before.insn)
                     && is_at(self.old, before.witness.at, before.insn)
-                    && reads_alike(before.relation, before.insn)
-            }
-            Some(Successors::One(there)) => self.simulates_plain(before, &there),
+                    && reads_alike(before.relation, before.insn),
+            ),
+            Some(Successors::One(there)) => Ok(self.simulates_plain(before, &there)),
             Some(Successors::Two(next, taken)) => {
                 if is_branch(before.insn, pc, next.pc, taken.pc) {
-                    self.simulates_branch(before, &next, &taken)
+                    Ok(self.simulates_branch(before, &next, &taken))
                 } else {
-                    false
+                    Ok(false)
                 }
             }
-            None => false,
+            None => Ok(false),
         }
     }
 }

@@ -18,13 +18,14 @@ use Rattle.bpf_note.specs.declared.key.MapKey.{MapKey}
 use Rattle.bpf_note.specs.declared.key.MapKey.TheVariants.{Index, Listed, Constants}
 use Rattle.toml.specs.Data.{Members}
 use Rattle.xdp_load.specs.Document.{MapText, Text, packet_row, reloc_row, step_row, unknown_key}
-use Rattle.xdp_load.specs.Gives.{each, in_key, in_row, or_else, or_refused, ◌>>=◌}
+use Rattle.xdp_load.specs.Gives.{each, in_key, in_original, in_row, or_else, or_refused, ◌>>=◌}
 use Rattle.xdp_load.specs.Keys.{least, most}
 use Rattle.xdp_load.specs.Limits.{LimitedText, bad_name, limited_with}
-use Rattle.xdp_load.specs.Listed.{ListedView, ListedWritten, entries_key, known_keys, list_of, listed_limits, listed_limits_of, listed_limits_with, listed_of, listed_of_table, listed_rows_of, listed_setup_of, listed_setup_with, listed_shape, listed_written, lists_of, map_key, most_of, row_bytes}
+use Rattle.xdp_load.specs.Listed.{ListedView, ListedWritten, entries_key, known_keys, list_of, listed_by, listed_limits, listed_limits_of, listed_limits_with, listed_of, listed_of_table, listed_rows_of, listed_setup_of, listed_setup_with, listed_shape, listed_written, lists_of, map_key, most_of, row_bytes}
 use Rattle.xdp_load.specs.ListedSound.{AreFitting, Fits, IsListedSound}
 use Rattle.xdp_load.specs.MapKeys.{KeyText, ListedText, are_rows, constants_of, exact_of, index_of, is_row_of, limited_key, listed_row, prefix_of, truth_at}
 use Rattle.xdp_load.specs.Numbers.{limited, limited_numbers, numbers_of}
+use Rattle.xdp_load.specs.Original.{RewrittenView, limited_place, listed_beside, listed_in, original_of, original_program, rewritten_of, rewritten_of_table}
 use Rattle.xdp_load.specs.Setup.{Packet, bytes_in, bytes_of, decoded_of, document_of, names_of, relocated_setup, text_of}
 use Rattle.xdp_load.specs.Spot.{Refused, at, refused, row, unknown, whole}
 use Rattle.xdp_load.specs.Written.{WrittenText, program_of, rows_of, written_with}
@@ -220,9 +221,8 @@ rows_maps ms x e =
     bind_ok (in_key fault.Key (truth_at key.Wide ms)) _ x r4 (λ wide e5 last.
     subst AreMaps (same_Ok _ _ last) (with_maps program numbers (map (λ m. m.map) maps) ms written e4))))))
 
-written_maps : (ms : Members) (x : ListedWritten) → listed_written ms ≡ Ok x → AreMaps x
-unfolding listed_written
-written_maps ms x e = go (unknown_key known_keys ms) e
+written_maps : (known : List Key) (ms : Members) (x : ListedWritten) → listed_by known ms ≡ Ok x → AreMaps x
+written_maps known ms x e = go (unknown_key known ms) e
   where
     go : (o : Option Text) → option_map_or (λ k. Err (refused fault.Key (unknown k))) o (listed_rows_of ms) ≡ Ok x → AreMaps x
     go None h = rows_maps ms x h
@@ -257,9 +257,22 @@ sound_setup x l y held e = go (bad_name 0 (names_of x.written.maps)) refl e
     go (Some n) t h = absurd (cc)
 
 pub listed_sound : (bytes : List ℕ) (y : ListedView) → listed_of bytes ≡ Ok y → IsListedSound y
-unfolding listed_of listed_of_table
+unfolding listed_of listed_of_table listed_written
 listed_sound bytes y e =
     bind_ok (or_refused fault.Text whole (text_of bytes)) _ y e (λ text e1 rest.
     bind_ok (document_of text) listed_of_table y rest (λ document e2 more.
     bind_ok (listed_written document) _ y more (λ x e3 last.
-    bind_ok (listed_limits x) (listed_setup_of x) y last (λ l e4 end. sound_setup x l y (limited_all x l (written_maps document x e3) e4) end))))
+    bind_ok (listed_limits x) (listed_setup_of x) y last (λ l e4 end. sound_setup x l y (limited_all x l (written_maps known_keys document x e3) e4) end))))
+
+pub rewritten_sound : (bytes : List ℕ) (r : RewrittenView) → rewritten_of bytes ≡ Ok r → IsListedSound (listed_in r)
+unfolding rewritten_of rewritten_of_table listed_beside
+rewritten_sound bytes r e =
+    bind_ok (or_refused fault.Text whole (text_of bytes)) _ r e (λ text e1 rest.
+    bind_ok (document_of text) rewritten_of_table r rest (λ document e2 more.
+    bind_ok (original_of document) _ r more (λ o e3 next.
+    bind_ok (listed_beside document) _ r next (λ x e4 then.
+    bind_ok (in_original (each fault.Limit limited_place 0 o.places)) _ r then (λ places e5 after.
+    bind_ok (listed_limits x) _ r after (λ l e6 last.
+    bind_ok (listed_setup_of x l) _ r last (λ listed e7 end.
+    bind_ok (original_program (names_of x.written.maps) o) _ r end (λ original e8 all.
+    subst (λ (v : RewrittenView). IsListedSound (listed_in v)) (same_Ok _ _ all) (sound_setup x l listed (limited_all x l (written_maps (key.Original ∷ known_keys) document x e4) e6) e7)))))))))

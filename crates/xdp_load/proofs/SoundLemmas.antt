@@ -9,7 +9,7 @@ use Rattle.std.proofs.lemmas.Bool.{and_parts, leb-true, ltb-true}
 use Rattle.xdp_load.specs.declared.fault.Fault.{Fault}
 use Rattle.xdp_load.specs.declared.fault.Fault.TheVariants as fault
 use Rattle.xdp_load.specs.Document.{MapText, PacketText, StepText}
-use Rattle.xdp_load.specs.Gives.{Gives, each, in_key, in_original, in_row, or_else, or_refused, ◌>>=◌}
+use Rattle.xdp_load.specs.Gives.{Gives, each, in_key, in_row, or_else, or_refused, ◌>>=◌}
 use Rattle.xdp_load.specs.Keys.{least, most}
 use Rattle.xdp_load.specs.Limits.{HexPacket, LimitedText, are_names, bad_name, is_bad_first, is_packet_text, limited_shape, limited_lists, limited_of, limited_packet, limited_rows, limited_step, limited_with, packet_text}
 use Rattle.xdp_load.specs.Numbers.{below, limited, limited_numbers}
@@ -22,9 +22,6 @@ use Rattle.xdp_load.specs.declared.numbers.Numbers.{Numbers}
 use Rattle.xdp_load.specs.declared.key.Key.TheVariants as key
 use Rattle.bpf_note.specs.Shape.{Shape, IsNarrow}
 use Rattle.hex.proofs.HexLemmas.{decode_of-ok}
-use Rattle.xdp_load.specs.Original.{RewrittenView, limited_place, original_of, original_program, rewritten_of, rewritten_of_table, written_beside}
-use Rattle.xdp_load.specs.OriginalSeen.{rewritten_view}
-use Rattle.xdp_load.specs.declared.rewritten.Rewritten.{Rewritten}
 use Rattle.xdp_load.specs.Sound.{IsPacket, IsSound}
 use Rattle.xdp_load.specs.SetupSeen.{setup_view}
 use Rattle.xdp_load.specs.declared.setup.Setup.{Setup}
@@ -302,20 +299,3 @@ setup_sound bytes s e =
 pub given_sound : (bytes : List ℕ) (r : Result Setup LoadError) → Gives setup_view r (setup_of bytes) → IfOk r (λ s. IsSound (setup_view s))
 given_sound bytes (Ok s) h = setup_sound bytes (setup_view s) h
 given_sound bytes (Err e) h = tt
-
-rewritten_setup_sound : (bytes : List ℕ) (r : RewrittenView) → rewritten_of bytes ≡ Ok r → IsSound r.setup
-unfolding rewritten_of rewritten_of_table
-rewritten_setup_sound bytes r e =
-    bind_ok (or_refused fault.Text whole (text_of bytes)) _ r e (λ text e1 rest.
-    bind_ok (document_of text) rewritten_of_table r rest (λ document e2 more.
-    bind_ok (original_of document) _ r more (λ o e3 next.
-    bind_ok (written_beside document) _ r next (λ w e4 then.
-    bind_ok (in_original (each fault.Limit limited_place 0 o.places)) _ r then (λ places e5 after.
-    bind_ok (limited_of w) _ r after (λ l e6 last.
-    bind_ok (setup_of_limited w l) _ r last (λ setup e7 end.
-    bind_ok (original_program (names_of w.maps) o) _ r end (λ original e8 whole.
-    subst (λ (v : RewrittenView). IsSound v.setup) (same_Ok _ _ whole) (of_setup w l setup (of_limited w l e6) e7)))))))))
-
-pub rewritten_is_sound : (bytes : List ℕ) (r : Result Rewritten LoadError) → Gives rewritten_view r (rewritten_of bytes) → IfOk r (λ x. IsSound (setup_view x.setup))
-rewritten_is_sound bytes (Ok x) h = rewritten_setup_sound bytes (rewritten_view x) h
-rewritten_is_sound bytes (Err e) h = tt

@@ -47,8 +47,12 @@ listed_rows_of ms = do
 abbrev pub known_keys : List Key
 known_keys = top_keys ++ (key.Wide ∷ [])
 
+-- what a document says that knows these keys
+abbrev pub listed_by : List Key → Members → Result ListedWritten Refused
+listed_by known ms = option_map_or (λ k. Err (refused fault.Key (unknown k))) (unknown_key known ms) (listed_rows_of ms)
+
 unfoldable pub listed_written : Members → Result ListedWritten Refused
-listed_written ms = option_map_or (λ k. Err (refused fault.Key (unknown k))) (unknown_key known_keys ms) (listed_rows_of ms)
+listed_written ms = listed_by known_keys ms
 
 -- ---- limits
 

@@ -188,7 +188,7 @@ pub const LISTED_KEYS: [Key; 9] = [
 ];
 
 /// The keys of a document that has its original beside them.
-pub const REWRITTEN_KEYS: [Key; 9] = [
+pub const REWRITTEN_KEYS: [Key; 10] = [
     Key::Original,
     Key::Program,
     Key::Queues,
@@ -198,4 +198,5 @@ pub const REWRITTEN_KEYS: [Key; 9] = [
     Key::Reloc,
     Key::Step,
     Key::Packet,
+    Key::Wide,
 ];

@@ -159,7 +159,7 @@ pub fn gives_original(
 ) -> bool {
     match load_rewritten(alloc, text.as_bytes()) {
         Ok(rewritten) => {
-            is_hex_of(alloc, program, rewritten.setup.program.as_slice())
+            is_hex_of(alloc, program, rewritten.listed.setup.program.as_slice())
                 && is_hex_of(alloc, original, rewritten.original.as_slice())
                 && has_places(rewritten.places.as_slice(), places)
         }
@@ -211,10 +211,20 @@ pub fn constant_at(alloc: Global, text: &str, number: usize, place: usize) -> Op
     }
 }
 
+fn lists_in(listed: &Listed) -> usize {
+    listed.lists.iter().filter(|list| list.is_some()).count()
+}
+
 /// How many maps of settings have a list.
 pub fn lists_given(alloc: Global, text: &str) -> Option<usize> {
     let listed = load_listed(alloc, text.as_bytes()).ok()?;
-    Some(listed.lists.iter().filter(|list| list.is_some()).count())
+    Some(lists_in(&listed))
+}
+
+/// How many maps of settings with an original have a list.
+pub fn lists_beside_original(alloc: Global, text: &str) -> Option<usize> {
+    let rewritten = load_rewritten(alloc, text.as_bytes()).ok()?;
+    Some(lists_in(&rewritten.listed))
 }
 
 /// The counts of a setup with lists, or why there is none.

@@ -1,4 +1,5 @@
 use Rattle.std.proofs.Common.{◌≡◌, List, refl, subst}
+use Rattle.std.proofs.lemmas.Result.{IfOk-weaker}
 use Rattle.bpf_insn.specs.declared.insn.Insn.{Insn}
 use Rattle.bpf_note.specs.Shape.{Shape}
 use Rattle.bpf_same.specs.Simulated.{Candidate, IsSimulation}
@@ -9,6 +10,6 @@ of_these : (b : Candidate) (new new' : List Insn) (shapes shapes' : List Shape) 
 of_these b new new' shapes shapes' n s h = subst (λ (x : List Shape). IsSimulation b new' x) s (subst (λ (x : List Insn). IsSimulation b x shapes) n h)
 
 pub returns : goal.returns
-returns c = λ t.
+returns c =
     let new = c.args.new.now in
-    alone_runs _ new c.the_entry_describes_every_start.ensures (c.accepted_programs_end.ensures.end new c.insns-insns.ensures.consistent) refl (of_these _ _ _ _ _ c.insns-insns.ensures.same c.shapes-shapes.ensures.same (c.is_simulation.ensures t))
+    IfOk-weaker c.is_simulation.result _ _ (λ yes shown t. alone_runs _ new c.the_entry_describes_every_start.ensures (c.accepted_programs_end.ensures.end new c.insns-insns.ensures.consistent) refl (of_these _ _ _ _ _ c.insns-insns.ensures.same c.shapes-shapes.ensures.same (shown t))) c.is_simulation.ensures

@@ -11,8 +11,8 @@ loop-pc-preserved c = λ q low.
       | inl old ↦ c.loop-pc.invariant q old
       | inr high ↦
           let this : c.loop-pc.pc ≡ q = omega (arith, low, high) in
-          let claimed : c.simulates_slot.result ≡ true = search rules in
-          subst (λ (q : ℕ). SimulatesSlot (candidate_of c.args.self.now) c.args.new.now c.args.shapes.now q) this (c.simulates_slot.ensures claimed)
+          let claimed : c.in_ok-simulates_slot.field-0 ≡ true = search rules in
+          subst (λ (q : ℕ). SimulatesSlot (candidate_of c.args.self.now) c.args.new.now c.args.shapes.now q) this (c.in_ok-simulates_slot.ensures claimed)
     ]
 
 pub returns : goal.returns

@@ -11,10 +11,10 @@ pub returns-in-Some-One : goal.returns-in-Some-One
 returns-in-Some-One c = λ t.
     let b = c.args.before.now in
     plain_simulates (candidate_of c.args.self.now) c.args.shapes.now b.witness.stutters b.witness.at b.insn b.relation.now (facts b.note.now) (facts c.in-Some-One.there.note.value) c.args.pc c.in-Some-One.there.pc
-    (subst (λ (e : Successors). IsAccounted (edges_of e) c.args.shapes.now b.insn (facts b.note.now) c.args.pc) c.in-Some-One.field-0-is c.in-Some-One.ensures) (c.simulates_plain.ensures t)
+    (subst (λ (e : Successors). IsAccounted (edges_of e) c.args.shapes.now b.insn (facts b.note.now) c.args.pc) c.in-Some-One.field-0-is (rw c.in-Some-One.is at c.in_ok-known_after.ensures.accounted)) (c.simulates_plain.ensures t)
 
 pub returns-then-is_branch : goal.returns-then-is_branch
 returns-then-is_branch c = λ t.
     let b = c.args.before.now in
     branch_simulates (candidate_of c.args.self.now) c.args.shapes.now b.witness.stutters b.witness.at b.insn b.relation.now (facts b.note.now) (facts c.in-Some-Two.next.note.value) (facts c.in-Some-Two.taken.note.value) c.args.pc c.in-Some-Two.next.pc c.in-Some-Two.taken.pc
-    (c.is_branch.ensures c.if-is_branch.true) (subst (λ (e : Successors). IsAccounted (edges_of e) c.args.shapes.now b.insn (facts b.note.now) c.args.pc) c.in-Some-Two.field-0-is c.in-Some-Two.ensures) (c.simulates_branch.ensures t)
+    (c.is_branch.ensures c.if-is_branch.true) (subst (λ (e : Successors). IsAccounted (edges_of e) c.args.shapes.now b.insn (facts b.note.now) c.args.pc) c.in-Some-Two.field-0-is (rw c.in-Some-Two.is at c.in_ok-known_after.ensures.accounted)) (c.simulates_branch.ensures t)

@@ -17,8 +17,8 @@ loop-k-preserved c = λ j low b at.
           let here : slice_get c.args.notes.now c.loop-k.k ≡ Some c.index-notes-k.result = slice_get_read c.args.notes.now (length c.args.notes.now) c.loop-k.k c.index-notes-k.result refl c.loop-k-test.true c.index-notes-k.is in
           let both : Some c.index-notes-k.result ≡ Some b = sym here ∙ (ap (slice_get c.args.notes.now) this ∙ at) in
           let same : c.index-notes-k.result ≡ b = cc in
-          let simulates : c.simulates.result ≡ true = search rules in
-          subst (λ (n : Noted). Simulates (candidate_of c.args.self.now) c.args.shapes.now c.args.witness.at c.args.insn c.args.relation.now (facts n) c.args.pc) (c.deref.ensures ∙ ap (λ (b : Box Noted). b.value) same) (c.simulates.ensures simulates)
+          let simulates : c.in_ok-simulates.field-0 ≡ true = search rules in
+          subst (λ (n : Noted). Simulates (candidate_of c.args.self.now) c.args.shapes.now c.args.witness.at c.args.insn c.args.relation.now (facts n) c.args.pc) (c.deref.ensures ∙ ap (λ (b : Box Noted). b.value) same) (c.in_ok-simulates.ensures simulates)
     ]
 
 pub returns : goal.returns
