@@ -77,9 +77,17 @@ impl Queue {
         let Some(share) = self.share.take() else {
             unreachable!()
         };
-        let Share { counters, mut seat } = share;
+        let Share {
+            counters,
+            number,
+            mut seat,
+        } = share;
         let count = self.step_at_seat(words, &counters, &mut seat, ops);
-        self.share = Some(Share { counters, seat });
+        self.share = Some(Share {
+            counters,
+            number,
+            seat,
+        });
         count
     }
 }

@@ -1,8 +1,9 @@
 //! Counters that queues share, on whatever threads these are.
 
-ghost use Rattle.std.specs.Prelude.{◌≡◌, ◌<◌, ◌⊎◌, [], All, IfErr, IfNone, IfOk, IfSome};
+ghost use Rattle.std.specs.Prelude.{◌≡◌, ◌+◌, ◌<◌, ◌⊎◌, [], All, IfErr, IfNone, IfOk, IfSome, map};
+ghost use Rattle.std.specs.List.{range_with_len};
 ghost use Rattle.std.specs.Arc.{arc_value};
-ghost use Rattle.bpf_maps.specs.Seats.{IsSeatOf};
+ghost use Rattle.bpf_maps.specs.Seats.{IsSeatOf, SeatView};
 ghost use Rattle.bpf_note.specs.Shape.{IsCounter};
 
 use bpf_maps::{CounterSeat, Counters};
@@ -17,8 +18,10 @@ pub const MOST_SHARES: usize = 63;
 #[derive(Drop)]
 pub struct Share {
     pub(crate) counters: Arc<Counters>,
+    pub(crate) number: usize,
     pub(crate) seat: CounterSeat,
     ghost mine: { IsSeatOf (arc_value counters) seat },
+    ghost numbered: { seat.number ≡ number },
 }
 
 /// Counters of a program's maps, with the seats that no queue has.
@@ -28,9 +31,16 @@ pub struct SharedCounters {
     pub(crate) counters: Arc<Counters>,
     pub(crate) reader: CounterSeat,
     pub(crate) seats: Vec<CounterSeat>,
+    /// How many queues they are for. The reader's seat has this number, and the queues' have those below it.
+    pub(crate) queues: usize,
+    /// The number of each of `seats`.
+    pub(crate) numbers: Vec<usize>,
     ghost shapes: { (arc_value counters).shapes ≡ program.shapes },
     ghost reads: { IsSeatOf (arc_value counters) reader },
     ghost free: { All (IsSeatOf (arc_value counters)) seats.items },
+    ghost count: { (arc_value counters).seats ≡ queues + 1 },
+    ghost last: { reader.number ≡ queues },
+    ghost numbered: { map (λ (s : SeatView). s.number) seats.items ≡ numbers.items },
 }
 
 /// Why there are no shared counters.
@@ -112,6 +122,8 @@ impl SharedCounters {
             counters: Arc::new(alloc, counters)?,
             reader,
             seats,
+            queues,
+            numbers: numbers_below(alloc, queues)?,
         })
     }
 
@@ -125,6 +137,7 @@ impl SharedCounters {
     }
 
     /// A seat for a queue.
+    #[tactic(auto, using(crate::proofs::ClosingLemmas::taken_off, crate::proofs::ClosingLemmas::some_number))]
     pub(crate) fn share(&mut self) -> Result<Share, ShareFault>
         ensures given { IfOk result (IsGivenBy self.old self.new) }
         ensures fault { IfErr result (λ f. ((f ≡ ShareFault.Memory) ⊎ ((f ≡ ShareFault.Seats) × (self.old.seats.items ≡ []))) ×
@@ -137,7 +150,14 @@ impl SharedCounters {
         let Some(seat) = self.seats.pop() else {
             unreachable!()
         };
-        Ok(Share { counters, seat })
+        let Some(number) = self.numbers.pop() else {
+            unreachable!()
+        };
+        Ok(Share {
+            counters,
+            number,
+            seat,
+        })
     }
 
     /// The program whose maps these counters are of.
@@ -146,6 +166,17 @@ impl SharedCounters {
     {
         &self.program
     }
+}
+
+/// The numbers below a number, in order.
+fn numbers_below(alloc: Global, count: usize) -> Result<Vec<usize>, AllocError>
+    ensures { IfOk result (λ numbers. numbers.items ≡ range_with_len 0 count) }
+{
+    let mut numbers = Vec::with_capacity(alloc, count)?;
+    for number in 0..count {
+        numbers.push(number)?;
+    }
+    Ok(numbers)
 }
 
 fn crosses<T: Send>() {}
