@@ -29,9 +29,9 @@ is_ready s = false
 abbrev pub Fits : Doing → Queue → Type 0
 Fits doing.Between q = IsTrue (is_ready q.stage)
 Fits doing.Turn q = Unit {0}
-Fits (doing.Delivery d) q = IsTrue (is_ready q.stage) × (d.vif ≡ q.wiring.vif) × (d.state ≡ q.state) × (want_of (left_of d) ≢ want.Done)
+Fits (doing.Delivery d) q = IsTrue (is_ready q.stage) × (d.vif ≡ q.wiring.vif) × (d.state ≡ state_of q) × (want_of (left_of d) ≢ want.Done)
 Fits (doing.Wait a) q =
-    IsTrue (is_ready q.stage) × (a.rx ≡ q.wiring.vif.rx) × (a.state ≡ q.state) × (want_of (left_of_wait a) ≢ want.Done)
+    IsTrue (is_ready q.stage) × (a.rx ≡ q.wiring.vif.rx) × (a.state ≡ state_of q) × (want_of (left_of_wait a) ≢ want.Done)
 
 pub Fits-prop : (d : Doing) (q : Queue) → IsProp (Fits d q)
 Fits-prop doing.Between q = hlevel props

@@ -15,7 +15,8 @@ use Rattle.xen_turns.specs.declared.state.State.{State}
 use Rattle.xen_turns.specs.declared.turn.Kind.{Kind}
 use Rattle.xen_host.specs.Driven.{HasTurnedAt}
 use Rattle.xen_host.specs.EngineAt.{EngineAt}
-use Rattle.xen_host.specs.UnderWay.{packet_at, resting_at}
+use Rattle.xen_host.specs.UnderWay.{between, packet_at, resting_at}
+use Rattle.xen_host.specs.declared.stage.Stage.{Stage}
 use Rattle.xen_host.proofs.EngineLemmas.{ready_at}
 use Rattle.xen_host.proofs.TurnLemmas.{packet_there}
 use Rattle.xen_back.specs.InOneGo.{IsTaken}
@@ -46,6 +47,12 @@ operations_all (op ∷ ops) = ap (λ l. op ∷ l) (operations_all ops)
 -- nothing is under way
 pub rests_in : (e : EngineAt) (s : State) → resting_at e ≡ Some s → IsSome (resting_at e)
 rests_in e s r = subst (λ (o : Option State). IsSome o) (sym r) refl
+
+-- and the state is this
+pub state_in : (e : EngineAt) (s : State) → resting_at e ≡ Some s → e.state ≡ s
+state_in e s r =
+    let here : Some e.state ≡ Some s = sym (ap (λ (g : Stage). between e.state g) (ready_at e (rests_in e s r))) ∙ r in
+    cc here
 
 rested_packet : (e : EngineAt) → resting_at e ≡ Some e.state → packet_at e ≡ e.work.packet
 rested_packet e r = packet_there e (ready_at e (rests_in e e.state r))

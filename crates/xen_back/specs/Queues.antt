@@ -19,7 +19,7 @@ use Rattle.xen_turns.specs.declared.turn.Turn.{Turn}
 use Rattle.xen_turns.specs.declared.wiring.Wiring.{Wiring}
 
 abbrev pub state_of : Queue → State
-state_of q = q.state
+state_of q = q.engine.state
 
 abbrev pub wiring_of : Queue → Wiring
 wiring_of q = q.wiring
@@ -39,7 +39,7 @@ pub record IsSameWiring (old new : Queue) : Type 0 where
 
 -- What is left of its turn.
 abbrev pub rest : Queue → Steps Ending
-rest q = rest_of_stage q.wiring q.state q.stage
+rest q = rest_of_stage q.wiring q.engine.state q.stage
 
 -- Between turns.
 abbrev pub IsReady : Queue → Type 0

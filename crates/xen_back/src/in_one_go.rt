@@ -51,12 +51,8 @@ impl<'p, 'b> Queue<'p, 'b> {
     {
         match &mut self.stage {
             Some(Stage::At(packet, _)) => {
-                self.engine.resume(self.state);
-                let kind = self
-                    .engine
-                    .drive_turn(&self.wiring, packet, counters, bus, ports);
-                self.state = self.engine.state();
-                kind
+                self.engine
+                    .drive_turn(&self.wiring, packet, counters, bus, ports)
             }
             _ => unreachable!(),
         }
@@ -72,12 +68,8 @@ impl<'p, 'b> Queue<'p, 'b> {
     {
         match &mut self.stage {
             Some(Stage::At(room, _)) => {
-                self.engine.resume(self.state);
-                let delivery = self
-                    .engine
-                    .deliver(packet, &self.wiring, room, &mut NoCounters {}, bus, ports);
-                self.state = self.engine.state();
-                delivery
+                self.engine
+                    .deliver(packet, &self.wiring, room, &mut NoCounters {}, bus, ports)
             }
             _ => unreachable!(),
         }
@@ -95,17 +87,14 @@ impl<'p, 'b> Queue<'p, 'b> {
         let ports = Ports::new();
         match &mut self.stage {
             Some(Stage::At(packet, _)) => {
-                self.engine.resume(self.state);
-                let awaited = self.engine.await_slots(
+                self.engine.await_slots(
                     pages,
                     &self.wiring,
                     packet,
                     &mut NoCounters {},
                     bus,
                     &ports,
-                );
-                self.state = self.engine.state();
-                awaited
+                )
             }
             _ => unreachable!(),
         }

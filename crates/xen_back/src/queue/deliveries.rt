@@ -35,7 +35,7 @@ impl<'p, 'b> Queue<'p, 'b> {
         requires ready { IsReady self.now }
         ensures { IsBegun self.now packet.now result }
     {
-        underway(&self.wiring.vif, &self.state, packet)
+        underway(&self.wiring.vif, &self.engine.state(), packet)
     }
 
     /// Ends a delivery that wants nothing more; then the queue goes on.
@@ -48,7 +48,7 @@ impl<'p, 'b> Queue<'p, 'b> {
         // The borrow checker has to see this type in the body.
         let _vif = &self.wiring.vif;
         let (after, delivery) = outcome_of(&delivering.vif, &delivering.state, &delivering.moving);
-        self.state = after;
+        self.engine.resume(after);
         delivery
     }
 }

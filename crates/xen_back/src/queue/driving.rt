@@ -35,7 +35,7 @@ impl<'p, 'b> Queue<'p, 'b> {
         ensures rests { HasRest self.now }
     {
         match &self.stage {
-            Some(stage) => stage_want(&self.wiring, &self.state, stage),
+            Some(stage) => stage_want(&self.wiring, &self.engine.state(), stage),
             None => unreachable!(),
         }
     }
@@ -47,7 +47,7 @@ impl<'p, 'b> Queue<'p, 'b> {
         // The borrow checker has to see this type in the body.
         let _vif = &self.wiring.vif;
         match &self.stage {
-            Some(stage) => stage_want(&self.wiring, &self.state, stage),
+            Some(stage) => stage_want(&self.wiring, &self.engine.state(), stage),
             None => unreachable!(),
         }
     }
@@ -63,7 +63,7 @@ impl<'p, 'b> Queue<'p, 'b> {
         let counter = answer.counter();
         match self.stage.take() {
             Some(stage) => {
-                let next = stage_fed(&self.wiring, &self.state, stage, word, counter);
+                let next = stage_fed(&self.wiring, &self.engine.state(), stage, word, counter);
                 self.stage = Some(next);
             }
             None => unreachable!(),
@@ -82,10 +82,10 @@ impl<'p, 'b> Queue<'p, 'b> {
         // The borrow checker has to see this type in the body.
         let _vif = &self.wiring.vif;
         let (after, kind) = match &mut self.stage {
-            Some(stage) => over(&self.state, stage),
+            Some(stage) => over(&self.engine.state(), stage),
             None => unreachable!(),
         };
-        self.state = after;
+        self.engine.resume(after);
         match &self.stage {
             Some(stage) => shown(stage, kind),
             None => unreachable!(),
@@ -126,7 +126,7 @@ impl<'p, 'b> Queue<'p, 'b> {
     pub fn state(&self) -> State
         ensures { result ≡ state_of self.now }
     {
-        self.state
+        self.engine.state()
     }
 
     /// Ends a queue that is between turns, and hands back the mappings of its tx ring and its rx ring, so that they can be
@@ -140,7 +140,6 @@ impl<'p, 'b> Queue<'p, 'b> {
             wiring: _,
             tx_ring,
             rx_ring,
-            state: _,
             engine: _,
             stage: _,
         } = self;

@@ -79,7 +79,6 @@ impl<'p, 'b> Queue<'p, 'b> {
             wiring,
             tx_ring: desc.tx,
             rx_ring: desc.rx,
-            state,
             engine: Engine::new(state),
             stage: Some(stage),
         }

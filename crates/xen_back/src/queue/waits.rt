@@ -35,7 +35,7 @@ impl<'p, 'b> Queue<'p, 'b> {
         requires { IsReady self.now }
         ensures { IsWaitBegun self.now pages result }
     {
-        let state = self.state;
+        let state = self.engine.state();
         Awaiting {
             rx: self.wiring.vif.rx,
             state,
@@ -56,7 +56,7 @@ impl<'p, 'b> Queue<'p, 'b> {
         let Looking::Over { after, awaited } = awaiting.looking else {
             unreachable!()
         };
-        self.state = after;
+        self.engine.resume(after);
         awaited
     }
 }
