@@ -156,6 +156,7 @@ impl Slots {
     }
 
     /// Adds the slot of these three words, and says what is wanted next, as [`Chain::push`] does.
+    #[inline(always)]
     pub fn push(&mut self, words: [u32; 3]) -> Result<ChainState, ChainFault>
         requires { standing self.old ≢ Some (Ok ChainState.Complete) }
         ensures standing { standing (self.old ++ words ∷ []) ≡ Some result }

@@ -117,8 +117,8 @@ impl Engine {
         // Only the proof uses what these calls ensure.
         turns_are_rests();
         turns_are_bounded();
-        let producer = self.look(wires.tx(), bus);
         let mut host = OverBus::new(bus, ports);
+        let producer = self.look(wires.tx(), host.bus);
         self.begin_over(producer, wires, packet, &mut host);
         match self.go_on(TURN_STEPS, wires, packet, counters, &mut host) {
             Over::Turn(kind) => kind,
