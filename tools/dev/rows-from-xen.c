@@ -196,6 +196,25 @@ static void extra(const char *name, uint8_t type)
 	}
 }
 
+/* An extra of segmentation: its size, the number and the name of its type, its features. */
+static void segments(uint8_t type, const char *name, uint16_t size, uint16_t features)
+{
+	struct netif_extra_info info = { .type = XEN_NETIF_EXTRA_TYPE_GSO, .u.gso = { .size = size, .type = type, .features = features } };
+	ask("segments", &info, sizeof info, sizeof(struct netif_tx_request));
+	printf("%u %u %s %u", info.u.gso.size, info.u.gso.type, name, info.u.gso.features);
+	words(&info, sizeof info);
+}
+
+static void all_segments(void)
+{
+	static const uint16_t sizes[] = { 0, 1, 535, 536, 1448, 0xFF00, 0xFFFF };
+	for (size_t i = 0; i < COUNT(sizes); i++) {
+		segments(XEN_NETIF_GSO_TYPE_NONE, "none", sizes[i], 0);
+		segments(XEN_NETIF_GSO_TYPE_TCPV4, "TcpV4", sizes[i], i);
+		segments(XEN_NETIF_GSO_TYPE_TCPV6, "TcpV6", sizes[i], 0xFFFF - i);
+	}
+}
+
 static void extras(void)
 {
 	struct netif_extra_info none = { .type = XEN_NETIF_EXTRA_TYPE_NONE };
@@ -227,6 +246,7 @@ int main(void)
 	all_slots();
 	flags();
 	extras();
+	all_segments();
 	grants();
 	return 0;
 }

@@ -1,6 +1,6 @@
 -- Stated: claims rest on this file.
 -- What to write instead of what a cause refuses.
-use Rattle.std.specs.Prelude.{ℕ, List, ◌++◌, codes, Option, None, Some, slice_get}
+use Rattle.std.specs.Prelude.{ℕ, Bool, true, false, List, ◌++◌, codes, Option, None, Some, slice_get}
 use Rattle.bpf_insn.specs.declared.insn.Insn.{Insn}
 use Rattle.bpf_insn.specs.declared.insn.Insn.TheVariants.{St, Stx, AddCounter}
 use Rattle.bpf_insn.specs.declared.refusal.Cause.{Cause}
@@ -59,14 +59,24 @@ joined_advice = codes "keep the offset as a number and add it to data anew"
 abbrev pub store_advice : List ℕ
 store_advice = codes "add to the counter in one step, as __sync_fetch_and_add: a store loses what another queue counts"
 
+-- V14, at a load of a value: where a load may take a part of a counter, and elsewhere
+abbrev pub load_by : Bool → List ℕ
+load_by true = codes "load 1, 2, 4 or 8 bytes that lie within one counter of the value"
+load_by false = codes "load eight bytes, unsigned, at 8*j of the value, j below its number of counters"
+
+abbrev pub counter_advice : Option Shape → List ℕ
+counter_advice None = load_by false
+counter_advice (Some shape) = load_by shape.parts
+
 -- V14: through a map's reference; an add elsewhere than to a counter; a store to a value; or a load
-abbrev pub map_advice : Insn → Val → List ℕ
-map_advice i (val.Map m) = codes "look a key up first: the reference to a map is no address"
-map_advice (AddCounter fetch dst src off) (val.Value m) = codes "add at 8*j of the value, j below its number of counters"
-map_advice (AddCounter fetch dst src off) v = codes "add atomically to a map's counter alone; elsewhere load, add and store"
-map_advice (St size dst off imm) v = store_advice
-map_advice (Stx size dst src off) v = store_advice
-map_advice i v = codes "load eight bytes, unsigned, at 8*j of the value, j below its number of counters"
+abbrev pub map_advice : List Shape → Insn → Val → List ℕ
+map_advice shapes i (val.Map m) = codes "look a key up first: the reference to a map is no address"
+map_advice shapes (AddCounter fetch dst src off) (val.Value m) = codes "add at 8*j of the value, j below its number of counters"
+map_advice shapes (AddCounter fetch dst src off) v = codes "add atomically to a map's counter alone; elsewhere load, add and store"
+map_advice shapes (St size dst off imm) v = store_advice
+map_advice shapes (Stx size dst src off) v = store_advice
+map_advice shapes i (val.Value m) = counter_advice (slice_get shapes m)
+map_advice shapes i v = load_by false
 
 -- V17, if the key isn't there: an array's, and a list's
 abbrev pub advice_by : MapKey → List ℕ
@@ -106,7 +116,7 @@ abbrev pub value_advice : List Shape → Cause → Insn → Facts → List ℕ
 value_advice shapes NoPointer i n = pointer_advice (address_of n i)
 value_advice shapes Stack i n = stack_advice i n
 value_advice shapes Context i n = context_advice i
-value_advice shapes MapAccess i n = map_advice i (address_of n i)
+value_advice shapes MapAccess i n = map_advice shapes i (address_of n i)
 value_advice shapes Argument i n = argument_advice shapes (n.reg 1) (n.reg 2)
 value_advice shapes c i n = cause_advice c
 

@@ -1,7 +1,7 @@
 //! What to write instead.
 ghost use Rattle.std.specs.Prelude.{◌≡◌, option_map};
 ghost use Rattle.bpf_note.specs.Parts.{facts};
-ghost use Rattle.bpf_explain.specs.Advice.{advice_by, advice_text, argument_advice, cause_advice, key_advice, joined_advice, lost_advice, map_advice};
+ghost use Rattle.bpf_explain.specs.Advice.{advice_by, advice_text, argument_advice, cause_advice, counter_advice, key_advice, joined_advice, load_by, lost_advice, map_advice};
 ghost use Rattle.bpf_explain.specs.Advice.{pointer_advice, value_advice, context_advice, load_advice, stack_advice};
 
 use crate::access::address_of;
@@ -75,9 +75,29 @@ pub(crate) fn joined_advice() -> &'static str
     "keep the offset as a number and add it to data anew"
 }
 
+/// V14, at a load of a value: by whether a load may take a part of a counter.
+fn load_by(parts: bool) -> &'static str
+    ensures { result.now ≡ load_by parts }
+{
+    if parts {
+        "load 1, 2, 4 or 8 bytes that lie within one counter of the value"
+    } else {
+        "load eight bytes, unsigned, at 8*j of the value, j below its number of counters"
+    }
+}
+
+fn counter_advice(shape: Option<&MapShape>) -> &'static str
+    ensures { result.now ≡ counter_advice (option_map (λ s. s.now) shape.entry) }
+{
+    match shape {
+        None => load_by(false),
+        Some(shape) => load_by(shape.has_parts()),
+    }
+}
+
 /// V14: by the instruction and the value through which it goes.
-fn map_advice(insn: Insn, address: Val) -> &'static str
-    ensures { result.now ≡ map_advice insn address }
+fn map_advice(shapes: &[MapShape], insn: Insn, address: Val) -> &'static str
+    ensures { result.now ≡ map_advice shapes.now insn address }
 {
     match (insn, address) {
         (_, Val::Map { .. }) => "look a key up first: the reference to a map is no address",
@@ -87,7 +107,8 @@ fn map_advice(insn: Insn, address: Val) -> &'static str
             "add atomically to a map's counter alone; elsewhere load, add and store",
         (Insn::St { .. } | Insn::Stx { .. }, _) =>
             "add to the counter in one step, as __sync_fetch_and_add: a store loses what another queue counts",
-        _ => "load eight bytes, unsigned, at 8*j of the value, j below its number of counters",
+        (_, Val::Value { m }) => counter_advice(shapes.get(m as usize)),
+        _ => load_by(false),
     }
 }
 
@@ -164,7 +185,7 @@ fn value_advice(shapes: &[MapShape], cause: Cause, insn: Insn, note: &Note) -> &
         Cause::NoPointer => pointer_advice(address_of(note, insn)),
         Cause::Stack => stack_advice(insn, note),
         Cause::Context => context_advice(insn),
-        Cause::MapAccess => map_advice(insn, address_of(note, insn)),
+        Cause::MapAccess => map_advice(shapes, insn, address_of(note, insn)),
         Cause::Argument => argument_advice(shapes, note.register(1), note.register(2)),
         _ => cause_advice(cause),
     }

@@ -17,7 +17,7 @@ use Rattle.bpf_flow.specs.Causes.{IsRuleCause}
 use Rattle.bpf_flow.specs.Step.{target, is_frame}
 use Rattle.bpf_flow.specs.Edges.{Edges, unless, and_then, sets}
 use Rattle.bpf_flow.specs.Alu.{exactly, operand_value}
-use Rattle.bpf_flow.specs.Memory.{place_in, packet_place, in_packet, on_stack, reach, is_word, is_field, is_double, is_counter, all_set, any_loaded, loaded_value, is_constant, load_value, stores, adds_at}
+use Rattle.bpf_flow.specs.Memory.{place_in, packet_place, in_packet, on_stack, reach, is_word, is_field, is_double, is_counter, all_set, any_loaded, loaded_value, is_data, load_value, stores, adds_at}
 use Rattle.bpf_flow.specs.Rule.{after_of, is_first_unset, at_target, IsRuled}
 use Rattle.bpf_flow.specs.Call.{is_key, key_bytes, has_keys, is_lookup, looks_up}
 use Rattle.bpf_flow.specs.declared.access.Access.{Access}
@@ -76,7 +76,7 @@ loaded_cause n shapes true size (AtValue m o) c h = this {A = Val} cause.MapAcce
 loaded_cause n shapes false size (AtValue m o) c h = choice_cause {A = Val} (is_double size && is_counter (slice_get shapes m) o) _ cause.MapAccess c tt h
 
 load_cause : (n : Facts) (shapes : List Shape) (v : Val) (o : ℤ) (signed : Bool) (size : Size) (c : Cause) → load_value n shapes v o signed size ≡ Err c → IsRuleCause c
-load_cause n shapes v o signed size c h = by (is_constant shapes v o (size_bytes size)) h
+load_cause n shapes v o signed size c h = by (is_data shapes v o (size_bytes size)) h
   where
     by : (b : Bool) → (if b then Ok (any_loaded signed size) else and_then (reach n v o (size_bytes size)) (loaded_value n shapes signed size)) ≡ Err c → IsRuleCause c
     by true h = absurd (cc)

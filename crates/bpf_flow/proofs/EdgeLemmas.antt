@@ -10,11 +10,11 @@ use Rattle.bpf_insn.specs.declared.size.Size.{Size}
 use Rattle.bpf_note.specs.Keys.{key_size}
 use Rattle.bpf_note.specs.Constants.{are_constants}
 use Rattle.bpf_note.specs.State.{State}
-use Rattle.bpf_note.specs.Regions.{Place, InPacket, InStack, InContext, InCounter, Nowhere, region}
+use Rattle.bpf_note.specs.Regions.{Place, InPacket, InStack, InContext, InCounter, Nowhere, region, load_place}
 use Rattle.bpf_note.specs.declared.op.Op.{Op}
 use Rattle.bpf_note.specs.declared.op.Op.TheVariants.{Load, Add}
 use Rattle.bpf_flow.specs.Graph.{Leads}
-use Rattle.bpf_flow.specs.Step.{Next, Loads, Adds, Exited, Fault, need, at_slot, with_number, is_frame, written, operand, first_operand, target, jumped, address, reached, loaded, load_from, load_constants, load_at, store_to, add_to, map_at, key_in, value_or_null, called, looked_up, looked_up_in, row_of, helped, exec, LeadsTo, taken}
+use Rattle.bpf_flow.specs.Step.{Next, Loads, Adds, Exited, Fault, need, at_slot, with_number, is_frame, written, operand, first_operand, target, jumped, address, reached, loaded, load_from, load_constants, load_at, store_to, add_to, map_at, key_in, value_or_null, called, looked_up, looked_up_in, row_of, helped, exec, LeadsTo, taken, part}
 use Rattle.bpf_flow.proofs.StepLemmas.{no_fault, needed, exited}
 
 next_at : (t : State) (q : ℕ) (l : Option Op) (u : State) → t.pc ≡ q → LeadsTo (Next t) l u → u.pc ≡ q
@@ -46,23 +46,23 @@ jumped_at s off l u h = by (target s.pc off) refl h
     by None e h = absurd (no_fault l u h)
     by (Some to) e h = e ∙ ap Some (sym (next_at (at_slot s to) to l u refl h))
 
-load_of : (place : Place) (s : State) (signed : Bool) (size : Size) (dst : ℕ) (l : Option Op) (u : State) → LeadsTo (load_from place s signed size dst) l u → u.pc ≡ s.pc + 1
-load_of (InPacket i) s signed size dst l u h = needed (loaded s (InPacket i) (size_bytes size)) _ l u (λ x h. written_at s (s.pc + 1) dst (taken signed size x) l u h) h
-load_of (InStack i) s signed size dst l u h = needed (loaded s (InStack i) (size_bytes size)) _ l u (λ x h. written_at s (s.pc + 1) dst (taken signed size x) l u h) h
-load_of (InContext i) s signed size dst l u h = needed (loaded s (InContext i) (size_bytes size)) _ l u (λ x h. written_at s (s.pc + 1) dst (taken signed size x) l u h) h
-load_of (InCounter m k j) s signed size dst l u h = by (is_frame dst) h
+load_of : (a : ℕ) (place : Place) (s : State) (signed : Bool) (size : Size) (dst : ℕ) (l : Option Op) (u : State) → LeadsTo (load_from a place s signed size dst) l u → u.pc ≡ s.pc + 1
+load_of a (InPacket i) s signed size dst l u h = needed (loaded s (InPacket i) (size_bytes size)) _ l u (λ x h. written_at s (s.pc + 1) dst (taken signed size x) l u h) h
+load_of a (InStack i) s signed size dst l u h = needed (loaded s (InStack i) (size_bytes size)) _ l u (λ x h. written_at s (s.pc + 1) dst (taken signed size x) l u h) h
+load_of a (InContext i) s signed size dst l u h = needed (loaded s (InContext i) (size_bytes size)) _ l u (λ x h. written_at s (s.pc + 1) dst (taken signed size x) l u h) h
+load_of a (InCounter m k j) s signed size dst l u h = by (is_frame dst) h
   where
-    by : (b : Bool) → LeadsTo (if b then Fault else Loads m k j (λ x. with_number s (s.pc + 1) dst (taken signed size x))) l u → u.pc ≡ s.pc + 1
+    by : (b : Bool) → LeadsTo (if b then Fault else Loads m k j (λ x. with_number s (s.pc + 1) dst (taken signed size (part size a x)))) l u → u.pc ≡ s.pc + 1
     by true h = absurd (no_fault l u h)
     by false h = loads_at (s.pc + 1) m k j _ l u (λ x. refl) h
-load_of Nowhere s signed size dst l u h = absurd (no_fault l u h)
+load_of a Nowhere s signed size dst l u h = absurd (no_fault l u h)
 
 load_leads : (s : State) (a : ℕ) (signed : Bool) (size : Size) (dst : ℕ) (l : Option Op) (u : State) → LeadsTo (load_at s a signed size dst) l u → u.pc ≡ s.pc + 1
 load_leads s a signed size dst l u h = by (are_constants s.shapes a (size_bytes size)) h
   where
-    by : (b : Bool) → LeadsTo (if b then load_constants s a signed size dst else load_from (region (length s.packet) s.shapes a (size_bytes size)) s signed size dst) l u → u.pc ≡ s.pc + 1
+    by : (b : Bool) → LeadsTo (if b then load_constants s a signed size dst else load_from a (load_place (length s.packet) s.shapes a (size_bytes size)) s signed size dst) l u → u.pc ≡ s.pc + 1
     by true h = written_at s (s.pc + 1) dst _ l u h
-    by false h = load_of (region (length s.packet) s.shapes a (size_bytes size)) s signed size dst l u h
+    by false h = load_of a (load_place (length s.packet) s.shapes a (size_bytes size)) s signed size dst l u h
 
 store_at : (place : Place) (s : State) (z x : ℕ) (l : Option Op) (u : State) → LeadsTo (store_to place s z x) l u → u.pc ≡ s.pc + 1
 store_at (InPacket i) s z x l u h = next_at _ (s.pc + 1) l u refl h

@@ -13,10 +13,10 @@ use Rattle.bpf_note.specs.Shape.{Shape, AreShapes, IsShape, IsCounter, IsWithin}
 use Rattle.bpf_note.specs.State.{State, values_start, packet_start, stack_start, stack_end, context_start}
 use Rattle.bpf_note.specs.Keys.{key_size}
 use Rattle.bpf_note.specs.Constants.{are_constants}
-use Rattle.bpf_note.specs.Regions.{Place, InPacket, InStack, InContext, InCounter, Nowhere, region, map_near, map_offset, counter_in, counter_past, counter_from, lies_in}
+use Rattle.bpf_note.specs.Regions.{Place, InPacket, InStack, InContext, InCounter, Nowhere, region, map_near, map_offset, counter_in, counter_past, counter_from, lies_in, load_place, counter_at, is_part}
 use Rattle.bpf_note.specs.declared.op.Op.{Op}
 use Rattle.bpf_note.specs.declared.op.Op.TheVariants as op
-use Rattle.bpf_flow.specs.Step.{Outcome, Next, Loads, Adds, Exited, Fault, need, exec, step, written, with_number, is_frame, store_to, jumped, target, helped, looked_up, looked_up_in, map_at, key_in, operand, first_operand, at_slot, load_from, load_constants, load_at, loaded, add_to, reached, taken, address, LeadsTo}
+use Rattle.bpf_flow.specs.Step.{Outcome, Next, Loads, Adds, Exited, Fault, need, exec, step, written, with_number, is_frame, store_to, jumped, target, helped, looked_up, looked_up_in, map_at, key_in, operand, first_operand, at_slot, load_from, load_constants, load_at, loaded, add_to, reached, taken, address, LeadsTo, part}
 use Rattle.bpf_flow.specs.Kept.{Kept, IsLabelOf}
 use Rattle.bpf_flow.proofs.StoreLemmas.{spliced_length}
 
@@ -70,6 +70,20 @@ region_lies : (n : ℕ) (shapes : List Shape) (a z : ℕ) → Lies n shapes z (r
 unfolding region
 region_lies n shapes a z = region_by n shapes a z (lies_in packet_start (packet_start + n) a z) (lies_in stack_start stack_end a z) (lies_in context_start (context_start + 20) a z && z == 4 && a % 4 == 0) (z == 8) (nat_le values_start a) refl
 
+counter_at_lies : (n z : ℕ) (shapes : List Shape) (a : ℕ) → Lies n shapes z (counter_at shapes a)
+counter_at_lies n z shapes a = by (nat_le values_start a)
+  where
+    by : (v : Bool) → Lies n shapes z (if v then counter_from shapes (a - values_start) else Nowhere)
+    by true = counter_lies n z shapes (map_near (a - values_start)) (a - values_start) (slice_get shapes (map_near (a - values_start))) refl
+    by false = tt
+
+load_lies : (n : ℕ) (shapes : List Shape) (a z : ℕ) → Lies n shapes z (load_place n shapes a z)
+load_lies n shapes a z = by (nat_lt z 8 && is_part shapes a z)
+  where
+    by : (b : Bool) → Lies n shapes z (if b then counter_at shapes (a - a % 8) else region n shapes a z)
+    by true = counter_at_lies n z shapes (a - a % 8)
+    by false = region_lies n shapes a z
+
 needs : {A : Type 0} (s : State) (o : Option A) (go : A → Outcome) → ((x : A) → Keeps s (go x)) → Keeps s (need o go)
 needs s None go f = tt
 needs s (Some x) go f = f x
@@ -94,19 +108,19 @@ store_keeps Nowhere s z x h = tt
 plain_keeps : (o : Option ℕ) (s : State) (dst : ℕ) (signed : Bool) (size : Size) → Keeps s (need o (λ x. written s (s.pc + 1) dst (taken signed size x)))
 plain_keeps o s dst signed size = needs s o _ (λ x. written_keeps s (s.pc + 1) dst (taken signed size x))
 
-load_keeps : (place : Place) (s : State) (signed : Bool) (size : Size) (dst : ℕ) → Lies (length s.packet) s.shapes (size_bytes size) place → Keeps s (load_from place s signed size dst)
-load_keeps (InPacket i) s signed size dst h = plain_keeps (loaded s (InPacket i) (size_bytes size)) s dst signed size
-load_keeps (InStack i) s signed size dst h = plain_keeps (loaded s (InStack i) (size_bytes size)) s dst signed size
-load_keeps (InContext i) s signed size dst h = plain_keeps (loaded s (InContext i) (size_bytes size)) s dst signed size
-load_keeps (InCounter m k j) s signed size dst h = with_frame s (is_frame dst) _ (h, λ v. unchanged refl refl refl)
-load_keeps Nowhere s signed size dst h = plain_keeps (loaded s Nowhere (size_bytes size)) s dst signed size
+load_keeps : (a : ℕ) (place : Place) (s : State) (signed : Bool) (size : Size) (dst : ℕ) → Lies (length s.packet) s.shapes (size_bytes size) place → Keeps s (load_from a place s signed size dst)
+load_keeps a (InPacket i) s signed size dst h = plain_keeps (loaded s (InPacket i) (size_bytes size)) s dst signed size
+load_keeps a (InStack i) s signed size dst h = plain_keeps (loaded s (InStack i) (size_bytes size)) s dst signed size
+load_keeps a (InContext i) s signed size dst h = plain_keeps (loaded s (InContext i) (size_bytes size)) s dst signed size
+load_keeps a (InCounter m k j) s signed size dst h = with_frame s (is_frame dst) _ (h, λ v. unchanged refl refl refl)
+load_keeps a Nowhere s signed size dst h = plain_keeps (loaded s Nowhere (size_bytes size)) s dst signed size
 
 load_at_keeps : (s : State) (a : ℕ) (signed : Bool) (size : Size) (dst : ℕ) → Keeps s (load_at s a signed size dst)
 load_at_keeps s a signed size dst = by (are_constants s.shapes a (size_bytes size))
   where
-    by : (b : Bool) → Keeps s (if b then load_constants s a signed size dst else load_from (region (length s.packet) s.shapes a (size_bytes size)) s signed size dst)
+    by : (b : Bool) → Keeps s (if b then load_constants s a signed size dst else load_from a (load_place (length s.packet) s.shapes a (size_bytes size)) s signed size dst)
     by true = written_keeps s (s.pc + 1) dst _
-    by false = load_keeps (region (length s.packet) s.shapes a (size_bytes size)) s signed size dst (region_lies (length s.packet) s.shapes a (size_bytes size))
+    by false = load_keeps a (load_place (length s.packet) s.shapes a (size_bytes size)) s signed size dst (load_lies (length s.packet) s.shapes a (size_bytes size))
 
 add_keeps : (place : Place) (s : State) (fetch : Bool) (src d : ℕ) → Lies (length s.packet) s.shapes 8 place → Keeps s (add_to place s fetch src d)
 add_keeps (InCounter m k j) s true src d h = with_frame s (is_frame src) _ (h, λ v. unchanged refl refl refl)

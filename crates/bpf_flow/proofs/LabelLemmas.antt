@@ -13,11 +13,12 @@ use Rattle.bpf_note.specs.Keys.{key_size}
 use Rattle.bpf_note.specs.Constants.{are_constants}
 use Rattle.bpf_note.specs.Shape.{Shape}
 use Rattle.bpf_note.specs.State.{State, packet_start, stack_start, stack_end, context_start}
-use Rattle.bpf_note.specs.Regions.{Place, InPacket, InStack, InContext, InCounter, Nowhere, region, lies_in, counter_at}
+use Rattle.bpf_note.specs.Regions.{Place, InPacket, InStack, InContext, InCounter, Nowhere, region, lies_in, counter_at, load_place, HaveNoParts}
 use Rattle.bpf_note.specs.declared.op.Op.{Op}
 use Rattle.bpf_note.specs.declared.op.Op.TheVariants.{Load, Add}
-use Rattle.bpf_flow.specs.Step.{Outcome, Next, Loads, Adds, Exited, Fault, at_slot, with_number, is_frame, written, operand, first_operand, target, jumped, address, reached, loaded, load_from, load_constants, load_at, store_to, add_to, map_at, key_in, value_or_null, called, looked_up, looked_up_in, row_of, helped, exec, LeadsTo, taken, Alike, Fits}
+use Rattle.bpf_flow.specs.Step.{Outcome, Next, Loads, Adds, Exited, Fault, at_slot, with_number, is_frame, written, operand, first_operand, target, jumped, address, reached, loaded, load_from, load_constants, load_at, store_to, add_to, map_at, key_in, value_or_null, called, looked_up, looked_up_in, row_of, helped, exec, LeadsTo, taken, Alike, Fits, part}
 use Rattle.bpf_flow.proofs.StepLemmas.{no_fault, needed, exited}
+use Rattle.bpf_note.proofs.LoadPlaceLemmas.{without_parts}
 
 pub labels_alike : (o : Outcome) (l l' : Option Op) (u u' : State) → LeadsTo o l u → LeadsTo o l' u' → Alike l l'
 labels_alike (Next t) None None u u' h g = tt
@@ -113,16 +114,16 @@ counter_fits m k j go None u h = absurd h
 counter_fits m k j go (Some (Load m' k' j' v)) u h = cc (h.0, h.1, h.2)
 counter_fits m k j go (Some (Add m' k' j' d v)) u h = absurd h
 
-load_fits : (place : Place) (s : State) (signed : Bool) (size : Size) (dst : ℕ) (l : Option Op) (u : State) → LeadsTo (load_from place s signed size dst) l u → LoadFits place l
-load_fits (InPacket i) s signed size dst l u h = none_fits _ l (needed (loaded s (InPacket i) (size_bytes size)) _ l u (λ x h. written_plain s (s.pc + 1) dst (taken signed size x) l u h) h)
-load_fits (InStack i) s signed size dst l u h = none_fits _ l (needed (loaded s (InStack i) (size_bytes size)) _ l u (λ x h. written_plain s (s.pc + 1) dst (taken signed size x) l u h) h)
-load_fits (InContext i) s signed size dst l u h = none_fits _ l (needed (loaded s (InContext i) (size_bytes size)) _ l u (λ x h. written_plain s (s.pc + 1) dst (taken signed size x) l u h) h)
-load_fits (InCounter m k j) s signed size dst l u h = by (is_frame dst) h
+load_fits : (a : ℕ) (place : Place) (s : State) (signed : Bool) (size : Size) (dst : ℕ) (l : Option Op) (u : State) → LeadsTo (load_from a place s signed size dst) l u → LoadFits place l
+load_fits a (InPacket i) s signed size dst l u h = none_fits _ l (needed (loaded s (InPacket i) (size_bytes size)) _ l u (λ x h. written_plain s (s.pc + 1) dst (taken signed size x) l u h) h)
+load_fits a (InStack i) s signed size dst l u h = none_fits _ l (needed (loaded s (InStack i) (size_bytes size)) _ l u (λ x h. written_plain s (s.pc + 1) dst (taken signed size x) l u h) h)
+load_fits a (InContext i) s signed size dst l u h = none_fits _ l (needed (loaded s (InContext i) (size_bytes size)) _ l u (λ x h. written_plain s (s.pc + 1) dst (taken signed size x) l u h) h)
+load_fits a (InCounter m k j) s signed size dst l u h = by (is_frame dst) h
   where
-    by : (b : Bool) → LeadsTo (if b then Fault else Loads m k j (λ x. with_number s (s.pc + 1) dst (taken signed size x))) l u → LoadFits (InCounter m k j) l
+    by : (b : Bool) → LeadsTo (if b then Fault else Loads m k j (λ x. with_number s (s.pc + 1) dst (taken signed size (part size a x)))) l u → LoadFits (InCounter m k j) l
     by true h = absurd (no_fault l u h)
     by false h = counter_fits m k j _ l u h
-load_fits Nowhere s signed size dst l u h = absurd (no_fault l u h)
+load_fits a Nowhere s signed size dst l u h = absurd (no_fault l u h)
 
 -- an add's label is an add
 abbrev AddFits : Option Op → Type 0
@@ -153,14 +154,26 @@ none_is i l h e = subst (λ (l : Option Op). Fits i l) (sym e) h
 load_at_fits : (s : State) (a : ℕ) (size : Size) (signed : Bool) (dst src : Register) (off : ℤ) (l : Option Op) (u : State) → LeadsTo (load_at s a signed size (number dst)) l u → Fits (Ldx size signed dst src off) l
 load_at_fits s a size signed dst src off l u h = by (are_constants s.shapes a (size_bytes size)) h
   where
-    sized : (l : Option Op) → LoadFits (region (length s.packet) s.shapes a (size_bytes size)) l → Fits (Ldx size signed dst src off) l
+    sized : (l : Option Op) → LoadFits (load_place (length s.packet) s.shapes a (size_bytes size)) l → Fits (Ldx size signed dst src off) l
     sized None h = tt
-    sized (Some (Load m k j v)) h = counter_size _ _ _ (size_bytes size) m k j h
+    sized (Some (Load m k j v)) h = tt
     sized (Some (Add m k j d v)) h = h
 
-    by : (b : Bool) → LeadsTo (if b then load_constants s a signed size (number dst) else load_from (region (length s.packet) s.shapes a (size_bytes size)) s signed size (number dst)) l u → Fits (Ldx size signed dst src off) l
+    by : (b : Bool) → LeadsTo (if b then load_constants s a signed size (number dst) else load_from a (load_place (length s.packet) s.shapes a (size_bytes size)) s signed size (number dst)) l u → Fits (Ldx size signed dst src off) l
     by true h = none_is (Ldx size signed dst src off) l tt (written_plain s (s.pc + 1) (number dst) _ l u h)
-    by false h = sized l (load_fits (region (length s.packet) s.shapes a (size_bytes size)) s signed size (number dst) l u h)
+    by false h = sized l (load_fits a (load_place (length s.packet) s.shapes a (size_bytes size)) s signed size (number dst) l u h)
+
+some_load : (m k j v : ℕ) → Some (Load m k j v) ≡ None → ⊥
+some_load m k j v e = cc
+
+-- without parts a counter is loaded whole
+pub whole_load : (size : Size) (signed : Bool) (dst src : Register) (off : ℤ) (s : State) (m k j v : ℕ) (t : State) → HaveNoParts s.shapes → LeadsTo (exec (Ldx size signed dst src off) s) (Some (Load m k j v)) t → size_bytes size ≡ 8
+whole_load size signed dst src off s m k j v t none h = needed (s.reg (number src)) _ (Some (Load m k j v)) t (λ x h. by x (are_constants s.shapes (address x off) (size_bytes size)) h) h
+  where
+    by : (x : ℕ) (b : Bool) → LeadsTo (if b then load_constants s (address x off) signed size (number dst) else load_from (address x off) (load_place (length s.packet) s.shapes (address x off) (size_bytes size)) s signed size (number dst)) (Some (Load m k j v)) t → size_bytes size ≡ 8
+    by x true h = absurd (some_load m k j v (written_plain s (s.pc + 1) (number dst) _ (Some (Load m k j v)) t h))
+    by x false h = counter_size (length s.packet) s.shapes (address x off) (size_bytes size) m k j
+        (sym (without_parts (length s.packet) s.shapes (address x off) (size_bytes size) none) ∙ load_fits (address x off) (load_place (length s.packet) s.shapes (address x off) (size_bytes size)) s signed size (number dst) (Some (Load m k j v)) t h)
 
 pub exec_fits : (i : Insn) (s : State) (l : Option Op) (u : State) → LeadsTo (exec i s) l u → Fits i l
 exec_fits (Alu op wide dst src) s l u h = none_is (Alu op wide dst src) l tt (needed (operand s src) _ l u (λ x h. needed (first_operand op (s.reg (number dst))) _ l u (λ d h. written_plain s (s.pc + 1) (number dst) _ l u h) h) h)

@@ -17,7 +17,7 @@ use Rattle.bpf_note.specs.Regions.{Place}
 use Rattle.bpf_note.specs.Regions as place
 use Rattle.bpf_note.specs.Facts.{Facts, full, with_reg}
 use Rattle.bpf_note.specs.Describes.{Meaning, meaning, Describes, IsReading, Holds}
-use Rattle.bpf_flow.specs.Step.{Loads, Fault, need, written, with_number, is_frame, loaded, taken, load_from, field_at}
+use Rattle.bpf_flow.specs.Step.{Loads, Fault, need, written, with_number, is_frame, loaded, taken, load_from, field_at, part}
 use Rattle.bpf_flow.specs.Edges.{Edges, goes_to}
 use Rattle.bpf_flow.specs.Memory.{is_field, is_counter, all_set, any_of_size, any_loaded, kept_or_full, stack_value, field_value, is_word, is_double, loaded_value}
 use Rattle.bpf_flow.specs.Sound.{Accounts}
@@ -27,6 +27,7 @@ use Rattle.bpf_flow.proofs.AnswerLemmas.{each, same_ok, same_some, unless_again}
 use Rattle.bpf_flow.proofs.RegisterLemmas.{sets_sound, one_covers, with_number_describes}
 use Rattle.bpf_flow.proofs.IdLemmas.{word_below, full_reads}
 use Rattle.bpf_flow.proofs.ReachLemmas.{Reaches}
+use Rattle.std.proofs.Math.Nat.{mod-lt}
 
 pub power_suc : (z : ℕ) → 256 ^ suc z ≡ 256 * 256 ^ z
 power_suc z = omega arith
@@ -70,6 +71,16 @@ size_limit Byte = omega arith
 size_limit Half = omega arith
 size_limit Word = omega arith
 size_limit Double = omega arith
+
+rest_below : (y n : ℕ) → 0 < n → y % n < n
+rest_below y n h = mod-lt y h
+
+-- a part of a counter has as many bytes as the load
+part_fits : (size : Size) (a x : ℕ) → x < 2 ^ 64 → part size a x < 256 ^ size_bytes size
+part_fits Byte a x h = rest_below (x / 256 ^ (a % 8)) (256 ^ 1) (omega arith)
+part_fits Half a x h = rest_below (x / 256 ^ (a % 8)) (256 ^ 2) (omega arith)
+part_fits Word a x h = rest_below (x / 256 ^ (a % 8)) (256 ^ 4) (omega arith)
+part_fits Double a x h = omega (arith, h)
 
 module _ (w : Meaning) where
   size_reads : (size : Size) (x : ℕ) → x < 256 ^ size_bytes size → IsReading w (any_of_size size) x
@@ -129,43 +140,43 @@ module _ (n : Facts) (s : State) (d : Describes n s) where
       subst (λ (o : Option ℕ). Accounts es (need o (λ x. written s (s.pc + 1) k (taken signed size x)))) (sym e)
       (sets_sound n s (s.pc + 1) k (taken signed size x) v es d small fits r (unless_again (is_frame k) cause.FramePointer (goes_to (s.pc + 1) (with_reg n k v)) es frame h))
 
-  packet_loads : (p : Place) (signed : Bool) (size : Size) (k : ℕ) (es : Edges) → k < 11 → is_frame k ≡ false → Reaches s InPacket (size_bytes size) p →
-      goes_to (s.pc + 1) (with_reg n k (any_loaded signed size)) ≡ Ok es → Accounts es (load_from p s signed size k)
-  packet_loads p signed size k es small frame r h =
+  packet_loads : (a : ℕ) (p : Place) (signed : Bool) (size : Size) (k : ℕ) (es : Edges) → k < 11 → is_frame k ≡ false → Reaches s InPacket (size_bytes size) p →
+      goes_to (s.pc + 1) (with_reg n k (any_loaded signed size)) ≡ Ok es → Accounts es (load_from a p s signed size k)
+  packet_loads a p signed size k es small frame r h =
       let x = number_of (take (size_bytes size) (drop r.0 s.packet)) in
       let fits : number_of (take (size_bytes size) (drop r.0 s.packet)) < 256 ^ size_bytes size = number_take (size_bytes size) (drop r.0 s.packet) (bytes_drop r.0 s.packet d.state.packet_bytes) in
-      subst (λ (p : Place). Accounts es (load_from p s signed size k)) (sym r.1)
+      subst (λ (p : Place). Accounts es (load_from a p s signed size k)) (sym r.1)
       (arrives (place.InPacket r.0) signed size k (number_of (take (size_bytes size) (drop r.0 s.packet))) (any_loaded signed size) es small frame refl
       (taken_fits signed size _ fits) (loaded_reads w signed size _ fits) h)
 
-  stack_by : (i : ℕ) (set signed : Bool) (size : Size) (k : ℕ) (v : Val) (es : Edges) → set ≡ all_set n i (size_bytes size) → k < 11 → is_frame k ≡ false →
-      (if set then Ok (stack_value n i signed size) else Err cause.Stack) ≡ Ok v → goes_to (s.pc + 1) (with_reg n k v) ≡ Ok es → Accounts es (load_from (place.InStack i) s signed size k)
-  stack_by i true signed size k v es e small frame f h =
+  stack_by : (a i : ℕ) (set signed : Bool) (size : Size) (k : ℕ) (v : Val) (es : Edges) → set ≡ all_set n i (size_bytes size) → k < 11 → is_frame k ≡ false →
+      (if set then Ok (stack_value n i signed size) else Err cause.Stack) ≡ Ok v → goes_to (s.pc + 1) (with_reg n k v) ≡ Ok es → Accounts es (load_from a (place.InStack i) s signed size k)
+  stack_by a i true signed size k v es e small frame f h =
       let word = all_set_word n s i (size_bytes size) d (sym e) in
       let fits : word.0 < 256 ^ size_bytes size = word_below s.stack i (size_bytes size) word.0 d.state.stack_bytes word.1 in
       let same : stack_value n i signed size ≡ v = same_ok (stack_value n i signed size) v f in
       arrives (place.InStack i) signed size k word.0 v es small frame word.1 (taken_fits signed size word.0 fits)
       (subst (λ (v : Val). IsReading w v (taken signed size word.0)) same (stack_reads i word.0 signed size word.1 fits)) h
-  stack_by i false signed size k v es e small frame f h = absurd (cc)
+  stack_by a i false signed size k v es e small frame f h = absurd (cc)
 
   -- a field's offset
   field_at_ok : (o : ℤ) → is_field o ≡ true → (at : ℕ) × (o ≡ pos at) × (at ≤ 16) × (at % 4 ≡ 0)
   field_at_ok (pos at) e = (at, refl, grind (arith, nat_tests), grind (arith, nat_tests))
   field_at_ok (negsuc m) e = absurd (cc)
 
-  context_by : (p : Place) (size : Size) (o : ℤ) (k : ℕ) (v : Val) (es : Edges) (b : Bool) → b ≡ (is_word size && is_field o) → k < 11 → is_frame k ≡ false → Reaches s (InContext o) (size_bytes size) p →
-      (if b then Ok (field_value o) else Err cause.Context) ≡ Ok v → goes_to (s.pc + 1) (with_reg n k v) ≡ Ok es → Accounts es (load_from p s false size k)
-  context_by p Word o k v es true e small frame r f h =
+  context_by : (a : ℕ) (p : Place) (size : Size) (o : ℤ) (k : ℕ) (v : Val) (es : Edges) (b : Bool) → b ≡ (is_word size && is_field o) → k < 11 → is_frame k ≡ false → Reaches s (InContext o) (size_bytes size) p →
+      (if b then Ok (field_value o) else Err cause.Context) ≡ Ok v → goes_to (s.pc + 1) (with_reg n k v) ≡ Ok es → Accounts es (load_from a p s false size k)
+  context_by a p Word o k v es true e small frame r f h =
       let at = field_at_ok o (sym e) in
       let here : p ≡ place.InContext at.0 = r at.0 at.1 at.2 at.3 refl in
       let same : field_value (pos at.0) ≡ v = ap field_value (sym at.1) ∙ same_ok (field_value o) v f in
-      subst (λ (p : Place). Accounts es (load_from p s false Word k)) (sym here)
+      subst (λ (p : Place). Accounts es (load_from a p s false Word k)) (sym here)
       (arrives (place.InContext at.0) false Word k (field_at s at.0) v es small frame refl (field_fits (nat_eq at.0 4) (nat_eq at.0 12) (nat_eq at.0 16))
       (subst (λ (v : Val). IsReading w v (field_at s at.0)) same (field_by (nat_eq at.0 4) (nat_eq at.0 12) (nat_eq at.0 16))) h)
-  context_by p Byte o k v es true e small frame r f h = absurd (cc)
-  context_by p Half o k v es true e small frame r f h = absurd (cc)
-  context_by p Double o k v es true e small frame r f h = absurd (cc)
-  context_by p size o k v es false e small frame r f h = absurd (cc)
+  context_by a p Byte o k v es true e small frame r f h = absurd (cc)
+  context_by a p Half o k v es true e small frame r f h = absurd (cc)
+  context_by a p Double o k v es true e small frame r f h = absurd (cc)
+  context_by a p size o k v es false e small frame r f h = absurd (cc)
 
   -- a counter's place in a value
   pub counter_at_ok : (shape : Option Shape) (o : ℤ) → is_counter shape o ≡ true → (c : Shape) × (at : ℕ) × (shape ≡ Some c) × (o ≡ pos at) × (at % 8 ≡ 0) × (at < 8 * c.counters)
@@ -179,27 +190,36 @@ module _ (n : Facts) (s : State) (d : Describes n s) where
   counter_arrives m k j i es false t small f h =
       λ x fits. one_covers (s.pc + 1) (with_reg n i full) es (with_number s (s.pc + 1) i x) refl (with_number_describes n s (s.pc + 1) i x full d small fits (full_reads w x fits)) h
 
-  counter_by : (p : Place) (size : Size) (m : ℕ) (o : ℤ) (k : ℕ) (v : Val) (es : Edges) (b : Bool) → b ≡ (is_double size && is_counter (slice_get s.shapes m) o) → k < 11 → is_frame k ≡ false →
-      Reaches s (AtValue m o) (size_bytes size) p → (if b then Ok full else Err cause.MapAccess) ≡ Ok v → goes_to (s.pc + 1) (with_reg n k v) ≡ Ok es → Accounts es (load_from p s false size k)
-  counter_by p Double m o k v es true e small frame r f h =
+  -- a part of a counter's number goes to the register
+  pub part_arrives : (a m k j i : ℕ) (signed : Bool) (size : Size) (es : Edges) (b : Bool) → b ≡ is_frame i → i < 11 → b ≡ false → goes_to (s.pc + 1) (with_reg n i (any_loaded signed size)) ≡ Ok es →
+      Accounts es (if b then Fault else Loads m k j (λ x. with_number s (s.pc + 1) i (taken signed size (part size a x))))
+  part_arrives a m k j i signed size es true t small f h = absurd (cc)
+  part_arrives a m k j i signed size es false t small f h =
+      λ x fits. one_covers (s.pc + 1) (with_reg n i (any_loaded signed size)) es (with_number s (s.pc + 1) i (taken signed size (part size a x))) refl
+      (with_number_describes n s (s.pc + 1) i (taken signed size (part size a x)) (any_loaded signed size) d small (taken_fits signed size (part size a x) (part_fits size a x fits))
+      (loaded_reads w signed size (part size a x) (part_fits size a x fits))) h
+
+  counter_by : (a : ℕ) (p : Place) (size : Size) (m : ℕ) (o : ℤ) (k : ℕ) (v : Val) (es : Edges) (b : Bool) → b ≡ (is_double size && is_counter (slice_get s.shapes m) o) → k < 11 → is_frame k ≡ false →
+      Reaches s (AtValue m o) (size_bytes size) p → (if b then Ok full else Err cause.MapAccess) ≡ Ok v → goes_to (s.pc + 1) (with_reg n k v) ≡ Ok es → Accounts es (load_from a p s false size k)
+  counter_by a p Double m o k v es true e small frame r f h =
       let c = counter_at_ok (slice_get s.shapes m) o (sym e) in
       let q = r c.0 c.1 c.2 c.3 c.4 c.5 refl in
       let same : full ≡ v = same_ok full v f in
-      subst (λ (p : Place). Accounts es (load_from p s false Double k)) (sym q.2)
+      subst (λ (p : Place). Accounts es (load_from a p s false Double k)) (sym q.2)
       (counter_arrives m q.0 q.1 k es (is_frame k) refl small frame (subst (λ (v : Val). goes_to (s.pc + 1) (with_reg n k v) ≡ Ok es) (sym same) h))
-  counter_by p Byte m o k v es true e small frame r f h = absurd (cc)
-  counter_by p Half m o k v es true e small frame r f h = absurd (cc)
-  counter_by p Word m o k v es true e small frame r f h = absurd (cc)
-  counter_by p size m o k v es false e small frame r f h = absurd (cc)
+  counter_by a p Byte m o k v es true e small frame r f h = absurd (cc)
+  counter_by a p Half m o k v es true e small frame r f h = absurd (cc)
+  counter_by a p Word m o k v es true e small frame r f h = absurd (cc)
+  counter_by a p size m o k v es false e small frame r f h = absurd (cc)
 
   -- a load that the rule allows
-  pub load_sound : (access : Access) (p : Place) (signed : Bool) (size : Size) (k : ℕ) (v : Val) (es : Edges) → k < 11 → is_frame k ≡ false → Reaches s access (size_bytes size) p →
-      loaded_value n s.shapes signed size access ≡ Ok v → goes_to (s.pc + 1) (with_reg n k v) ≡ Ok es → Accounts es (load_from p s signed size k)
-  load_sound InPacket p signed size k v es small frame r e h =
-      packet_loads p signed size k es small frame r (subst (λ (v : Val). goes_to (s.pc + 1) (with_reg n k v) ≡ Ok es) (sym (same_ok (any_loaded signed size) v e)) h)
-  load_sound (OnStack i) p signed size k v es small frame r e h =
-      subst (λ (p : Place). Accounts es (load_from p s signed size k)) (sym r.0) (stack_by i (all_set n i (size_bytes size)) signed size k v es refl small frame e h)
-  load_sound (InContext o) p true size k v es small frame r e h = absurd (cc)
-  load_sound (InContext o) p false size k v es small frame r e h = context_by p size o k v es (is_word size && is_field o) refl small frame r e h
-  load_sound (AtValue m o) p true size k v es small frame r e h = absurd (cc)
-  load_sound (AtValue m o) p false size k v es small frame r e h = counter_by p size m o k v es (is_double size && is_counter (slice_get s.shapes m) o) refl small frame r e h
+  pub load_sound : (a : ℕ) (access : Access) (p : Place) (signed : Bool) (size : Size) (k : ℕ) (v : Val) (es : Edges) → k < 11 → is_frame k ≡ false → Reaches s access (size_bytes size) p →
+      loaded_value n s.shapes signed size access ≡ Ok v → goes_to (s.pc + 1) (with_reg n k v) ≡ Ok es → Accounts es (load_from a p s signed size k)
+  load_sound a InPacket p signed size k v es small frame r e h =
+      packet_loads a p signed size k es small frame r (subst (λ (v : Val). goes_to (s.pc + 1) (with_reg n k v) ≡ Ok es) (sym (same_ok (any_loaded signed size) v e)) h)
+  load_sound a (OnStack i) p signed size k v es small frame r e h =
+      subst (λ (p : Place). Accounts es (load_from a p s signed size k)) (sym r.0) (stack_by a i (all_set n i (size_bytes size)) signed size k v es refl small frame e h)
+  load_sound a (InContext o) p true size k v es small frame r e h = absurd (cc)
+  load_sound a (InContext o) p false size k v es small frame r e h = context_by a p size o k v es (is_word size && is_field o) refl small frame r e h
+  load_sound a (AtValue m o) p true size k v es small frame r e h = absurd (cc)
+  load_sound a (AtValue m o) p false size k v es small frame r e h = counter_by a p size m o k v es (is_double size && is_counter (slice_get s.shapes m) o) refl small frame r e h

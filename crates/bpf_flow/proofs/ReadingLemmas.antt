@@ -23,7 +23,7 @@ use Rattle.bpf_flow.specs.Step.{target, is_frame}
 use Rattle.bpf_flow.specs.Graph.{reads, writes, is_operand}
 use Rattle.bpf_flow.specs.Edges.{Edges, Answer, unless, and_then, goes_to, with_computed}
 use Rattle.bpf_flow.specs.Alu.{exactly, operand_value, result_of, negated_value, extended_value, swapped_value}
-use Rattle.bpf_flow.specs.Memory.{place_in, packet_place, in_packet, on_stack, reach, is_word, is_field, is_double, is_counter, all_set, any_loaded, stack_value, field_value, loaded_value, is_constant, load_value, stores, adds_at}
+use Rattle.bpf_flow.specs.Memory.{place_in, packet_place, in_packet, on_stack, reach, is_word, is_field, is_double, is_counter, all_set, any_loaded, stack_value, field_value, loaded_value, is_data, load_value, stores, adds_at}
 use Rattle.bpf_flow.specs.Branch.{taken, passed}
 use Rattle.bpf_flow.specs.Rule.{is_first_unset, at_target, fetched, after_of}
 use Rattle.bpf_flow.specs.Call.{is_key, key_bytes, has_keys, with_call, looks_up, is_lookup}
@@ -82,7 +82,7 @@ loaded_others n shapes true size (AtValue m o) = refl
 loaded_others n shapes false size (AtValue m o) = chosen_others (is_double size && is_counter (slice_get shapes m) o) (Ok full) (Err cause.MapAccess) tt refl
 
 load_others : (n : Facts) (shapes : List Shape) (v : Val) (o : ℤ) (signed : Bool) (size : Size) → is_unset v ≡ false → Others (load_value n shapes v o signed size)
-load_others n shapes v o signed size h = chosen_others (is_constant shapes v o (size_bytes size)) (Ok (any_loaded signed size)) (and_then (reach n v o (size_bytes size)) (loaded_value n shapes signed size)) tt
+load_others n shapes v o signed size h = chosen_others (is_data shapes v o (size_bytes size)) (Ok (any_loaded signed size)) (and_then (reach n v o (size_bytes size)) (loaded_value n shapes signed size)) tt
     (then_others (reach n v o (size_bytes size)) (loaded_value n shapes signed size) (reach_others n v o (size_bytes size) h) (loaded_others n shapes signed size))
 
 stores_others : (n : Facts) (pc : ℕ) (size : Size) (v : Val) (a : Access) → Others (stores n pc size v a)

@@ -22,7 +22,7 @@ use Rattle.bpf_flow.specs.Edges.{and_then}
 use Rattle.bpf_flow.specs.declared.access.Access.{Access}
 use Rattle.bpf_flow.specs.declared.access.Access.TheVariants.{InPacket, OnStack, InContext, AtValue}
 use Rattle.bpf_flow.specs.Alu.{constant, any_number, packet_at, stack_at, packet_sum, stack_sum, sum_of, difference_of, range_by, ranged, unfolded, folded, first_constant, result_of, folded_one, any_of_width, signed, most_base}
-use Rattle.bpf_flow.specs.Memory.{any_of_size, any_loaded, is_slot, kept_or_full, stack_value, field_value, is_word, is_field, is_double, is_counter, all_set, reach, loaded_value, is_constant, load_value}
+use Rattle.bpf_flow.specs.Memory.{any_of_size, any_loaded, is_slot, kept_or_full, stack_value, field_value, is_word, is_field, is_double, is_counter, all_set, reach, loaded_value, is_data, load_value}
 
 -- a kept value isn't Unset
 abbrev pub IsSet : Option Val → Type 0
@@ -230,4 +230,4 @@ load_sets n shapes v o signed size true h = any_loaded_set signed size
 load_sets n shapes v o signed size false h = reached_sets n shapes signed size (reach n v o (size_bytes size)) h
 
 pub load_set : (n : Facts) (shapes : List Shape) (v : Val) (o : ℤ) (signed : Bool) (size : Size) (w : Val) → KeepsSet n → load_value n shapes v o signed size ≡ Ok w → is_unset w ≡ false
-load_set n shapes v o signed size w h e = subst Sets e (load_sets n shapes v o signed size (is_constant shapes v o (size_bytes size)) h)
+load_set n shapes v o signed size w h e = subst Sets e (load_sets n shapes v o signed size (is_data shapes v o (size_bytes size)) h)

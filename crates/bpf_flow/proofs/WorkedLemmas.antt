@@ -18,7 +18,7 @@ use Rattle.bpf_note.specs.Shape.{Shape}
 use Rattle.bpf_note.specs.State.{State, start_register}
 use Rattle.bpf_note.specs.Bytes.{number_of, put_bytes}
 use Rattle.bpf_note.specs.Constants.{bytes_left}
-use Rattle.bpf_note.specs.Regions.{region, counter_address}
+use Rattle.bpf_note.specs.Regions.{region, is_part, counter_address}
 use Rattle.bpf_flow.specs.Step.{Outcome, Next, Loads, Adds, Exited, Fault, step}
 
 -- each list has one key, of two bytes
@@ -49,11 +49,11 @@ looks =
     ∷ Alu ops.Mov true R0 (Immediate (pos 1)) ∷ Exit ∷ []
 
 fourteen_bytes_pass : after looks 7 (start [] (0 ∷ 1 ∷ 2 ∷ 3 ∷ 4 ∷ 5 ∷ 6 ∷ 7 ∷ 8 ∷ 9 ∷ 10 ∷ 11 ∷ 12 ∷ 13 ∷ [])) ≡ Exited 2
-unfolding computed is_met region bytes_left extended start next after looks
+unfolding computed is_met region is_part bytes_left extended start next after looks
 fourteen_bytes_pass = refl
 
 thirteen_bytes_drop : after looks 6 (start [] (0 ∷ 1 ∷ 2 ∷ 3 ∷ 4 ∷ 5 ∷ 6 ∷ 7 ∷ 8 ∷ 9 ∷ 10 ∷ 11 ∷ 12 ∷ [])) ≡ Exited 1
-unfolding computed is_met region bytes_left extended start next after looks
+unfolding computed is_met region is_part bytes_left extended start next after looks
 thirteen_bytes_drop = refl
 
 -- counts in value 1 of a map
@@ -68,7 +68,7 @@ is_add (Adds m k j d go) = m ∷ k ∷ j ∷ d ∷ []
 is_add o = []
 
 two_values : List Shape
-two_values = record { entries = 2; counters = 1; key = Index } ∷ []
+two_values = record { entries = 2; counters = 1; key = Index; parts = false } ∷ []
 
 adds_1_to_value_1 : is_add (after counts 7 (start two_values [])) ≡ 0 ∷ 1 ∷ 0 ∷ 1 ∷ []
 unfolding computed is_met region put_bytes extended start next after counts is_add two_values
@@ -86,7 +86,7 @@ counts_key key =
     ∷ Alu ops.Mov true R0 (Immediate (pos 2)) ∷ Exit ∷ []
 
 two_keys : List Shape
-two_keys = record { entries = 2; counters = 1; key = Listed (Exact 2) } ∷ []
+two_keys = record { entries = 2; counters = 1; key = Listed (Exact 2); parts = false } ∷ []
 
 adds_1_to_row_1 : is_add (after (counts_key 0x1122) 7 (start two_keys [])) ≡ 0 ∷ 1 ∷ 0 ∷ 1 ∷ []
 unfolding computed is_met region put_bytes extended start next after counts_key is_add two_keys rows
@@ -104,31 +104,65 @@ reading : List Shape → State
 reading shapes = record { pc = 0; reg = start_register; stack = λ i. None; packet = []; ifindex = 0; queue = 0; shapes = shapes; find = constants }
 
 array_and_constants : List Shape
-array_and_constants = record { entries = 2; counters = 1; key = Index } ∷ record { entries = 1; counters = 1; key = Constants 5 } ∷ []
+array_and_constants = record { entries = 2; counters = 1; key = Index; parts = false } ∷ record { entries = 1; counters = 1; key = Constants 5; parts = false } ∷ []
 
 reads_at : ℕ → Bool → Size → List Insn
 reads_at address signed size = Const R1 address ∷ Second ∷ Ldx size signed R0 R1 (pos 0) ∷ Exit ∷ []
 
 last_byte : after (reads_at 0x38010004 false Byte) 2 (reading array_and_constants) ≡ Exited 0x55
-unfolding computed is_met region bytes_left extended reading next after reads_at array_and_constants constants
+unfolding computed is_met region is_part bytes_left extended reading next after reads_at array_and_constants constants
 last_byte = refl
 
 four_bytes : after (reads_at 0x38010001 false Word) 2 (reading array_and_constants) ≡ Exited 0x55443322
-unfolding computed is_met region bytes_left extended reading next after reads_at array_and_constants constants
+unfolding computed is_met region is_part bytes_left extended reading next after reads_at array_and_constants constants
 four_bytes = refl
 
 past_the_end : after (reads_at 0x38010002 false Word) 2 (reading array_and_constants) ≡ Fault
-unfolding computed is_met region bytes_left extended reading next after reads_at array_and_constants constants
+unfolding computed is_met region is_part bytes_left extended reading next after reads_at array_and_constants constants
 past_the_end = refl
 
 of_no_constants : after (reads_at 0x38000000 false Byte) 2 (reading array_and_constants) ≡ Fault
-unfolding computed is_met region bytes_left extended reading next after reads_at array_and_constants constants
+unfolding computed is_met region is_part bytes_left extended reading next after reads_at array_and_constants constants
 of_no_constants = refl
 
+-- what a load finds where a counter holds x: the counter, and the number that the register gets
+held : Option ℕ → List ℕ
+held None = []
+held (Some y) = y ∷ []
+
+found_in : ℕ → Outcome → List ℕ
+found_in x (Loads m k j go) = m ∷ k ∷ j ∷ held ((go x).reg 0)
+found_in x o = []
+
+two_counters : Bool → List Shape
+two_counters parts = record { entries = 1; counters = 2; key = Index; parts = parts } ∷ []
+
+-- bytes 2 and 3 of counter 1, then its last byte, as a number and with its sign (RFC 9669, section 5)
+two_bytes : found_in 0x8877665544332211 (after (reads_at 0x4000000A false Half) 1 (reading (two_counters true))) ≡ 0 ∷ 0 ∷ 1 ∷ 0x4433 ∷ []
+unfolding computed is_met region is_part bytes_left extended reading next after reads_at constants held found_in two_counters
+two_bytes = refl
+
+eighth_byte : found_in 0x8877665544332211 (after (reads_at 0x4000000F false Byte) 1 (reading (two_counters true))) ≡ 0 ∷ 0 ∷ 1 ∷ 0x88 ∷ []
+unfolding computed is_met region is_part bytes_left extended reading next after reads_at constants held found_in two_counters
+eighth_byte = refl
+
+signed_byte : found_in 0x8877665544332211 (after (reads_at 0x4000000F true Byte) 1 (reading (two_counters true))) ≡ 0 ∷ 0 ∷ 1 ∷ (2 ^ 64 - 0x78) ∷ []
+unfolding computed is_met region is_part bytes_left extended reading next after reads_at constants held found_in two_counters
+signed_byte = refl
+
+-- no load takes bytes of two counters, or a part where the map has none
+of_two_counters : after (reads_at 0x40000006 false Word) 1 (reading (two_counters true)) ≡ Fault
+unfolding computed is_met region is_part bytes_left extended reading next after reads_at constants two_counters
+of_two_counters = refl
+
+of_a_whole_counter : after (reads_at 0x40000000 false Word) 1 (reading (two_counters false)) ≡ Fault
+unfolding computed is_met region is_part bytes_left extended reading next after reads_at constants two_counters
+of_a_whole_counter = refl
+
 -- small maps lie 64 KiB apart from 0x40000000 on, others 4 MiB apart from 0x40400000 on
-addresses : (counter_address (record { entries = 1024; counters = 8; key = Index }) 3 1023 7 ≡ 0x4003FFF8)
-    × (counter_address (record { entries = 1025; counters = 8; key = Index }) 0 0 0 ≡ 0x40400000)
-    × (counter_address (record { entries = 65536; counters = 8; key = Index }) 15 65535 7 ≡ 0x443FFFF8)
+addresses : (counter_address (record { entries = 1024; counters = 8; key = Index; parts = false }) 3 1023 7 ≡ 0x4003FFF8)
+    × (counter_address (record { entries = 1025; counters = 8; key = Index; parts = false }) 0 0 0 ≡ 0x40400000)
+    × (counter_address (record { entries = 65536; counters = 8; key = Index; parts = false }) 15 65535 7 ≡ 0x443FFFF8)
 addresses = (refl, refl, refl)
 
 -- zero divisors, the least number and the upper half

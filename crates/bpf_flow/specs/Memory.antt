@@ -116,15 +116,23 @@ loaded_value n shapes true size (AtValue m o) = Err cause.MapAccess
 loaded_value n shapes false size (AtValue m o) = if is_double size && is_counter (slice_get shapes m) o then Ok full
     else Err cause.MapAccess
 
--- the z bytes that a number and an offset name are constants, whichever number of its range it is
-abbrev pub is_constant : List Shape → Val → ℤ → ℕ → Bool
-is_constant shapes (val.Num lo hi) o z = are_constants shapes (address lo o) (hi - lo + z)
-is_constant shapes v o z = false
+-- fewer than the eight bytes of one counter of a value whose shape this is, if its counters may be loaded in parts
+abbrev pub is_part_of : Option Shape → ℤ → ℕ → Bool
+is_part_of None o z = false
+is_part_of (Some s) (pos at) z = s.parts && nat_lt z 8 && nat_le (at % 8 + z) 8 && nat_lt at (8 * s.counters)
+is_part_of (Some s) (negsuc m) z = false
+
+-- the z bytes that a value and an offset name hold any number: they are constants, whichever number of its range it is, or a part of
+-- a counter
+abbrev pub is_data : List Shape → Val → ℤ → ℕ → Bool
+is_data shapes (val.Num lo hi) o z = are_constants shapes (address lo o) (hi - lo + z)
+is_data shapes (val.Value m) o z = is_part_of (slice_get shapes m) o z
+is_data shapes v o z = false
 
 -- what a load through a value gives
 abbrev pub load_value : Facts → List Shape → Val → ℤ → Bool → Size → Result Val Cause
 load_value n shapes v o signed size =
-    if is_constant shapes v o (size_bytes size) then Ok (any_loaded signed size)
+    if is_data shapes v o (size_bytes size) then Ok (any_loaded signed size)
     else and_then (reach n v o (size_bytes size)) (loaded_value n shapes signed size)
 
 -- z bytes from p on and the eight of slot j have one in common

@@ -8,7 +8,7 @@ ghost use Rattle.bpf_flow.specs.Rule.{after_of};
 ghost use Rattle.bpf_flow.specs.Effect.{Allocates, Decides};
 ghost use Rattle.bpf_flow.specs.Gives.{IsInside};
 ghost use Rattle.bpf_flow.specs.Memory.{is_field, is_counter, all_set, any_of_size, any_loaded, is_slot, stack_value, field_value};
-ghost use Rattle.bpf_flow.specs.Memory.{is_constant, load_value, loaded_value, with_bytes, with_store, stores, adds_at};
+ghost use Rattle.bpf_flow.specs.Memory.{is_data, is_part_of, load_value, loaded_value, with_bytes, with_store, stores, adds_at};
 
 use crate::access::{Access, moved, reach};
 use crate::alu::immediate;
@@ -42,6 +42,33 @@ fn has_counter(shapes: &[MapShape], m: u32, off: i16) -> bool
     ensures { result ≡ is_counter (slice_get shapes.now m) off }
 {
     is_counter(shapes.get(m as usize), off)
+}
+
+fn is_part_of(shape: Option<&MapShape>, off: i16, bytes: u64) -> bool
+    requires { bytes ≤ 8 }
+    ensures { result ≡ is_part_of (option_map (λ s. s.now) shape.entry) off bytes }
+{
+    match shape {
+        None => false,
+        Some(shape) => {
+            if off < 0 {
+                return false;
+            }
+            let at = off as u64;
+            shape.has_parts()
+                && bytes < 8
+                && at % 8 + bytes <= 8
+                && at < 8 * u64::from(shape.counters())
+        }
+    }
+}
+
+/// Whether fewer than eight bytes of a value of map `m` at an offset are a part of a counter.
+fn has_part(shapes: &[MapShape], m: u32, off: i16, bytes: u64) -> bool
+    requires { bytes ≤ 8 }
+    ensures { result ≡ is_part_of (slice_get shapes.now m) off bytes }
+{
+    is_part_of(shapes.get(m as usize), off, bytes)
 }
 
 pub(crate) fn all_set(note: &Note, place: u32, bytes: u32) -> bool
@@ -153,16 +180,18 @@ fn loaded_value(
     }
 }
 
-/// Whether the bytes at an offset from a number are constants, whichever number of its range it is.
-fn is_constant(shapes: &[MapShape], value: Val, off: i16, bytes: u64) -> bool
+/// Whether the bytes at an offset from a value hold any number: they are constants, whichever number of its range it is, or a part of
+/// a counter.
+fn is_data(shapes: &[MapShape], value: Val, off: i16, bytes: u64) -> bool
     requires { bytes ≤ 8 }
-    ensures { result ≡ is_constant shapes.now value off bytes }
+    ensures { result ≡ is_data shapes.now value off bytes }
 {
     match value {
         Val::Num { lo, hi } => {
             let left = constants_left(shapes, moved(lo, off));
             bytes <= left && hi.saturating_sub(lo) <= left - bytes
         }
+        Val::Value { m } => has_part(shapes, m, off, bytes),
         _ => false,
     }
 }
@@ -178,7 +207,7 @@ fn load_value(
 ) -> Result<Val, Cause>
     ensures { result ≡ load_value (facts note.now) shapes.now value off signed size }
 {
-    if is_constant(shapes, value, off, size.bytes() as u64) {
+    if is_data(shapes, value, off, size.bytes() as u64) {
         return Ok(any_loaded(signed, size));
     }
     let access = reach(note, value, off, size)?;

@@ -1,4 +1,5 @@
 pub mod RegionLemmas
+pub mod LoadPlaceLemmas
 pub mod ConstantLemmas
 pub mod PlaceLemmas
 pub mod BoundLemmas

@@ -42,16 +42,16 @@ pub packet_reached : (len : ℕ) (shapes : List Shape) (a z i : ℕ) → region 
 unfolding region
 packet_reached len shapes a z i e = grind (arith, nat_tests)
 
-small_number : (size n : ℕ) → true ≡ nat_le size 8192 → n < size → 8 * n < 0x10000
+pub small_number : (size n : ℕ) → true ≡ nat_le size 8192 → n < size → 8 * n < 0x10000
 small_number size n e h = grind (arith, nat_tests)
 
-large_number : (c e n : ℕ) → c ≤ 8 → e ≤ 65536 → n < c * e → 8 * n < 0x400000
+pub large_number : (c e n : ℕ) → c ≤ 8 → e ≤ 65536 → n < c * e → 8 * n < 0x400000
 large_number c e n hc he h = omega (arith, mul-le-mul hc he)
 
-near_small : (m r : ℕ) → m < most_maps → r < 0x10000 → map_near (0x10000 * m + r) ≡ m
+pub near_small : (m r : ℕ) → m < most_maps → r < 0x10000 → map_near (0x10000 * m + r) ≡ m
 near_small m r h g = chosen (nat_lt (0x10000 * m + r) 0x400000) _ _ (grind (arith, nat_tests)) ∙ omega arith
 
-near_large : (m r : ℕ) → r < 0x400000 → map_near (0x400000 * (m + 1) + r) ≡ m
+pub near_large : (m r : ℕ) → r < 0x400000 → map_near (0x400000 * (m + 1) + r) ≡ m
 near_large m r g = other (nat_lt (0x400000 * (m + 1) + r) 0x400000) _ _ (grind (arith, nat_tests)) ∙ omega arith
 
 -- a counter of map m is near map m alone

@@ -42,6 +42,7 @@ pub use laws::{
 };
 pub use layout::{
     counters_are_found, found_counters_lie_there, narrow_addresses_stay, packets_end,
+    parts_are_found,
 };
 pub use note::Note;
 pub use op::Op;

@@ -12,7 +12,9 @@ use Rattle.bpf_note.specs.Facts.{Facts}
 use Rattle.bpf_note.specs.Describes.{Describes, Meaning, meaning, Reads, IsReading, IsValueOf}
 use Rattle.bpf_flow.specs.Step.{address, reached}
 use Rattle.bpf_flow.proofs.ReachLemmas.{shift_is, map_small, counter_below}
-use Rattle.bpf_same.specs.Stepped.{IsAbove}
+use Rattle.bpf_same.specs.Stepped.{IsAbove, IsBelowValues}
+use Rattle.bpf_insn.specs.Register.{number}
+use Rattle.bpf_insn.specs.declared.register.Register.{Register}
 
 counter_past_apart : (c : Shape) (m at j : ℕ) → counter_past c m at ≡ InStack j → ⊥
 counter_past_apart c m at j e = by (at % 8 == 0 && nat_lt at (8 * (c.counters * c.entries))) e
@@ -110,7 +112,7 @@ value_above low n s k m z o d v short = λ a j e is.
     let b = value_bounds s.shapes m a (slice_get s.shapes m) refl d.state.shapes d.state.maps r in
     far low s a z j o short (omega (arith, b.0)) b.1 (inr (omega (arith, b.0))) is
 
-pub constants_above : (low : ℕ) (n : Facts) (s : State) (k lo hi z : ℕ) (o : ℤ) → Describes n s → n.reg k ≡ Num lo hi → IsShort o → (constants_start ≤ lo) × (hi < values_start) → IsAbove low s (s.reg k) o z
+pub constants_above : (low : ℕ) (n : Facts) (s : State) (k lo hi z : ℕ) (o : ℤ) → Describes n s → n.reg k ≡ Num lo hi → IsShort o → (constants_start ≤ lo) × (hi + 32768 < values_start) → IsAbove low s (s.reg k) o z
 constants_above low n s k lo hi z o d v short there = λ a j e is.
     let w = meaning s d.base d.address in
     let r = read w (Num lo hi) (s.reg k) a (subst (λ (v : Val). Reads w v (s.reg k)) v (d.regs k)) e in
@@ -140,3 +142,32 @@ stack_above_read low n s k z at o a b d v short first second l = λ x j e is.
     let same : a ≡ at = first r.1 r.2 in
     let sum : (pos low ≤ℤ ((pos 512 +ℤ at) +ℤ o)) = subst (λ (a : ℤ). pos low ≤ℤ ((pos 512 +ℤ a) +ℤ o)) same (subst (λ (b : ℤ). pos low ≤ℤ ((pos 512 +ℤ a) +ℤ b)) second l) in
     stack_above low n s k z at o d v short sum x j e is
+
+-- where an access lies below the maps' values
+below_end : (x : ℕ) (o : ℤ) → IsShort o → 32768 ≤ x → x + 32768 < values_start → address x o < values_start
+below_end x o short l h = let n = near x o short l (omega (arith, h)) in omega (arith, n.1, h)
+
+pub packet_below : (n : Facts) (base : Register) (o : ℤ) (id at : ℕ) → n.reg (number base) ≡ Pkt id at → IsShort o → IsBelowValues base o n
+packet_below n base o id at v short = λ a s d e.
+    let w = meaning s d.base d.address in
+    let r = read w (Pkt id at) (s.reg (number base)) a (subst (λ (v : Val). Reads w v (s.reg (number base))) v (d.regs (number base))) e in
+    let low = d.low id in
+    below_end a o short (omega (arith, r.0)) (omega (arith, r.0, r.1, low))
+
+pub context_below : (n : Facts) (base : Register) (o : ℤ) → n.reg (number base) ≡ Ctx → IsShort o → IsBelowValues base o n
+context_below n base o v short = λ a s d e.
+    let w = meaning s d.base d.address in
+    let r = read w Ctx (s.reg (number base)) a (subst (λ (v : Val). Reads w v (s.reg (number base))) v (d.regs (number base))) e in
+    below_end a o short (omega (arith, r)) (omega (arith, r))
+
+pub stack_below : (n : Facts) (base : Register) (o at : ℤ) → n.reg (number base) ≡ Stack at → IsShort o → IsBelowValues base o n
+stack_below n base o at v short = λ a s d e.
+    let w = meaning s d.base d.address in
+    let r = read w (Stack at) (s.reg (number base)) a (subst (λ (v : Val). Reads w v (s.reg (number base))) v (d.regs (number base))) e in
+    below_end a o short (omega (arith, ints, r.0, r.1)) (omega (arith, ints, r.0, r.2))
+
+pub constants_below : (n : Facts) (base : Register) (o : ℤ) (lo hi : ℕ) → n.reg (number base) ≡ Num lo hi → IsShort o → (constants_start ≤ lo) × (hi + 32768 < values_start) → IsBelowValues base o n
+constants_below n base o lo hi v short there = λ a s d e.
+    let w = meaning s d.base d.address in
+    let r = read w (Num lo hi) (s.reg (number base)) a (subst (λ (v : Val). Reads w v (s.reg (number base))) v (d.regs (number base))) e in
+    below_end a o short (omega (arith, r.0, there.0)) (omega (arith, r.1, there.1))

@@ -10,10 +10,10 @@ use Rattle.bpf_insn.specs.declared.insn.Insn.TheVariants.{Alu, Neg, End, MovSx, 
 use Rattle.bpf_note.specs.Constants.{are_constants}
 use Rattle.bpf_note.specs.Keys.{key_size}
 use Rattle.bpf_note.specs.State.{State}
-use Rattle.bpf_note.specs.Regions.{Place, InPacket, InStack, InContext, InCounter, Nowhere, region}
+use Rattle.bpf_note.specs.Regions.{Place, InPacket, InStack, InContext, InCounter, Nowhere, region, load_place}
 use Rattle.bpf_note.specs.declared.op.Op.{Op}
 use Rattle.bpf_note.specs.declared.op.Op.TheVariants.{Add}
-use Rattle.bpf_flow.specs.Step.{Next, Loads, Exited, Fault, at_slot, with_number, is_frame, operand, first_operand, address, reached, loaded, taken, written, load_from, load_constants, load_at, store_to, jumped, target, map_at, key_in, looked_up, helped, exec, LeadsTo}
+use Rattle.bpf_flow.specs.Step.{Next, Loads, Exited, Fault, at_slot, with_number, is_frame, operand, first_operand, address, reached, loaded, taken, written, load_from, load_constants, load_at, store_to, jumped, target, map_at, key_in, looked_up, helped, exec, LeadsTo, part}
 use Rattle.bpf_flow.proofs.StepLemmas.{needed}
 use Rattle.bpf_same.specs.Contents.{is_addition}
 use Rattle.bpf_same.proofs.StepLemmas.{written_is}
@@ -24,23 +24,23 @@ none_some e = cc
 written_adds : (s u : State) (pc n x m k j d v : ℕ) → LeadsTo (written s pc n x) (Some (Add m k j d v)) u → ⊥
 written_adds s u pc n x m k j d v h = none_some (written_is s pc n x (Some (Add m k j d v)) u h).0
 
-load_adds : (place : Place) (s u : State) (signed : Bool) (size : Size) (n m k j d v : ℕ) → LeadsTo (load_from place s signed size n) (Some (Add m k j d v)) u → ⊥
-load_adds (InPacket i) s u signed size n m k j d v h = needed (loaded s (InPacket i) (size_bytes size)) _ (Some (Add m k j d v)) u (λ x h. written_adds s u (s.pc + 1) n (taken signed size x) m k j d v h) h
-load_adds (InStack i) s u signed size n m k j d v h = needed (loaded s (InStack i) (size_bytes size)) _ (Some (Add m k j d v)) u (λ x h. written_adds s u (s.pc + 1) n (taken signed size x) m k j d v h) h
-load_adds (InContext i) s u signed size n m k j d v h = needed (loaded s (InContext i) (size_bytes size)) _ (Some (Add m k j d v)) u (λ x h. written_adds s u (s.pc + 1) n (taken signed size x) m k j d v h) h
-load_adds (InCounter a b c) s u signed size n m k j d v h = by (is_frame n) h
+load_adds : (a : ℕ) (place : Place) (s u : State) (signed : Bool) (size : Size) (n m k j d v : ℕ) → LeadsTo (load_from a place s signed size n) (Some (Add m k j d v)) u → ⊥
+load_adds a (InPacket i) s u signed size n m k j d v h = needed (loaded s (InPacket i) (size_bytes size)) _ (Some (Add m k j d v)) u (λ x h. written_adds s u (s.pc + 1) n (taken signed size x) m k j d v h) h
+load_adds a (InStack i) s u signed size n m k j d v h = needed (loaded s (InStack i) (size_bytes size)) _ (Some (Add m k j d v)) u (λ x h. written_adds s u (s.pc + 1) n (taken signed size x) m k j d v h) h
+load_adds a (InContext i) s u signed size n m k j d v h = needed (loaded s (InContext i) (size_bytes size)) _ (Some (Add m k j d v)) u (λ x h. written_adds s u (s.pc + 1) n (taken signed size x) m k j d v h) h
+load_adds a (InCounter e b c) s u signed size n m k j d v h = by (is_frame n) h
   where
-    by : (t : Bool) → LeadsTo (if t then Fault else Loads a b c (λ x. with_number s (s.pc + 1) n (taken signed size x))) (Some (Add m k j d v)) u → ⊥
+    by : (t : Bool) → LeadsTo (if t then Fault else Loads e b c (λ x. with_number s (s.pc + 1) n (taken signed size (part size a x)))) (Some (Add m k j d v)) u → ⊥
     by true h = h
     by false h = h
-load_adds Nowhere s u signed size n m k j d v h = h
+load_adds a Nowhere s u signed size n m k j d v h = h
 
 load_at_adds : (s u : State) (a : ℕ) (signed : Bool) (size : Size) (n m k j d v : ℕ) → LeadsTo (load_at s a signed size n) (Some (Add m k j d v)) u → ⊥
 load_at_adds s u a signed size n m k j d v h = by (are_constants s.shapes a (size_bytes size)) h
   where
-    by : (t : Bool) → LeadsTo (if t then load_constants s a signed size n else load_from (region (length s.packet) s.shapes a (size_bytes size)) s signed size n) (Some (Add m k j d v)) u → ⊥
+    by : (t : Bool) → LeadsTo (if t then load_constants s a signed size n else load_from a (load_place (length s.packet) s.shapes a (size_bytes size)) s signed size n) (Some (Add m k j d v)) u → ⊥
     by true h = written_adds s u (s.pc + 1) n _ m k j d v h
-    by false h = load_adds (region (length s.packet) s.shapes a (size_bytes size)) s u signed size n m k j d v h
+    by false h = load_adds a (load_place (length s.packet) s.shapes a (size_bytes size)) s u signed size n m k j d v h
 
 store_adds : (place : Place) (s u : State) (z x m k j d v : ℕ) → LeadsTo (store_to place s z x) (Some (Add m k j d v)) u → ⊥
 store_adds (InPacket i) s u z x m k j d v h = h

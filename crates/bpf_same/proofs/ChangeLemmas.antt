@@ -12,7 +12,7 @@ use Rattle.bpf_insn.specs.declared.insn.Insn.TheVariants.{Ldx, AddCounter}
 use Rattle.bpf_note.specs.Shape.{Shape, AreShapes}
 use Rattle.bpf_note.specs.State.{State, packet_start, stack_start, stack_end, context_start, values_start}
 use Rattle.bpf_note.specs.Constants.{are_constants}
-use Rattle.bpf_note.specs.Regions.{Place, InPacket, InStack, InContext, InCounter, Nowhere, region, lies_in, counter_at, counter_from, counter_address}
+use Rattle.bpf_note.specs.Regions.{Place, InPacket, InStack, InContext, InCounter, Nowhere, region, lies_in, counter_at, counter_from, counter_address, load_place}
 use Rattle.bpf_note.proofs.ConstantLemmas.{none_above}
 use Rattle.bpf_note.proofs.RegionLemmas.{counter_found}
 use Rattle.bpf_note.specs.declared.op.Op.{Op}
@@ -132,12 +132,12 @@ loading_to s dst m k j u (Some (ops.Load m' k' j' v)) h = record {
   value = sym (ap (λ (u : State). u.reg (number dst)) h.4) ∙ put_here s.reg (number dst) (Some v);
 }
 
-from_region : (s : State) (a : ℕ) (dst : Register) (l : Option Op) (u : State) → are_constants s.shapes a 8 ≡ false → LeadsTo (load_at s a false Double (number dst)) l u → LeadsTo (load_from (region (length s.packet) s.shapes a 8) s false Double (number dst)) l u
-from_region s a dst l u none h = subst (λ (b : Bool). LeadsTo (if b then load_constants s a false Double (number dst) else load_from (region (length s.packet) s.shapes a 8) s false Double (number dst)) l u) none h
+from_region : (s : State) (a : ℕ) (dst : Register) (l : Option Op) (u : State) → are_constants s.shapes a 8 ≡ false → LeadsTo (load_at s a false Double (number dst)) l u → LeadsTo (load_from a (load_place (length s.packet) s.shapes a 8) s false Double (number dst)) l u
+from_region s a dst l u none h = subst (λ (b : Bool). LeadsTo (if b then load_constants s a false Double (number dst) else load_from a (load_place (length s.packet) s.shapes a 8) s false Double (number dst)) l u) none h
 
 pub loading_is : (dst src : Register) (off : ℤ) (s u : State) (l : Option Op) (a m k j : ℕ) → s.reg (number src) ≡ Some a → reached s a off 8 ≡ InCounter m k j → LeadsTo (exec (Ldx Double false dst src off) s) l u → Loading dst m k j u l
 loading_is dst src off s u l a m k j held place h =
-    by (is_frame (number dst)) (subst (λ (p : Place). LeadsTo (load_from p s false Double (number dst)) l u) place
+    by (is_frame (number dst)) (subst (λ (p : Place). LeadsTo (load_from (address a off) p s false Double (number dst)) l u) place
     (from_region s (address a off) dst l u (no_constants (length s.packet) s.shapes (address a off) m k j place)
     (needed_is (s.reg (number src)) _ l u (λ b is h. subst (λ (b : ℕ). LeadsTo (load_at s (address b off) false Double (number dst)) l u) (some_is (sym is ∙ held)) h) h)))
   where

@@ -17,7 +17,7 @@ use Rattle.bpf_insn.specs.declared.insn.Insn.{Insn}
 use Rattle.bpf_insn.specs.declared.insn.Insn.TheVariants.{Alu, Neg, End, MovSx, Const, MapRef, Ldx, St, Stx, AddCounter, Ja, Jump, Call, Exit, Second}
 use Rattle.bpf_note.specs.Shape.{Shape}
 use Rattle.bpf_note.specs.State.{State, put, packet_start, stack_start, stack_end, context_start, values_start}
-use Rattle.bpf_note.specs.Regions.{Place, InPacket, InStack, InContext, InCounter, Nowhere, region, lies_in, counter_from}
+use Rattle.bpf_note.specs.Regions.{Place, InPacket, InStack, InContext, InCounter, Nowhere, region, lies_in, counter_from, HaveNoParts}
 use Rattle.bpf_note.specs.declared.op.Op.{Op}
 use Rattle.bpf_note.specs.declared.op.Op.TheVariants as ops
 use Rattle.bpf_flow.specs.Step.{Outcome, Next, Loads, Exited, Fault, need, at_slot, with_number, is_frame, written, operand, first_operand, address, reached, load_from, load_at, add_to, exec, step, LeadsTo}
@@ -43,6 +43,7 @@ use Rattle.bpf_flow.proofs.ConstantLemmas.{plain_load}
 use Rattle.bpf_same.proofs.OwnLemmas.{read_is, counter_size}
 use Rattle.bpf_same.proofs.PairLemmas.{put_left}
 use Rattle.bpf_same.proofs.TogetherLemmas.{together, next_is, alike_reads, step_is}
+use Rattle.bpf_note.proofs.LoadPlaceLemmas.{without_parts}
 
 some_is : {A : Type 0} {x y : A} → Some x ≡ Some y → x ≡ y
 some_is e = cc
@@ -69,23 +70,23 @@ plain_runs_on Exit h = absurd h
 plain_runs_on Second h = absurd h
 
 -- it has no label
-no_label : (i : Insn) (s : State) (l : Option Op) (u : State) → IsPlain i → LeadsTo (exec i s) l u → l ≡ None
-no_label (Alu op wide dst src) s l u p h = needed (operand s src) _ l u (λ y h. needed (first_operand op (s.reg (number dst))) _ l u (λ x h. (written_is s (s.pc + 1) (number dst) _ l u h).0) h) h
-no_label (Neg wide dst) s l u p h = needed (s.reg (number dst)) _ l u (λ x h. (written_is s (s.pc + 1) (number dst) _ l u h).0) h
-no_label (End kind width dst) s l u p h = needed (s.reg (number dst)) _ l u (λ x h. (written_is s (s.pc + 1) (number dst) _ l u h).0) h
-no_label (MovSx wide bits dst src) s l u p h = needed (s.reg (number src)) _ l u (λ x h. (written_is s (s.pc + 1) (number dst) _ l u h).0) h
-no_label (Const dst value) s l u p h = (written_is s (s.pc + 2) (number dst) value l u h).0
-no_label (MapRef dst m) s l u p h = (written_is s (s.pc + 2) (number dst) _ l u h).0
-no_label (Ldx size signed dst src off) s l u p h = needed (s.reg (number src)) _ l u (λ a h.
-    (read_is s (address a off) signed size (number dst) l u (λ m k j at. p (counter_size (length s.packet) s.shapes (address a off) (size_bytes size) m k j at)) h).done.0) h
-no_label (St size dst off imm) s l u p h = absurd p
-no_label (Stx size dst src off) s l u p h = absurd p
-no_label (AddCounter fetch dst src off) s l u p h = absurd p
-no_label (Ja wide to) s l u p h = absurd p
-no_label (Jump cond wide dst src off) s l u p h = absurd p
-no_label (Call helper) s l u p h = absurd p
-no_label Exit s l u p h = absurd p
-no_label Second s l u p h = absurd p
+no_label : (i : Insn) (s : State) (l : Option Op) (u : State) → HaveNoParts s.shapes → IsPlain i → LeadsTo (exec i s) l u → l ≡ None
+no_label (Alu op wide dst src) s l u whole p h = needed (operand s src) _ l u (λ y h. needed (first_operand op (s.reg (number dst))) _ l u (λ x h. (written_is s (s.pc + 1) (number dst) _ l u h).0) h) h
+no_label (Neg wide dst) s l u whole p h = needed (s.reg (number dst)) _ l u (λ x h. (written_is s (s.pc + 1) (number dst) _ l u h).0) h
+no_label (End kind width dst) s l u whole p h = needed (s.reg (number dst)) _ l u (λ x h. (written_is s (s.pc + 1) (number dst) _ l u h).0) h
+no_label (MovSx wide bits dst src) s l u whole p h = needed (s.reg (number src)) _ l u (λ x h. (written_is s (s.pc + 1) (number dst) _ l u h).0) h
+no_label (Const dst value) s l u whole p h = (written_is s (s.pc + 2) (number dst) value l u h).0
+no_label (MapRef dst m) s l u whole p h = (written_is s (s.pc + 2) (number dst) _ l u h).0
+no_label (Ldx size signed dst src off) s l u whole p h = needed (s.reg (number src)) _ l u (λ a h.
+    (read_is s (address a off) signed size (number dst) l u (λ m k j at. p (counter_size (length s.packet) s.shapes (address a off) (size_bytes size) m k j (sym (without_parts (length s.packet) s.shapes (address a off) (size_bytes size) whole) ∙ at))) h).done.0) h
+no_label (St size dst off imm) s l u whole p h = absurd p
+no_label (Stx size dst src off) s l u whole p h = absurd p
+no_label (AddCounter fetch dst src off) s l u whole p h = absurd p
+no_label (Ja wide to) s l u whole p h = absurd p
+no_label (Jump cond wide dst src off) s l u whole p h = absurd p
+no_label (Call helper) s l u whole p h = absurd p
+no_label Exit s l u whole p h = absurd p
+no_label Second s l u whole p h = absurd p
 
 need_exits : {A : Type 0} (o : Option A) (f : A → Outcome) (r0 : ℕ) → ((x : A) → f x ≡ Exited r0 → ⊥) → need o f ≡ Exited r0 → ⊥
 need_exits None f r0 h e = cc
@@ -287,15 +288,15 @@ label_front label labels e = ap (λ (l : Option Op). operations (l ∷ labels)) 
 -- a step inside a count, in front of the rest
 pub step_inside : (plan : Plan) (c d : Count) (p : ℕ) (i : Insn) → IsStep c i d → slice_get plan.old p ≡ Some i → slice_get plan.new p ≡ Some i →
     IsInside plan d.base d.off (next_slot i p) d.alike d.ahead → IsInside plan c.base c.off p c.alike c.ahead
-step_inside plan c d p i k old new inside = λ s pc r0 bytes labels w. by s pc r0 bytes labels w
+step_inside plan c d p i k old new inside = λ s whole pc r0 bytes labels w. by s whole pc r0 bytes labels w
   where
-    went : (s u : State) (r0 : ℕ) (bytes : List ℕ) (label : Option Op) (labels : List (Option Op)) → s.pc ≡ p → LeadsTo (step plan.new s) label u → Walk plan.new r0 bytes u labels → ReachesAddition plan c.base c.off c.alike c.ahead s r0 bytes (label ∷ labels)
-    went s u r0 bytes label labels pc h w =
+    went : (s u : State) (r0 : ℕ) (bytes : List ℕ) (label : Option Op) (labels : List (Option Op)) → HaveNoParts s.shapes → s.pc ≡ p → LeadsTo (step plan.new s) label u → Walk plan.new r0 bytes u labels → ReachesAddition plan c.base c.off c.alike c.ahead s r0 bytes (label ∷ labels)
+    went s u r0 bytes label labels whole pc h w =
         let x : LeadsTo (exec i s) label u = subst (λ (o : Outcome). LeadsTo o label u) (step_is plan.new s p i new pc) h in
-        let none : label ≡ None = no_label i s label u k.plain x in
+        let none : label ≡ None = no_label i s label u whole k.plain x in
         let there : u.pc ≡ next_slot i p = next_is i p u.pc (plain_runs_on i k.plain) (subst (λ (p : ℕ). Leads i p u.pc) pc (exec_leads i s label u x)) in
-        let n = inside u there r0 bytes labels w in
         let same = kept plan.new s label u h in
+        let n = inside u (subst HaveNoParts (sym same.shapes) whole) there r0 bytes labels w in
         let base : u.reg (number d.base) ≡ s.reg (number c.base) = ap (λ (r : Register). u.reg (number r)) k.base ∙ left i s u label (number c.base) x k.preserves in
         record {
           m = n.m;
@@ -308,6 +309,7 @@ step_inside plan c d p i k old new inside = λ s pc r0 bytes labels w. by s pc r
           walk = n.walk;
           shorter = omega (arith, n.shorter);
           did = label_front label labels none ∙ n.did;
+          shapes = n.shapes ∙ same.shapes;
           outside = n.outside;
           small = n.small;
           address = n.address;
@@ -319,9 +321,9 @@ step_inside plan c d p i k old new inside = λ s pc r0 bytes labels w. by s pc r
               counts.goes t v.0 (Stores n.m n.k n.j ((n.found + n.delta) % 2 ^ 64) ∷ effects) leads (n.old_walk v.0 v.2 v.3 v.4 effects walked);
         }
 
-    by : (s : State) → s.pc ≡ p → (r0 : ℕ) (bytes : List ℕ) (labels : List (Option Op)) → Walk plan.new r0 bytes s labels → ReachesAddition plan c.base c.off c.alike c.ahead s r0 bytes labels
-    by _ pc r0 bytes _ (ends s e b) = absurd (not_ended i s r0 k.plain (sym (step_is plan.new s p i new pc) ∙ e))
-    by _ pc r0 bytes _ (goes s u label labels h w) = went s u r0 bytes label labels pc h w
+    by : (s : State) → HaveNoParts s.shapes → s.pc ≡ p → (r0 : ℕ) (bytes : List ℕ) (labels : List (Option Op)) → Walk plan.new r0 bytes s labels → ReachesAddition plan c.base c.off c.alike c.ahead s r0 bytes labels
+    by _ whole pc r0 bytes _ (ends s e b) = absurd (not_ended i s r0 k.plain (sym (step_is plan.new s p i new pc) ∙ e))
+    by _ whole pc r0 bytes _ (goes s u label labels h w) = went s u r0 bytes label labels whole pc h w
 
 -- the addition that a step makes
 record Added (src : Register) (base : Register) (off : ℤ) (s u : State) (l : Option Op) : Type 0 where
@@ -379,13 +381,13 @@ not_altered e = cc
 -- the store of a count
 pub store_inside : (plan : Plan) (c : Count) (p : ℕ) (src : Register) → slice_get plan.old p ≡ Some (Stx Double c.base src c.off) → slice_get plan.new p ≡ Some (AddCounter false c.base src c.off) →
     bit c.alike (number c.base) ≡ 1 → bit c.ahead (number src) ≡ 1 → IsOutside plan (p + 1) × Leaves c.alike (AddCounter false c.base src c.off) (live_at plan (p + 1)) → IsInside plan c.base c.off p c.alike c.ahead
-store_inside plan c p src old new alike ahead out = λ s pc r0 bytes labels w. by s pc r0 bytes labels w
+store_inside plan c p src old new alike ahead out = λ s whole pc r0 bytes labels w. by s whole pc r0 bytes labels w
   where
     i : Insn
     i = AddCounter false c.base src c.off
 
-    went : (s u : State) (r0 : ℕ) (bytes : List ℕ) (label : Option Op) (labels : List (Option Op)) → s.pc ≡ p → LeadsTo (step plan.new s) label u → Walk plan.new r0 bytes u labels → ReachesAddition plan c.base c.off c.alike c.ahead s r0 bytes (label ∷ labels)
-    went s u r0 bytes label labels pc h w =
+    went : (s u : State) (r0 : ℕ) (bytes : List ℕ) (label : Option Op) (labels : List (Option Op)) → HaveNoParts s.shapes → s.pc ≡ p → LeadsTo (step plan.new s) label u → Walk plan.new r0 bytes u labels → ReachesAddition plan c.base c.off c.alike c.ahead s r0 bytes (label ∷ labels)
+    went s u r0 bytes label labels whole pc h w =
         let a = addition_is src c.base c.off s u label (subst (λ (o : Outcome). LeadsTo o label u) (step_is plan.new s p i new pc) h) in
         let there : u.pc ≡ p + 1 = ap (λ (u : State). u.pc) a.is ∙ ap (λ (p : ℕ). p + 1) pc in
         record {
@@ -399,6 +401,7 @@ store_inside plan c p src old new alike ahead out = λ s pc r0 bytes labels w. b
           walk = w;
           shorter = omega arith;
           did = ap (λ (l : Option Op). operations (l ∷ labels)) a.label;
+          shapes = ap (λ (u : State). u.shapes) a.is;
           outside = subst (λ (p : ℕ). IsOutside plan p) (sym there) out.0;
           small = a.small;
           address = a.address;
@@ -427,9 +430,9 @@ store_inside plan c p src old new alike ahead out = λ s pc r0 bytes labels w. b
         kept_there s t u k f e (inl b) = f b ∙ sym e
         kept_there s t u k f e (inr b) = absurd (not_altered b)
 
-    by : (s : State) → s.pc ≡ p → (r0 : ℕ) (bytes : List ℕ) (labels : List (Option Op)) → Walk plan.new r0 bytes s labels → ReachesAddition plan c.base c.off c.alike c.ahead s r0 bytes labels
-    by _ pc r0 bytes _ (ends s e b) = absurd (addition_exits src c.base c.off s r0 (sym (step_is plan.new s p i new pc) ∙ e))
-    by _ pc r0 bytes _ (goes s u label labels h w) = went s u r0 bytes label labels pc h w
+    by : (s : State) → HaveNoParts s.shapes → s.pc ≡ p → (r0 : ℕ) (bytes : List ℕ) (labels : List (Option Op)) → Walk plan.new r0 bytes s labels → ReachesAddition plan c.base c.off c.alike c.ahead s r0 bytes labels
+    by _ whole pc r0 bytes _ (ends s e b) = absurd (addition_exits src c.base c.off s r0 (sym (step_is plan.new s p i new pc) ∙ e))
+    by _ whole pc r0 bytes _ (goes s u label labels h w) = went s u r0 bytes label labels whole pc h w
 
 zero_moved : computed Mov true 0 0 ≡ 0
 unfolding computed
@@ -457,7 +460,7 @@ load_leads t dst base off a m k j found held place frame l =
     let none = none_above t.shapes (address a off) (counter_low (length t.packet) t.shapes (address a off) 8 m k j place) in
     subst (λ (o : Option ℕ). LeadsTo (need o (λ a. load_at t (address a off) false Double (number dst))) (Some (ops.Load m k j found)) (with_number t (t.pc + 1) (number dst) found)) (sym held)
     (subst (λ (o : Outcome). LeadsTo o (Some (ops.Load m k j found)) (with_number t (t.pc + 1) (number dst) found)) (sym (plain_load t (address a off) false Double (number dst) none))
-    (subst (λ (p : Place). LeadsTo (load_from p t false Double (number dst)) (Some (ops.Load m k j found)) (with_number t (t.pc + 1) (number dst) found)) (sym place)
+    (subst (λ (p : Place). LeadsTo (load_from (address a off) p t false Double (number dst)) (Some (ops.Load m k j found)) (with_number t (t.pc + 1) (number dst) found)) (sym place)
     (subst (λ (b : Bool). LeadsTo (if b then Fault else Loads m k j (λ x. with_number t (t.pc + 1) (number dst) x)) (Some (ops.Load m k j found)) (with_number t (t.pc + 1) (number dst) found)) (sym frame) (refl, refl, refl, l, refl))))
 
 not_frame : (s : State) (pc k x : ℕ) (l : Option Op) (u : State) → LeadsTo (written s pc k x) l u → is_frame k ≡ false
@@ -470,17 +473,17 @@ not_frame s pc k x l u h = by (is_frame k) h
 -- the load of a count, in whose place the new program has a 0
 pub load_counts : (plan : Plan) (dst base : Register) (off : ℤ) (p : ℕ) (c : Count) → IsLoaded plan dst base off p c → slice_get plan.old p ≡ Some (Ldx Double false dst base off) →
     slice_get plan.new p ≡ Some (Alu Mov true dst (operands.Immediate (pos 0))) → IsInside plan c.base c.off (p + 1) c.alike c.ahead → IsCount plan p
-load_counts plan dst base off p c k old new inside = λ s pc r0 bytes labels w. by s pc r0 bytes labels w
+load_counts plan dst base off p c k old new inside = λ s whole pc r0 bytes labels w. by s whole pc r0 bytes labels w
   where
     i : Insn
     i = Alu Mov true dst (operands.Immediate (pos 0))
 
-    went : (s u : State) (r0 : ℕ) (bytes : List ℕ) (label : Option Op) (labels : List (Option Op)) → s.pc ≡ p → LeadsTo (step plan.new s) label u → Walk plan.new r0 bytes u labels → Counted plan s r0 bytes (label ∷ labels)
-    went s u r0 bytes label labels pc h w =
+    went : (s u : State) (r0 : ℕ) (bytes : List ℕ) (label : Option Op) (labels : List (Option Op)) → HaveNoParts s.shapes → s.pc ≡ p → LeadsTo (step plan.new s) label u → Walk plan.new r0 bytes u labels → Counted plan s r0 bytes (label ∷ labels)
+    went s u r0 bytes label labels whole pc h w =
         let x : LeadsTo (written s (s.pc + 1) (number dst) (computed Mov true 0 0)) label u = subst (λ (o : Outcome). LeadsTo o label u) (step_is plan.new s p i new pc) h in
         let z = written_is s (s.pc + 1) (number dst) (computed Mov true 0 0) label u x in
         let there : u.pc ≡ p + 1 = ap (λ (u : State). u.pc) z.1 ∙ ap (λ (p : ℕ). p + 1) pc in
-        let n = inside u there r0 bytes labels w in
+        let n = inside u (subst HaveNoParts (sym (ap (λ (u : State). u.shapes) z.1)) whole) there r0 bytes labels w in
         let base_left : u.reg (number base) ≡ s.reg (number base) = ap (λ (u : State). u.reg (number base)) z.1 ∙ others_left s.reg (number dst) (number base) (Some (computed Mov true 0 0)) (λ e. k.apart (sym e)) in
         let held : s.reg (number base) ≡ Some n.address = sym base_left ∙ (ap (λ (r : Register). u.reg (number r)) (sym k.base_is) ∙ n.held) in
         let place : reached s n.address off 8 ≡ InCounter n.m n.k n.j =
@@ -496,6 +499,7 @@ load_counts plan dst base off p c k old new inside = λ s pc r0 bytes labels w. 
           walk = n.walk;
           shorter = omega (arith, n.shorter);
           did = label_front label labels z.0 ∙ n.did;
+          shapes = n.shapes ∙ ap (λ (u : State). u.shapes) z.1;
           outside = n.outside;
           old_walk = λ t b same effects walked.
               let next : State = with_number t (t.pc + 1) (number dst) n.found in
@@ -516,6 +520,6 @@ load_counts plan dst base off p c k old new inside = λ s pc r0 bytes labels w. 
               effects walked);
         }
 
-    by : (s : State) → s.pc ≡ p → (r0 : ℕ) (bytes : List ℕ) (labels : List (Option Op)) → Walk plan.new r0 bytes s labels → Counted plan s r0 bytes labels
-    by _ pc r0 bytes _ (ends s e b) = absurd (written_exits s (s.pc + 1) (number dst) (computed Mov true 0 0) r0 (sym (step_is plan.new s p i new pc) ∙ e))
-    by _ pc r0 bytes _ (goes s u label labels h w) = went s u r0 bytes label labels pc h w
+    by : (s : State) → HaveNoParts s.shapes → s.pc ≡ p → (r0 : ℕ) (bytes : List ℕ) (labels : List (Option Op)) → Walk plan.new r0 bytes s labels → Counted plan s r0 bytes labels
+    by _ whole pc r0 bytes _ (ends s e b) = absurd (written_exits s (s.pc + 1) (number dst) (computed Mov true 0 0) r0 (sym (step_is plan.new s p i new pc) ∙ e))
+    by _ whole pc r0 bytes _ (goes s u label labels h w) = went s u r0 bytes label labels whole pc h w

@@ -11,6 +11,8 @@ use Rattle.bpf_same.specs.Same.{operations, Runs, IsSame}
 use Rattle.bpf_same.specs.Counts as counts
 use Rattle.bpf_same.specs.Counts.{Effect, Does, Stores, StoringWalk, Counts, RunsByCounts, IsSameByCounts}
 use Rattle.bpf_same.specs.Fused.{Plan, Shadows, IsWalked, IsOutside, IsShared, Counted, IsCount, AreFused}
+use Rattle.bpf_note.specs.Regions.{HaveNoParts}
+use Rattle.bpf_flow.proofs.KeptLemmas.{kept}
 
 -- from a state of the new program, with any registers of the old one that are alike
 record Walked (plan : Plan) (r0 : ℕ) (bytes : List ℕ) (s : State) (done : List Op) : Type 0 where
@@ -57,28 +59,28 @@ count_step plan r0 bytes s labels c there = record {
 
 -- of shorter walks it is known
 abbrev OfShorter : Plan → ℕ → List ℕ → ℕ → Type 0
-OfShorter plan r0 bytes n = (s : State) (labels : List (Option Op)) → length labels ≤ n → IsOutside plan s.pc → Walk plan.new r0 bytes s labels → Walked plan r0 bytes s (operations labels)
+OfShorter plan r0 bytes n = (s : State) (labels : List (Option Op)) → HaveNoParts s.shapes → length labels ≤ n → IsOutside plan s.pc → Walk plan.new r0 bytes s labels → Walked plan r0 bytes s (operations labels)
 
-by_kind : (plan : Plan) (n : ℕ) (r0 : ℕ) (bytes : List ℕ) (s : State) (labels : List (Option Op)) → OfShorter plan r0 bytes n → length labels ≤ suc n → Walk plan.new r0 bytes s labels → IsShared plan s.pc ⊎ IsCount plan s.pc →
+by_kind : (plan : Plan) (n : ℕ) (r0 : ℕ) (bytes : List ℕ) (s : State) (labels : List (Option Op)) → OfShorter plan r0 bytes n → HaveNoParts s.shapes → length labels ≤ suc n → Walk plan.new r0 bytes s labels → IsShared plan s.pc ⊎ IsCount plan s.pc →
     Walked plan r0 bytes s (operations labels)
-by_kind plan n r0 bytes s labels go l w (inr count) =
-    let c = count s refl r0 bytes labels w in
-    count_step plan r0 bytes s labels c (go c.after c.rest (omega (arith, l, c.shorter)) c.outside c.walk)
-by_kind plan n r0 bytes _ _ go l (ends s e b) (inl shared) = record { effects = []; counts = counts.none; walk = λ t beside a. counts.ends t (shared.ends s t refl beside a r0 e) (beside.packet ∙ b) }
-by_kind plan n r0 bytes _ _ go l (goes s t label labels h w) (inl shared) = shared_step plan r0 bytes s t label labels shared h (λ out. go t labels (omega (arith, l)) out w)
+by_kind plan n r0 bytes s labels go whole l w (inr count) =
+    let c = count s whole refl r0 bytes labels w in
+    count_step plan r0 bytes s labels c (go c.after c.rest (subst HaveNoParts (sym c.shapes) whole) (omega (arith, l, c.shorter)) c.outside c.walk)
+by_kind plan n r0 bytes _ _ go whole l (ends s e b) (inl shared) = record { effects = []; counts = counts.none; walk = λ t beside a. counts.ends t (shared.ends s t refl beside a r0 e) (beside.packet ∙ b) }
+by_kind plan n r0 bytes _ _ go whole l (goes s t label labels h w) (inl shared) = shared_step plan r0 bytes s t label labels shared h (λ out. go t labels (subst HaveNoParts (sym (kept plan.new s label t h).shapes) whole) (omega (arith, l)) out w)
 
 no_labels : (code : List Insn) (r0 : ℕ) (bytes : List ℕ) (s : State) (labels : List (Option Op)) → length labels ≤ 0 → Walk code r0 bytes s labels → ⊥
 no_labels code r0 bytes _ _ l (ends s e b) = omega (arith, l)
 no_labels code r0 bytes _ _ l (goes s t label labels h w) = omega (arith, l)
 
 walked : (plan : Plan) → AreFused plan → (r0 : ℕ) (bytes : List ℕ) (n : ℕ) → OfShorter plan r0 bytes n
-walked plan k r0 bytes zero = λ s labels l out w. absurd (no_labels plan.new r0 bytes s labels l w)
-walked plan k r0 bytes (suc n) = λ s labels l out w. by_kind plan n r0 bytes s labels (walked plan k r0 bytes n) l w (k.each s.pc out)
+walked plan k r0 bytes zero = λ s labels whole l out w. absurd (no_labels plan.new r0 bytes s labels l w)
+walked plan k r0 bytes (suc n) = λ s labels whole l out w. by_kind plan n r0 bytes s labels (walked plan k r0 bytes n) whole l w (k.each s.pc out)
 
 -- a program with the runs of the one whose counts are additions
-pub fused_runs : (plan : Plan) (shapes : List Shape) (new : List Insn) → AreFused plan → IsSame shapes plan.new new → IsSameByCounts shapes plan.old new
-fused_runs plan shapes new k same = λ s is e r0 bytes done run.
+pub fused_runs : (plan : Plan) (shapes : List Shape) (new : List Insn) → HaveNoParts shapes → AreFused plan → IsSame shapes plan.new new → IsSameByCounts shapes plan.old new
+fused_runs plan shapes new whole k same = λ s is e r0 bytes done run.
     let mid : Runs plan.new r0 bytes s done = same s is e r0 bytes done run in
     let out : IsOutside plan s.pc = subst (λ (p : ℕ). IsOutside plan p) (sym is.pc) k.begins in
-    let f = walked plan k r0 bytes (length mid.labels) s mid.labels (omega arith) out mid.walk in
+    let f = walked plan k r0 bytes (length mid.labels) s mid.labels (subst HaveNoParts (sym e) whole) (omega arith) out mid.walk in
     record { effects = f.effects; walk = f.walk s (itself s) (λ i l e. refl); counts = subst (λ (done : List Op). Counts f.effects done) mid.did f.counts }

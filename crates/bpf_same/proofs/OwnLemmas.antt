@@ -17,7 +17,7 @@ use Rattle.bpf_note.proofs.ConstantLemmas.{none_elsewhere}
 use Rattle.bpf_flow.proofs.ConstantLemmas.{plain_load}
 use Rattle.bpf_note.specs.State.{State, IsState, put, packet_start, stack_start, stack_end, context_start}
 use Rattle.bpf_note.specs.Bytes.{number_of, word_at, higher, byte_of, put_bytes}
-use Rattle.bpf_note.specs.Regions.{Place, InPacket, InStack, InContext, InCounter, Nowhere, region, lies_in, counter_at}
+use Rattle.bpf_note.specs.Regions.{Place, InPacket, InStack, InContext, InCounter, Nowhere, region, lies_in, counter_at, load_place}
 use Rattle.bpf_note.specs.Facts.{Facts}
 use Rattle.bpf_note.specs.Describes.{Describes}
 use Rattle.bpf_note.specs.declared.op.Op.{Op}
@@ -31,6 +31,7 @@ use Rattle.bpf_same.specs.Simulated.{is_jump}
 use Rattle.bpf_same.specs.Stepped.{alters, is_register_store, IsOwn, IsWordAt, Stepped, IsOwnStep, IsOwnAccess}
 use Rattle.bpf_same.proofs.PairLemmas.{put_left}
 use Rattle.bpf_same.proofs.StepLemmas.{needed_is, held_register, held_word, held_fits, end_kept, noted_within, noted_long, noted_end, noted_range, noted_is, written_is, put_here, alu_computes, computes_held, word_kept}
+use Rattle.bpf_note.proofs.LoadPlaceLemmas.{below_values}
 
 -- what is left of the state by a step of the new program's own, and what it makes of terms
 pub record Alone (i : Insn) (low : ℕ) (m : Facts) (s : State) (g : ℕ → Option ℕ) (l : Option Op) (u : State) : Type 0 where
@@ -104,25 +105,25 @@ pub record Loaded (place : Place) (s : State) (signed : Bool) (size : Size) (dst
 plain_is : (place : Place) (s : State) (signed : Bool) (size : Size) (dst : ℕ) (l : Option Op) (u : State) → LeadsTo (need (loaded s place (size_bytes size)) (λ x. written s (s.pc + 1) dst (taken signed size x))) l u → Loaded place s signed size dst l u
 plain_is place s signed size dst l u h = needed_is (loaded s place (size_bytes size)) _ l u (λ x f h. record { x = x; is = f; done = written_is s (s.pc + 1) dst (taken signed size x) l u h }) h
 
-pub load_is : (place : Place) (s : State) (signed : Bool) (size : Size) (dst : ℕ) (l : Option Op) (u : State) → ((m k j : ℕ) → place ≡ InCounter m k j → ⊥) → LeadsTo (load_from place s signed size dst) l u → Loaded place s signed size dst l u
-load_is (InPacket i) s signed size dst l u e h = plain_is (InPacket i) s signed size dst l u h
-load_is (InStack i) s signed size dst l u e h = plain_is (InStack i) s signed size dst l u h
-load_is (InContext i) s signed size dst l u e h = plain_is (InContext i) s signed size dst l u h
-load_is (InCounter m k j) s signed size dst l u e h = absurd (e m k j refl)
-load_is Nowhere s signed size dst l u e h = absurd (no_fault l u h)
+pub load_is : (a : ℕ) (place : Place) (s : State) (signed : Bool) (size : Size) (dst : ℕ) (l : Option Op) (u : State) → ((m k j : ℕ) → place ≡ InCounter m k j → ⊥) → LeadsTo (load_from a place s signed size dst) l u → Loaded place s signed size dst l u
+load_is a (InPacket i) s signed size dst l u e h = plain_is (InPacket i) s signed size dst l u h
+load_is a (InStack i) s signed size dst l u e h = plain_is (InStack i) s signed size dst l u h
+load_is a (InContext i) s signed size dst l u e h = plain_is (InContext i) s signed size dst l u h
+load_is a (InCounter m k j) s signed size dst l u e h = absurd (e m k j refl)
+load_is a Nowhere s signed size dst l u e h = absurd (no_fault l u h)
 
 -- such a load, or one of constants
 pub record Read (s : State) (signed : Bool) (size : Size) (dst : ℕ) (l : Option Op) (u : State) : Type 0 where
   pub x : ℕ
   pub done : (l ≡ None) × (u ≡ with_number s (s.pc + 1) dst (taken signed size x))
 
-pub read_is : (s : State) (a : ℕ) (signed : Bool) (size : Size) (dst : ℕ) (l : Option Op) (u : State) → ((m k j : ℕ) → region (length s.packet) s.shapes a (size_bytes size) ≡ InCounter m k j → ⊥) →
+pub read_is : (s : State) (a : ℕ) (signed : Bool) (size : Size) (dst : ℕ) (l : Option Op) (u : State) → ((m k j : ℕ) → load_place (length s.packet) s.shapes a (size_bytes size) ≡ InCounter m k j → ⊥) →
     LeadsTo (load_at s a signed size dst) l u → Read s signed size dst l u
 read_is s a signed size dst l u e h = by (are_constants s.shapes a (size_bytes size)) h
   where
-    by : (b : Bool) → LeadsTo (if b then load_constants s a signed size dst else load_from (region (length s.packet) s.shapes a (size_bytes size)) s signed size dst) l u → Read s signed size dst l u
+    by : (b : Bool) → LeadsTo (if b then load_constants s a signed size dst else load_from a (load_place (length s.packet) s.shapes a (size_bytes size)) s signed size dst) l u → Read s signed size dst l u
     by true h = record { x = number_of (constants_at s.find a (size_bytes size)); done = written_is s (s.pc + 1) dst _ l u h }
-    by false h = let got = load_is (region (length s.packet) s.shapes a (size_bytes size)) s signed size dst l u e h in record { x = got.x; done = got.done }
+    by false h = let got = load_is a (load_place (length s.packet) s.shapes a (size_bytes size)) s signed size dst l u e h in record { x = got.x; done = got.done }
 
 -- where a word of the new program's own lies
 word_reached : (s : State) (base : Register) (off : ℤ) (low w a : ℕ) → IsState s → IsWordAt base off low w → s.reg 10 ≡ Some stack_end → s.reg (number base) ≡ Some a → reached s a off 8 ≡ InStack (592 - 8 * w)
@@ -150,7 +151,7 @@ own_loaded dst src off low w s l u st at frame h = needed_is (s.reg (number src)
     let there : region (length s.packet) s.shapes (address a off) 8 ≢ Nowhere = λ e. not_nowhere (592 - 8 * w) (sym r ∙ e) in
     let none = none_elsewhere (length s.packet) s.shapes (address a off) 8 st.packet_size there in
     let plain = subst (λ (o : Outcome). LeadsTo o l u) (plain_load s (address a off) false Double (number dst) none) h in
-    let got = load_is (InStack (592 - 8 * w)) s false Double (number dst) l u (no_counter (592 - 8 * w)) (subst (λ (place : Place). LeadsTo (load_from place s false Double (number dst)) l u) r plain) in
+    let got = load_is (address a off) (InStack (592 - 8 * w)) s false Double (number dst) l u (no_counter (592 - 8 * w)) (subst (λ (place : Place). LeadsTo (load_from (address a off) place s false Double (number dst)) l u) r plain) in
     held_register u (number dst) (number_small dst) ∙ (ap (λ (t : State). t.reg (number dst)) got.done.1 ∙ (put_here s.reg (number dst) (Some got.x) ∙ (sym got.is ∙ sym (held_word s w at.within.first at.within.last))))) h
 
 -- a store to such a word
@@ -252,7 +253,7 @@ no_load : (i : Insn) (s u : State) (low : ℕ) → ((dst src : Register) (off : 
 no_load i s u low differs dst src off w e at = absurd (differs dst src off e)
 
 load_alone : (size : Size) (signed : Bool) (dst src : Register) (off : ℤ) (low : ℕ) (m : Facts) (s : State) (g : ℕ → Option ℕ) (l : Option Op) (u : State) → Describes m u → LeadsTo (exec (Ldx size signed dst src off) s) l u →
-    ((a i j k : ℕ) → s.reg (number src) ≡ Some a → reached s a off (size_bytes size) ≡ InCounter i j k → ⊥) → ((dst' src' : Register) (off' : ℤ) (w : ℕ) → Ldx size signed dst src off ≡ Ldx Double false dst' src' off' → IsWordAt src' off' low w → held u (number dst') ≡ held s w) →
+    ((a i j k : ℕ) → s.reg (number src) ≡ Some a → load_place (length s.packet) s.shapes (address a off) (size_bytes size) ≡ InCounter i j k → ⊥) → ((dst' src' : Register) (off' : ℤ) (w : ℕ) → Ldx size signed dst src off ≡ Ldx Double false dst' src' off' → IsWordAt src' off' low w → held u (number dst') ≡ held s w) →
     Alone (Ldx size signed dst src off) low m s g l u
 load_alone size signed dst src off low m s g l u d h differs load = needed_is (s.reg (number src)) _ l u (λ a e step.
     let got = read_is s (address a off) signed size (number dst) l u (λ i j k at. differs a i j k e at) step in
@@ -273,11 +274,12 @@ own_alone (Const dst value) low n m s g l u o c d h =
 own_alone (MapRef dst k) low n m s g l u o c d h =
     number_alone (MapRef dst k) low m s g l u (s.pc + 2) (number dst) _ (λ j. refl) refl refl d h (no_load (MapRef dst k) s u low (λ a b z e. cc (e))) (written_is s (s.pc + 2) (number dst) _ l u h)
 own_alone (Ldx size signed dst src off) low n m s g l u (inl narrow) c d h =
-    load_alone size signed dst src off low m s g l u d h (λ a i j k e at. narrow (counter_size (length s.packet) s.shapes (address a off) (size_bytes size) i j k at))
-    (λ dst' src' off' w e at. absurd (narrow (ap size_bytes (let same : size ≡ Double = cc (e) in same))))
+    load_alone size signed dst src off low m s g l u d h
+    (λ a i j k e at. narrow.0 (counter_size (length s.packet) s.shapes (address a off) (size_bytes size) i j k (sym (below_values (length s.packet) s.shapes (address a off) (size_bytes size) (narrow.1 a s c e)) ∙ at)))
+    (λ dst' src' off' w e at. absurd (narrow.0 (ap size_bytes (let same : size ≡ Double = cc (e) in same))))
 own_alone (Ldx size signed dst src off) low n m s g l u (inr o) c d h =
     load_alone size signed dst src off low m s g l u d h
-    (λ a i j k e at. no_counter (592 - 8 * o.1.word) i j k (sym (word_reached s src off low o.1.word a c.state o.1.at (o.1.frame s c) e) ∙ (ap (λ (z : ℕ). reached s a off z) (sym (ap size_bytes o.0)) ∙ at)))
+    (λ a i j k e at. no_counter (592 - 8 * o.1.word) i j k (sym (word_reached s src off low o.1.word a c.state o.1.at (o.1.frame s c) e) ∙ (ap (λ (z : ℕ). load_place (length s.packet) s.shapes (address a off) z) (sym (ap size_bytes o.0)) ∙ at)))
     (λ dst' src' off' w e at. own_loaded dst' src' off' low w s l u c.state at (o.1.frame s c) (subst (λ (i : Insn). LeadsTo (exec i s) l u) e h))
 own_alone (St size dst off imm) low n m s g l u o c d h = absurd o
 own_alone (Stx size dst src off) low n m s g l u o c d h =

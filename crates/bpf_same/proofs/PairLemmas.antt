@@ -16,16 +16,17 @@ use Rattle.bpf_note.specs.Bytes.{word_at, higher, bytes_at, before, byte_of, put
 use Rattle.bpf_note.specs.Keys.{key_size}
 use Rattle.bpf_note.specs.declared.key.MapKey.{MapKey}
 use Rattle.bpf_note.specs.declared.key.MapKey.TheVariants.{Index, Listed, Constants}
-use Rattle.bpf_note.specs.Regions.{Place, InPacket, InStack, InContext, InCounter, Nowhere, region}
+use Rattle.bpf_note.specs.Regions.{Place, InPacket, InStack, InContext, InCounter, Nowhere, region, load_place}
 use Rattle.bpf_note.specs.declared.op.Op.{Op}
 use Rattle.bpf_note.specs.declared.op.Op.TheVariants as ops
-use Rattle.bpf_flow.specs.Step.{Outcome, Next, Loads, Adds, Exited, Fault, need, at_slot, with_number, is_frame, written, operand, first_operand, address, reached, loaded, load_from, load_constants, load_at, store_to, add_to, map_at, key_in, value_or_null, after_call, called, looked_up, looked_up_in, row_of, helped, exec, LeadsTo, taken}
+use Rattle.bpf_flow.specs.Step.{Outcome, Next, Loads, Adds, Exited, Fault, need, at_slot, with_number, is_frame, written, operand, first_operand, address, reached, loaded, load_from, load_constants, load_at, store_to, add_to, map_at, key_in, value_or_null, after_call, called, looked_up, looked_up_in, row_of, helped, exec, LeadsTo, taken, part}
 use Rattle.bpf_flow.specs.Graph.{next_slot}
 use Rattle.bpf_flow.proofs.StepLemmas.{no_fault, exited}
 use Rattle.bpf_same.specs.LinearForms.{plus}
 use Rattle.bpf_same.specs.Simulated.{is_jump}
 use Rattle.bpf_same.specs.Stepped.{alters, operand_in, AreAlike, AreShared}
 use Rattle.bpf_same.specs.Moved.{IsMoved}
+use Rattle.bpf_note.proofs.LoadPlaceLemmas.{on_stack}
 
 -- s with another slot, other registers and another stack
 abbrev pub parted : State → ℕ → (ℕ → Option ℕ) → (ℕ → Option ℕ) → State
@@ -181,27 +182,27 @@ module _ (s : State) (p low : ℕ) (g h : ℕ → Option ℕ) (above : (i : ℕ)
   plain_pairs place signed size dst e = need_pairs (Behind (λ j. j == dst) (p + 1) low s g) (loaded s place (size_bytes size)) (loaded (parted s p g h) place (size_bytes size)) _ _ (loaded_same place (size_bytes size) e)
       (λ x k. written_pairs (s.pc + 1) (p + 1) dst (taken signed size x))
 
-  load_pairs : (place : Place) (signed : Bool) (size : Size) (dst : ℕ) → ((j : ℕ) → place ≡ InStack j → low ≤ j) → Pairs (Behind (λ j. j == dst) (p + 1) low s g) (load_from place s signed size dst) (load_from place (parted s p g h) signed size dst)
-  load_pairs (InPacket i) signed size dst e = plain_pairs (InPacket i) signed size dst e
-  load_pairs (InStack i) signed size dst e = plain_pairs (InStack i) signed size dst e
-  load_pairs (InContext i) signed size dst e = plain_pairs (InContext i) signed size dst e
-  load_pairs (InCounter m k j) signed size dst e = by (is_frame dst)
+  load_pairs : (a : ℕ) (place : Place) (signed : Bool) (size : Size) (dst : ℕ) → ((j : ℕ) → place ≡ InStack j → low ≤ j) → Pairs (Behind (λ j. j == dst) (p + 1) low s g) (load_from a place s signed size dst) (load_from a place (parted s p g h) signed size dst)
+  load_pairs a (InPacket i) signed size dst e = plain_pairs (InPacket i) signed size dst e
+  load_pairs a (InStack i) signed size dst e = plain_pairs (InStack i) signed size dst e
+  load_pairs a (InContext i) signed size dst e = plain_pairs (InContext i) signed size dst e
+  load_pairs a (InCounter m k j) signed size dst e = by (is_frame dst)
     where
-      by : (b : Bool) → Pairs (Behind (λ j. j == dst) (p + 1) low s g) (if b then Fault else Loads m k j (λ x. with_number s (s.pc + 1) dst (taken signed size x)))
-          (if b then Fault else Loads m k j (λ x. with_number (parted s p g h) (p + 1) dst (taken signed size x)))
+      by : (b : Bool) → Pairs (Behind (λ j. j == dst) (p + 1) low s g) (if b then Fault else Loads m k j (λ x. with_number s (s.pc + 1) dst (taken signed size (part size a x))))
+          (if b then Fault else Loads m k j (λ x. with_number (parted s p g h) (p + 1) dst (taken signed size (part size a x))))
       by true = tt
-      by false = ((λ x. with_number (parted s p g h) (p + 1) dst (taken signed size x)), refl, λ x. number_behind (s.pc + 1) (p + 1) dst (taken signed size x))
-  load_pairs Nowhere signed size dst e = tt
+      by false = ((λ x. with_number (parted s p g h) (p + 1) dst (taken signed size (part size a x))), refl, λ x. number_behind (s.pc + 1) (p + 1) dst (taken signed size (part size a x)))
+  load_pairs a Nowhere signed size dst e = tt
 
   load_at_pairs : (a : ℕ) (signed : Bool) (size : Size) (dst : ℕ) → ((j : ℕ) → region (length s.packet) s.shapes a (size_bytes size) ≡ InStack j → low ≤ j) →
       Pairs (Behind (λ j. j == dst) (p + 1) low s g) (load_at s a signed size dst) (load_at (parted s p g h) a signed size dst)
   load_at_pairs a signed size dst e = by (are_constants s.shapes a (size_bytes size))
     where
       by : (b : Bool) → Pairs (Behind (λ j. j == dst) (p + 1) low s g)
-          (if b then load_constants s a signed size dst else load_from (region (length s.packet) s.shapes a (size_bytes size)) s signed size dst)
-          (if b then load_constants (parted s p g h) a signed size dst else load_from (region (length s.packet) s.shapes a (size_bytes size)) (parted s p g h) signed size dst)
+          (if b then load_constants s a signed size dst else load_from a (load_place (length s.packet) s.shapes a (size_bytes size)) s signed size dst)
+          (if b then load_constants (parted s p g h) a signed size dst else load_from a (load_place (length s.packet) s.shapes a (size_bytes size)) (parted s p g h) signed size dst)
       by true = written_pairs (s.pc + 1) (p + 1) dst _
-      by false = load_pairs (region (length s.packet) s.shapes a (size_bytes size)) signed size dst e
+      by false = load_pairs a (load_place (length s.packet) s.shapes a (size_bytes size)) signed size dst (λ j at. e j (on_stack (length s.packet) s.shapes a (size_bytes size) j at))
 
   store_pairs : (place : Place) (z x : ℕ) → ((j : ℕ) → place ≡ InStack j → low ≤ j) → Pairs (Behind (λ j. false) (p + 1) low s g) (store_to place s z x) (store_to place (parted s p g h) z x)
   store_pairs (InPacket i) z x e = (

@@ -17,7 +17,7 @@ use Rattle.bpf_note.specs.Shape.{Shape}
 use Rattle.bpf_insn.specs.Size.{size_bytes}
 use Rattle.bpf_insn.specs.declared.size.Size.{Size}
 use Rattle.bpf_note.specs.Regions as regions
-use Rattle.bpf_note.specs.Regions.{InPacket, InStack, InContext, InCounter, Nowhere, region}
+use Rattle.bpf_note.specs.Regions.{InPacket, InStack, InContext, InCounter, Nowhere, region, load_place}
 use Rattle.bpf_note.specs.Constants.{are_constants}
 use Rattle.bpf_note.specs.State.{State, IsState, IsStart, put}
 use Rattle.bpf_note.specs.Parts.{Noted, facts}
@@ -25,7 +25,7 @@ use Rattle.bpf_note.specs.Facts.{Facts, entry}
 use Rattle.bpf_note.specs.Describes.{Describes}
 use Rattle.bpf_note.specs.declared.op.Op.{Op}
 use Rattle.bpf_note.specs.declared.op.Op.TheVariants as ops
-use Rattle.bpf_flow.specs.Step.{Outcome, Next, Loads, Adds, Exited, Fault, need, at_slot, with_number, is_frame, written, operand, first_operand, address, reached, loaded, load_from, load_constants, load_at, store_to, taken, target, jumped, exec, step, LeadsTo, add_to}
+use Rattle.bpf_flow.specs.Step.{Outcome, Next, Loads, Adds, Exited, Fault, need, at_slot, with_number, is_frame, written, operand, first_operand, address, reached, loaded, load_from, load_constants, load_at, store_to, taken, target, jumped, exec, step, LeadsTo, add_to, part}
 use Rattle.bpf_flow.specs.Graph.{next_slot}
 use Rattle.bpf_flow.specs.Edges.{Edges}
 use Rattle.bpf_flow.specs.Sound.{Accounts, Covers}
@@ -173,23 +173,23 @@ written_exits s pc k x r0 e = by (is_frame k) e
     by true e = cc
     by false e = cc
 
-pub load_exits : (place : regions.Place) (s : State) (signed : Bool) (size : Size) (dst r0 : ℕ) → load_from place s signed size dst ≡ Exited r0 → ⊥
-load_exits (InPacket i) s signed size dst r0 e = need_exits (loaded s (InPacket i) (size_bytes size)) _ r0 (λ x e. written_exits s (s.pc + 1) dst (taken signed size x) r0 e) e
-load_exits (InStack i) s signed size dst r0 e = need_exits (loaded s (InStack i) (size_bytes size)) _ r0 (λ x e. written_exits s (s.pc + 1) dst (taken signed size x) r0 e) e
-load_exits (InContext i) s signed size dst r0 e = need_exits (loaded s (InContext i) (size_bytes size)) _ r0 (λ x e. written_exits s (s.pc + 1) dst (taken signed size x) r0 e) e
-load_exits (InCounter m k j) s signed size dst r0 e = by (is_frame dst) e
+pub load_exits : (a : ℕ) (place : regions.Place) (s : State) (signed : Bool) (size : Size) (dst r0 : ℕ) → load_from a place s signed size dst ≡ Exited r0 → ⊥
+load_exits a (InPacket i) s signed size dst r0 e = need_exits (loaded s (InPacket i) (size_bytes size)) _ r0 (λ x e. written_exits s (s.pc + 1) dst (taken signed size x) r0 e) e
+load_exits a (InStack i) s signed size dst r0 e = need_exits (loaded s (InStack i) (size_bytes size)) _ r0 (λ x e. written_exits s (s.pc + 1) dst (taken signed size x) r0 e) e
+load_exits a (InContext i) s signed size dst r0 e = need_exits (loaded s (InContext i) (size_bytes size)) _ r0 (λ x e. written_exits s (s.pc + 1) dst (taken signed size x) r0 e) e
+load_exits a (InCounter m k j) s signed size dst r0 e = by (is_frame dst) e
   where
-    by : (b : Bool) → (if b then Fault else Loads m k j (λ x. with_number s (s.pc + 1) dst (taken signed size x))) ≡ Exited r0 → ⊥
+    by : (b : Bool) → (if b then Fault else Loads m k j (λ x. with_number s (s.pc + 1) dst (taken signed size (part size a x)))) ≡ Exited r0 → ⊥
     by true e = cc
     by false e = cc
-load_exits Nowhere s signed size dst r0 e = cc
+load_exits a Nowhere s signed size dst r0 e = cc
 
 pub load_at_exits : (s : State) (a : ℕ) (signed : Bool) (size : Size) (dst r0 : ℕ) → load_at s a signed size dst ≡ Exited r0 → ⊥
 load_at_exits s a signed size dst r0 e = by (are_constants s.shapes a (size_bytes size)) e
   where
-    by : (b : Bool) → (if b then load_constants s a signed size dst else load_from (regions.region (length s.packet) s.shapes a (size_bytes size)) s signed size dst) ≡ Exited r0 → ⊥
+    by : (b : Bool) → (if b then load_constants s a signed size dst else load_from a (load_place (length s.packet) s.shapes a (size_bytes size)) s signed size dst) ≡ Exited r0 → ⊥
     by true e = written_exits s (s.pc + 1) dst _ r0 e
-    by false e = load_exits (regions.region (length s.packet) s.shapes a (size_bytes size)) s signed size dst r0 e
+    by false e = load_exits a (load_place (length s.packet) s.shapes a (size_bytes size)) s signed size dst r0 e
 
 store_exits : (place : regions.Place) (s : State) (z x r0 : ℕ) → store_to place s z x ≡ Exited r0 → ⊥
 store_exits (InPacket i) s z x r0 e = cc
@@ -350,25 +350,25 @@ record LoadedAlone (i : Insn) (low : ℕ) (m : Facts) (s : State) (g : ℕ → O
   stack : (j : ℕ) → u.stack j ≡ s.stack j
   stepped : Stepped i true low m (held s) g (held u) g
 
-load_written : (place : regions.Place) (s u : State) (dst : ℕ) (l : Option Op) → LeadsTo (load_from place s false Double dst) l u → (x : ℕ) × (u ≡ with_number s (s.pc + 1) dst x)
-load_written (InCounter m k j) s u dst l h = by (is_frame dst) l h
+load_written : (a : ℕ) (place : regions.Place) (s u : State) (dst : ℕ) (l : Option Op) → LeadsTo (load_from a place s false Double dst) l u → (x : ℕ) × (u ≡ with_number s (s.pc + 1) dst x)
+load_written a (InCounter m k j) s u dst l h = by (is_frame dst) l h
   where
     by : (b : Bool) (l : Option Op) → LeadsTo (if b then Fault else Loads m k j (λ x. with_number s (s.pc + 1) dst x)) l u → (x : ℕ) × (u ≡ with_number s (s.pc + 1) dst x)
     by true l h = absurd (no_fault l u h)
     by false None h = absurd h
     by false (Some (ops.Load m' k' j' v)) h = (v, sym h.4)
     by false (Some (ops.Add m' k' j' d v)) h = absurd h
-load_written (InPacket i) s u dst l h = let a = load_is (InPacket i) s false Double dst l u (λ m k j e. cc (e)) h in (a.x, a.done.1)
-load_written (InStack i) s u dst l h = let a = load_is (InStack i) s false Double dst l u (λ m k j e. cc (e)) h in (a.x, a.done.1)
-load_written (InContext i) s u dst l h = let a = load_is (InContext i) s false Double dst l u (λ m k j e. cc (e)) h in (a.x, a.done.1)
-load_written Nowhere s u dst l h = absurd (no_fault l u h)
+load_written a (InPacket i) s u dst l h = let r = load_is a (InPacket i) s false Double dst l u (λ m k j e. cc (e)) h in (r.x, r.done.1)
+load_written a (InStack i) s u dst l h = let r = load_is a (InStack i) s false Double dst l u (λ m k j e. cc (e)) h in (r.x, r.done.1)
+load_written a (InContext i) s u dst l h = let r = load_is a (InContext i) s false Double dst l u (λ m k j e. cc (e)) h in (r.x, r.done.1)
+load_written a Nowhere s u dst l h = absurd (no_fault l u h)
 
 load_at_written : (s u : State) (a dst : ℕ) (l : Option Op) → LeadsTo (load_at s a false Double dst) l u → (x : ℕ) × (u ≡ with_number s (s.pc + 1) dst x)
 load_at_written s u a dst l h = by (are_constants s.shapes a 8) h
   where
-    by : (b : Bool) → LeadsTo (if b then load_constants s a false Double dst else load_from (region (length s.packet) s.shapes a 8) s false Double dst) l u → (x : ℕ) × (u ≡ with_number s (s.pc + 1) dst x)
+    by : (b : Bool) → LeadsTo (if b then load_constants s a false Double dst else load_from a (load_place (length s.packet) s.shapes a 8) s false Double dst) l u → (x : ℕ) × (u ≡ with_number s (s.pc + 1) dst x)
     by true h = let w = written_is s (s.pc + 1) dst _ l u h in (_, w.1)
-    by false h = load_written (region (length s.packet) s.shapes a 8) s u dst l h
+    by false h = load_written a (load_place (length s.packet) s.shapes a 8) s u dst l h
 
 load_alone : (low : ℕ) (m : Facts) (dst src : Register) (off : ℤ) (s u : State) (g : ℕ → Option ℕ) (l : Option Op) → (src ≡ R10 → ⊥) → Describes m u → LeadsTo (exec (Ldx Double false dst src off) s) l u → LoadedAlone (Ldx Double false dst src off) low m s g u
 load_alone low m dst src off s u g l other d h =

@@ -8,7 +8,7 @@ use Rattle.bpf_insn.specs.Size.{size_bytes}
 use Rattle.bpf_insn.specs.declared.insn.Insn.{Insn}
 use Rattle.bpf_insn.specs.declared.insn.Insn.TheVariants.{Alu, Neg, End, MovSx, Const, MapRef, Ldx}
 use Rattle.bpf_note.specs.State.{State}
-use Rattle.bpf_note.specs.Regions.{InCounter}
+use Rattle.bpf_note.specs.Regions.{InCounter, HaveNoParts}
 use Rattle.bpf_note.specs.declared.op.Op.{Op}
 use Rattle.bpf_note.specs.declared.op.Op.TheVariants.{Load, Add}
 use Rattle.bpf_flow.specs.Graph.{Leads, reads}
@@ -86,6 +86,7 @@ pub record ReachesAddition (plan : Plan) (base : Register) (off : ℤ) (same cou
   pub walk : Walk plan.new r0 bytes after rest
   pub shorter : length rest < length labels
   pub did : operations labels ≡ Add m k j delta found ∷ operations rest
+  pub shapes : after.shapes ≡ s.shapes
   pub outside : IsOutside plan after.pc
   pub small : found < 2 ^ 64
   pub address : ℕ
@@ -94,9 +95,9 @@ pub record ReachesAddition (plan : Plan) (base : Register) (off : ℤ) (same cou
   pub old_walk : (t : State) → Shadows s t → Alike same s.reg t.reg → Ahead counted found s.reg t.reg → (effects : List Effect) →
       IsWalked plan r0 bytes after effects → StoringWalk plan.old r0 bytes t (Stores m k j ((found + delta) % 2 ^ 64) ∷ effects)
 
--- from slot p on, inside a count, with these registers alike and those ahead
+-- from slot p on, inside a count, with these registers alike and those ahead, where counters are loaded whole
 abbrev pub IsInside : Plan → Register → ℤ → ℕ → ℕ → ℕ → Type 0
-IsInside plan base off p same counted = (s : State) → s.pc ≡ p → (r0 : ℕ) (bytes : List ℕ) (labels : List (Option Op)) →
+IsInside plan base off p same counted = (s : State) → HaveNoParts s.shapes → s.pc ≡ p → (r0 : ℕ) (bytes : List ℕ) (labels : List (Option Op)) →
     Walk plan.new r0 bytes s labels → ReachesAddition plan base off same counted s r0 bytes labels
 
 -- a walk of the new program reaches the addition of a count from its load, and goes on from the state after it; the old program
@@ -112,13 +113,14 @@ pub record Counted (plan : Plan) (s : State) (r0 : ℕ) (bytes : List ℕ) (labe
   pub walk : Walk plan.new r0 bytes after rest
   pub shorter : length rest < length labels
   pub did : operations labels ≡ Add m k j delta found ∷ operations rest
+  pub shapes : after.shapes ≡ s.shapes
   pub outside : IsOutside plan after.pc
   pub old_walk : (t : State) → Shadows s t → Alike (live_at plan s.pc) s.reg t.reg → (effects : List Effect) → IsWalked plan r0 bytes after effects →
       StoringWalk plan.old r0 bytes t (Does (Load m k j found) ∷ Stores m k j ((found + delta) % 2 ^ 64) ∷ effects)
 
--- a count begins at slot p
+-- a count begins at slot p, where counters are loaded whole
 abbrev pub IsCount : Plan → ℕ → Type 0
-IsCount plan p = (s : State) → s.pc ≡ p → (r0 : ℕ) (bytes : List ℕ) (labels : List (Option Op)) → Walk plan.new r0 bytes s labels →
+IsCount plan p = (s : State) → HaveNoParts s.shapes → s.pc ≡ p → (r0 : ℕ) (bytes : List ℕ) (labels : List (Option Op)) → Walk plan.new r0 bytes s labels →
     Counted plan s r0 bytes labels
 
 -- what the plan says holds

@@ -18,11 +18,11 @@ use Rattle.bpf_insn.specs.declared.insn.Insn.{Insn}
 use Rattle.bpf_insn.specs.declared.insn.Insn.TheVariants.{Alu, Neg, End, MovSx, Const, MapRef, Ldx, St, Stx, AddCounter, Ja, Jump, Call, Exit, Second}
 use Rattle.bpf_note.specs.declared.val.Val.{Val}
 use Rattle.bpf_note.specs.declared.val.Val.TheVariants.{Num, Pkt, PktEnd}
-use Rattle.bpf_note.specs.State.{State, packet_start, stack_end}
+use Rattle.bpf_note.specs.State.{State, packet_start, stack_end, values_start}
 use Rattle.bpf_note.specs.Regions.{InStack, region}
 use Rattle.bpf_note.specs.Facts.{Facts, packet_id}
 use Rattle.bpf_note.specs.Describes.{Describes}
-use Rattle.bpf_flow.specs.Step.{first_operand, reached}
+use Rattle.bpf_flow.specs.Step.{address, first_operand, reached}
 use Rattle.bpf_same.specs.declared.linear_form.LinearForm.{LinearForm}
 use Rattle.bpf_same.specs.declared.relation.Relation.{Relation}
 use Rattle.bpf_same.specs.declared.room.Room.{Room}
@@ -254,6 +254,10 @@ pub record IsOwnAccess (base : Register) (off : ℤ) (low : ℕ) (n : Facts) : T
   pub at : IsWordAt base off low word
   pub frame : (s : State) → Describes n s → s.reg 10 ≡ Some stack_end
 
+-- where this is known, an access lies below the maps' values
+abbrev pub IsBelowValues : Register → ℤ → Facts → Type 0
+IsBelowValues base off n = (a : ℕ) (s : State) → Describes n s → s.reg (number base) ≡ Some a → address a off < values_start
+
 -- the instruction writes a register, or a word of the new program's own, and does nothing else
 abbrev pub IsOwnStep : Insn → ℕ → Facts → Type 0
 IsOwnStep (Alu op wide dst src) low n = Unit {0}
@@ -262,7 +266,7 @@ IsOwnStep (End kind width dst) low n = Unit {0}
 IsOwnStep (MovSx wide bits dst src) low n = Unit {0}
 IsOwnStep (Const dst value) low n = Unit {0}
 IsOwnStep (MapRef dst m) low n = Unit {0}
-IsOwnStep (Ldx size signed dst src off) low n = (size_bytes size ≡ 8 → ⊥) ⊎ (size ≡ Double) × IsOwnAccess src off low n
+IsOwnStep (Ldx size signed dst src off) low n = ((size_bytes size ≡ 8 → ⊥) × IsBelowValues src off n) ⊎ (size ≡ Double) × IsOwnAccess src off low n
 IsOwnStep (Stx size dst src off) low n = (size ≡ Double) × IsOwnAccess dst off low n
 IsOwnStep i low n = ⊥
 

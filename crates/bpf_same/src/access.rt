@@ -1,11 +1,12 @@
 //! What instructions touch of memory, and what they read.
-ghost use Rattle.std.specs.Prelude.{◌≡◌, ◌<◌, ◌≤◌, ◌≤ℤ◌, ◌+ℤ◌, pos, ℕ, Option, IsTrue, IfSome};
+ghost use Rattle.std.specs.Prelude.{◌≡◌, ◌+◌, ◌<◌, ◌≤◌, ◌⊎◌, ◌≤ℤ◌, ◌+ℤ◌, pos, ℕ, Option, IsTrue, IfSome};
 ghost use Rattle.bpf_insn.specs.Register.{number};
+ghost use Rattle.bpf_insn.specs.Size.{size_bytes};
 ghost use Rattle.bpf_note.specs.Describes.{Describes};
 ghost use Rattle.bpf_note.specs.Parts.{facts};
 ghost use Rattle.bpf_note.specs.State.{State, constants_start, values_start};
 ghost use Rattle.bpf_same.specs.LinearForms.{Hold};
-ghost use Rattle.bpf_same.specs.Stepped.{IsAbove, IsOwnAccess, IsOwnStep, ReadsAlike, Shares, operand_in};
+ghost use Rattle.bpf_same.specs.Stepped.{IsAbove, IsBelowValues, IsOwnAccess, IsOwnStep, ReadsAlike, Shares, operand_in};
 
 use crate::relation::Relation;
 use crate::step::own_word;
@@ -22,9 +23,9 @@ fn is_at_least(low: u32, at: i16, off: i16) -> bool
 /// The first address past the constants of all maps.
 const CONSTANTS_END: u64 = CONSTANTS_START + 16 * CONSTANTS_STRIDE;
 
-/// Returns whether all numbers of a range are addresses of constants. So no offset leads from there to the stack.
+/// Returns whether all numbers of a range are addresses of constants. So no offset leads from there to the stack or to the maps' values.
 fn are_of_constants(lo: u64, hi: u64) -> bool
-    ensures { IsTrue result → (constants_start ≤ lo) × (hi < values_start) }
+    ensures { IsTrue result → (constants_start ≤ lo) × (hi + 0x8000 < values_start) }
 {
     CONSTANTS_START <= lo && hi < CONSTANTS_END
 }
@@ -40,6 +41,19 @@ fn is_above(note: &Note, base: Register, off: i16, low: u32) -> bool
         Val::Value { .. } => true,
         Val::Num { lo, hi } if are_of_constants(lo, hi) => true,
         _ => low == 0,
+    }
+}
+
+/// Returns whether an access lies below the maps' values.
+fn is_below_values(note: &Note, base: Register, off: i16) -> bool
+    ensures { IsTrue result → IsBelowValues base off (facts note.now) }
+{
+    match note.register(base.number()) {
+        Val::Stack { .. } => true,
+        Val::Pkt { .. } => true,
+        Val::Ctx => true,
+        Val::Num { lo, hi } => are_of_constants(lo, hi),
+        _ => false,
     }
 }
 
@@ -63,6 +77,16 @@ fn is_own_access(base: Register, off: i16, note: &Note, low: u32) -> bool
     own_word(base, off, low).is_some() && matches!(note.register(10), Val::Stack { off: 0 })
 }
 
+/// Returns whether a load is of one of the new program's own words, or of fewer than eight bytes below the maps' values.
+fn loads_no_counter(size: Size, base: Register, off: i16, note: &Note, low: u32) -> bool
+    ensures { IsTrue result → ((size_bytes size ≡ 8 → ⊥) × IsBelowValues base off (facts note.now)) ⊎ (size ≡ Size.Double) × IsOwnAccess base off low (facts note.now) }
+{
+    match size {
+        Size::Double => is_own_access(base, off, note, low),
+        Size::Byte | Size::Half | Size::Word => is_below_values(note, base, off),
+    }
+}
+
 /// Returns whether an instruction of the new program's own writes a register, or a word of its own, and does nothing else.
 pub(crate) fn is_own_step(insn: Insn, note: &Note, low: u32) -> bool
     ensures { IsTrue result → IsOwnStep insn low (facts note.now) }
@@ -74,13 +98,7 @@ pub(crate) fn is_own_step(insn: Insn, note: &Note, low: u32) -> bool
         | Insn::MovSx { .. }
         | Insn::Const { .. }
         | Insn::MapRef { .. } => true,
-        Insn::Ldx {
-            size: Size::Double,
-            src,
-            off,
-            ..
-        } => is_own_access(src, off, note, low),
-        Insn::Ldx { .. } => true,
+        Insn::Ldx { size, src, off, .. } => loads_no_counter(size, src, off, note, low),
         Insn::Stx {
             size: Size::Double,
             dst,

@@ -7,6 +7,7 @@ ghost use Rattle.bpf_insn.specs.declared.size.Size.TheVariants as sizes;
 ghost use Rattle.bpf_flow.specs.Graph.{next_slot};
 ghost use Rattle.bpf_note.specs.Shape.{Shape};
 ghost use Rattle.bpf_same.specs.Counts.{IsSameByCounts};
+ghost use Rattle.bpf_note.specs.Regions.{HaveNoParts};
 ghost use Rattle.bpf_same.specs.Fused.{AreFused, IsCount, IsInside, IsLoaded, IsOutside, IsShared, IsStep, Leaves, AllowsWays, Plan, ReadsWithin, live_at};
 ghost use Rattle.bpf_same.specs.Plans.{plan_of};
 ghost use Rattle.bpf_same.specs.Same.{IsSame};
@@ -274,7 +275,8 @@ impl Draft<'_> {
     }
 }
 
-/// Where the counts of an old program are additions in another one that has the runs of a new one, the new one's runs are the old one's by counts.
+/// Where the counts of an old program are additions in another one that has the runs of a new one, and counters are loaded whole, the
+/// new one's runs are the old one's by counts.
 pub(crate) fn same_by_counts()
-    ensures { (plan : Plan) (shapes : List Shape) (new : List Insn) → AreFused plan → IsSame shapes plan.new new → IsSameByCounts shapes plan.old new }
+    ensures { (plan : Plan) (shapes : List Shape) (new : List Insn) → HaveNoParts shapes → AreFused plan → IsSame shapes plan.new new → IsSameByCounts shapes plan.old new }
 {}

@@ -1,6 +1,7 @@
 //! Whether an accepted program has the runs of another one.
 ghost use Rattle.std.specs.Prelude.{◌≡◌, ◌≢◌, ◌⊎◌, ◌<◌, ◌≤◌, length, IfOk, IfSome, IsTrue};
 ghost use Rattle.bpf_verify.specs.Consistent.{IsConsistent};
+ghost use Rattle.bpf_note.specs.Regions.{HaveNoParts};
 ghost use Rattle.bpf_same.specs.Alone.{IsSameAlone};
 ghost use Rattle.bpf_same.specs.Counts.{IsSameByCounts, IsWholeByCounts};
 ghost use Rattle.bpf_same.specs.Renumbered.{IsRenumbering};
@@ -144,6 +145,18 @@ fn obstacle_to(
     simulation.first_obstacle(alloc, new, shapes)
 }
 
+/// Returns whether all counters are loaded whole.
+fn have_no_parts(shapes: &[MapShape]) -> bool
+    ensures { IsTrue result → HaveNoParts shapes.now }
+{
+    for shape in shapes {
+        if shape.has_parts() {
+            return false;
+        }
+    }
+    true
+}
+
 /// Returns whether the old program's runs are the new one's by counts.
 fn is_shown_by_counts(
     alloc: Global,
@@ -160,6 +173,9 @@ fn is_shown_by_counts(
     same_by_counts();
     let code = fusion.code.as_slice();
     if code.len() > old.len() {
+        return Ok(false);
+    }
+    if !have_no_parts(shapes) {
         return Ok(false);
     }
     let live = live_registers(alloc, code)?;

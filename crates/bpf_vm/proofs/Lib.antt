@@ -1,5 +1,6 @@
 mod ByteLemmas
 mod RegionLemmas
+mod PartLemmas
 mod FindLemmas
 mod ConstantLemmas
 pub mod ExecuteLemmas

@@ -4,7 +4,7 @@ ghost use Rattle.bpf_lists.specs.Find.{find_in, found_in, listed_in};
 ghost use Rattle.bpf_lists.specs.declared.list.MapList.TheVariants.{Rows};
 ghost use Rattle.bpf_note.specs.Bytes.{bytes_at, number_of};
 ghost use Rattle.bpf_note.specs.Keys.{key_size};
-ghost use Rattle.bpf_note.specs.Regions.{region, map_near, map_offset, InCounter};
+ghost use Rattle.bpf_note.specs.Regions.{load_place, map_near, map_offset, InCounter};
 ghost use Rattle.bpf_note.specs.Shape.{Shape, most_maps};
 ghost use Rattle.bpf_flow.specs.Step.{looked_up, row_of, value_or_null};
 ghost use Rattle.bpf_vm.specs.Running.{machine_state, Advances, ComesTo, IsInCounter};
@@ -94,14 +94,13 @@ pub(crate) fn listed_in(list: &MapList, key: &[u8]) -> Option<u64>
 }
 
 impl<'p, 'b> Machine<'p, 'b> {
-    /// The map, the value and the counter that lie at an address.
+    /// The map, the value and the counter in which the byte at an address lies.
     pub(crate) fn counter_at(&self, address: u64) -> (u32, u32, u32)
         requires few { length self.now.shapes.now ≤ most_maps }
-        requires there { IsInCounter (region (length self.now.packet.bytes) self.now.shapes.now address 8) }
-        ensures { region (length self.now.packet.bytes) self.now.shapes.now address 8 ≡ InCounter result.0 result.1 result.2 }
+        requires there { (bytes : ℕ) × IsInCounter (load_place (length self.now.packet.bytes) self.now.shapes.now address bytes) }
+        ensures { (bytes : ℕ) → IsInCounter (load_place (length self.now.packet.bytes) self.now.shapes.now address bytes) →
+            load_place (length self.now.packet.bytes) self.now.shapes.now address bytes ≡ InCounter result.0 result.1 result.2 }
     {
-        // Only the proof uses what this call ensures: a packet is short.
-        let _packet = self.packet.bytes();
         let at = address - VALUES_START;
         let m = map_near(at);
         let shape = &self.shapes[m as usize];

@@ -1,7 +1,7 @@
 //! `outside_rows`: answers the questions of standard input, one per line, by this product's functions. What it has to
 //! write, the file `stdout`, is what Xen's headers, LLVM's assembler and Linux's interpreter answered.
 //!
-//! - `constants`, `instructions`, `grants`, `lists`, `rings`, `slots`: questions by their matter; `numbers`: the numbers in one
+//! - `constants`, `instructions`, `grants`, `lists`, `parts`, `rings`, `slots`: questions by their matter; `numbers`: the numbers in one
 #![tactic(auto)]
 
 mod constants;
@@ -9,6 +9,7 @@ mod grants;
 mod instructions;
 mod lists;
 mod numbers;
+mod parts;
 mod rings;
 mod slots;
 
@@ -31,6 +32,9 @@ fn answer(alloc: Global, question: &str) -> Result<Option<String>, AllocError> {
         return Ok(Some(text));
     }
     if let Some(text) = constants::answer(alloc, kind, rest)? {
+        return Ok(Some(text));
+    }
+    if let Some(text) = parts::answer(alloc, kind, rest)? {
         return Ok(Some(text));
     }
     instructions::answer(alloc, kind, rest)

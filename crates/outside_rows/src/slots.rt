@@ -2,7 +2,7 @@
 
 use crate::numbers::numbers;
 use std::alloc::{AllocError, Global};
-use xen_netif::{Extra, RxFlags, RxReq, RxRsp, Status, TxFlags, TxReq, TxRsp};
+use xen_netif::{Extra, GsoExtra, GsoType, RxFlags, RxReq, RxRsp, Status, TxFlags, TxReq, TxRsp};
 
 fn tx_request(alloc: Global, words: [u32; 3]) -> Result<String, AllocError> {
     let request = TxReq::of_words(words);
@@ -62,6 +62,23 @@ fn extra(alloc: Global, words: [u32; 3]) -> Result<String, AllocError> {
     }
 }
 
+fn segments(alloc: Global, words: [u32; 3]) -> Result<String, AllocError> {
+    let Some(extra) = GsoExtra::of_words(words) else {
+        return format!(in alloc; "none");
+    };
+    let [first, second, _] = extra.words();
+    let GsoExtra {
+        size,
+        kind,
+        features,
+        ..
+    } = extra;
+    match GsoType::of_number(kind) {
+        Some(name) => format!(in alloc; "{size} {kind} {name:?} {features}, {first} {second}"),
+        None => format!(in alloc; "{size} {kind} none {features}, {first} {second}"),
+    }
+}
+
 fn statuses(alloc: Global) -> Result<String, AllocError> {
     let dropped = Status::Dropped.code();
     let error = Status::Error.code();
@@ -90,6 +107,7 @@ pub fn answer(alloc: Global, kind: &str, rest: &str) -> Result<Option<String>, A
         "rx-flags" => rx_flags(alloc, bits)?,
         "statuses" => statuses(alloc)?,
         "extra" => extra(alloc, [a, b, c])?,
+        "segments" => segments(alloc, [a, b, c])?,
         _ => return Ok(None),
     }))
 }

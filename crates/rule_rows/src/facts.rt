@@ -100,6 +100,10 @@ fn shape(text: &str) -> Option<MapShape> {
             let (entries, counters) = size(text)?;
             MapShape::of(entries, counters)
         }
+        Some((text, "parts")) => {
+            let (entries, counters) = size(text)?;
+            Some(MapShape::of(entries, counters)?.with_parts())
+        }
         Some((text, list)) => {
             let (entries, counters) = size(text)?;
             MapShape::keyed(key(list)?, entries, counters)
@@ -108,7 +112,8 @@ fn shape(text: &str) -> Option<MapShape> {
 }
 
 /// The maps that a row begins with, as `2x1` for one of two entries of one counter, or `2x1:exact6` if they are looked up by a
-/// list of keys of six bytes, or `1x1:constants64` for constants, and what comes after them.
+/// list of keys of six bytes, `1x1:constants64` for constants, or `1x1:parts` if its counters may be loaded in parts, and what comes
+/// after them.
 pub fn maps(alloc: Global, text: &str) -> Option<(Vec<MapShape>, &str)> {
     let mut shapes = Vec::new(alloc);
     match text.strip_prefix("maps=") {

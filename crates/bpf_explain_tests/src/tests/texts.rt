@@ -2,7 +2,7 @@
 use crate::printed::{advice_by, note_of, text};
 use bpf_explain::advice_for;
 use bpf_insn::{Cause, Insn, Refusal, Register, Size};
-use bpf_note::{PACKET_ID, Val};
+use bpf_note::{MapShape, PACKET_ID, Val};
 use std::alloc::Global;
 
 #[rattlefmt::skip]
@@ -177,6 +177,34 @@ fn advice_by_the_values(rt: HostRuntime) {
     for (cause, insn, values, wanted) in rows {
         assert_eq!(rt; advice_by(rt.alloc(), cause, insn, values), wanted);
     }
+}
+
+/// Whether this is the advice for a refused load of four bytes of a value, over a map of this shape.
+fn is_advice_for_a_load(alloc: Global, shape: MapShape, wanted: &str) -> bool {
+    let note = note_of(alloc, &[(0, Val::Value { m: 0 })]);
+    advice_for(&[shape], Cause::MapAccess, Some(LOAD), Some(&note)) == wanted
+}
+
+/// Whether it is as it should be where counters are loaded whole, and where a load may take a part.
+fn has_advice_for_loads(alloc: Global) -> Option<[bool; 2]> {
+    let whole = MapShape::of(2, 3)?;
+    Some([
+        is_advice_for_a_load(
+            alloc,
+            whole,
+            "load eight bytes, unsigned, at 8*j of the value, j below its number of counters",
+        ),
+        is_advice_for_a_load(
+            alloc,
+            whole.with_parts(),
+            "load 1, 2, 4 or 8 bytes that lie within one counter of the value",
+        ),
+    ])
+}
+
+#[test]
+fn loads_of_counters(rt: HostRuntime) {
+    assert_eq!(rt; has_advice_for_loads(rt.alloc()), Some([true, true]));
 }
 
 /// Whether a listing of 101 slots has its numbers in a column, up to the refused one at the end.

@@ -215,3 +215,56 @@ fn constants_that_a_list_lacks_are_0(rt: HostRuntime) {
     );
     assert_eq!(rt; read(alloc, 0x61, 0x3800_0000, 4, &[]), Some(0));
 }
+
+/// The number that a load of a part of a counter gives, where the counter holds `number`: `opcode` is that of the load, at `off` from a
+/// value of two counters.
+fn read_part(alloc: Global, opcode: u8, off: u8, number: u64) -> Option<(VmWant, Option<u32>)> {
+    #[rattlefmt::skip]
+    let slots = [
+        [0x62, 0x0a, 0xfc, 0xff, 0, 0, 0, 0], // *(u32 *)(r10 - 4) = 0
+        [0xbf, 0xa2, 0, 0, 0, 0, 0, 0], // r2 = r10
+        [7, 2, 0, 0, 0xfc, 0xff, 0xff, 0xff], // r2 += -4
+        [0x18, 0x11, 0, 0, 0, 0, 0, 0], // r1 = map 0
+        [0, 0, 0, 0, 0, 0, 0, 0], // its second slot
+        [0x85, 0, 0, 0, 1, 0, 0, 0], // call 1
+        [0x55, 0, 1, 0, 0, 0, 0, 0], // if r0 != 0 goto +1
+        [0x95, 0, 0, 0, 0, 0, 0, 0], // exit
+        [opcode, 0, off, 0, 0, 0, 0, 0], // r0 = *(..)(r0 + off)
+        [0x95, 0, 0, 0, 0, 0, 0, 0], // exit
+    ];
+    let shape = MapShape::of(1, 2)?.with_parts();
+    let (program, mut buffer) = ready(alloc, &slots, &[shape])?;
+    let mut vm = Vm::start(&program, PacketBuf::empty(&mut buffer), 0, 0, &[]);
+    match vm.advance() {
+        VmWant::Load { m, k, j } => {
+            vm.loaded(number);
+            Some((VmWant::Load { m, k, j }, number_at_exit(vm)))
+        }
+        _ => None,
+    }
+}
+
+#[test]
+fn a_part_of_a_counter_is_loaded_with_all_of_it(rt: HostRuntime) {
+    let alloc = rt.alloc();
+    let number = 0x8877_6655_4433_2211;
+    let rows = [
+        (0x71, 0, 0, Some(0x11)),
+        (0x71, 15, 1, Some(0x88)),
+        (0x69, 2, 0, Some(0x4433)),
+        (0x69, 11, 1, Some(0x5544)),
+        (0x61, 4, 0, Some(0x8877_6655)),
+        (0x61, 9, 1, Some(0x5544_3322)),
+        (0x91, 7, 0, Some(0xffff_ff88)),
+        (0x79, 8, 1, Some(0x4433_2211)),
+    ];
+    for (opcode, off, j, taken) in rows {
+        let wanted = VmWant::Load { m: 0, k: 0, j };
+        assert_eq!(rt;
+            read_part(alloc, opcode, off, number),
+            Some((wanted, taken))
+        );
+    }
+    assert_eq!(rt; read_part(alloc, 0x61, 5, number), None);
+    assert_eq!(rt; read_part(alloc, 0x71, 16, number), None);
+}

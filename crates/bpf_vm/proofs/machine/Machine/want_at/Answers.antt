@@ -1,8 +1,7 @@
-use Rattle.std.proofs.Common.{arith, ap, sym, ◌∙◌, length, ℕ, Bool, subst, refl}
+use Rattle.std.proofs.Common.{arith, ap, sym, length, Bool, subst, refl}
 use Rattle.bpf_insn.specs.Size.{size_bytes}
 use Rattle.bpf_insn.specs.declared.size.Size.{Size}
-use Rattle.bpf_note.specs.Regions.{Place, region}
-use Rattle.bpf_vm.specs.Running.{IsInCounter}
+use Rattle.bpf_note.specs.Regions.{Place, load_place}
 use Rattle.bpf_vm.specs.Wants.{IsWantAt, IsWantOf}
 use Rattle.bpf_vm.specs.declared.want.VmWant.{VmWant}
 use Rattle.bpf_vm.specs.declared.want.VmWant.TheVariants.{Load}
@@ -16,7 +15,7 @@ counter_at-m-requires-clause-there c =
     let shapes = c.args.self.now.shapes.now in
     let size = c.requires.there.0 in
     let p = counter_above len shapes c.args.address (size_bytes size) (omega (arith, c.bytes-packet.ensures.short, ap length c.bytes-packet.ensures.same)) (some_bytes size) (omega arith) (somewhere_above len shapes c.args.address (size_bytes size) (some_bytes size) (omega arith) c.requires.there.1) in
-    subst (λ (z : ℕ). IsInCounter (region len shapes c.args.address z)) p.0 p.1
+    (size_bytes size, p)
 
 pub returns-then-address-lt-VALUES_START : goal.returns-then-address-lt-VALUES_START
 returns-then-address-lt-VALUES_START c = λ (size : Size) there. wanted_below (length c.args.self.now.packet.bytes) c.args.self.now.shapes.now c.args.address (size_bytes size) (omega arith) there
@@ -26,7 +25,7 @@ returns-else-address-lt-VALUES_START c = λ (size : Size) there.
     let len = length c.args.self.now.packet.bytes in
     let shapes = c.args.self.now.shapes.now in
     let p = counter_above len shapes c.args.address (size_bytes size) (omega (arith, c.bytes-packet.ensures.short, ap length c.bytes-packet.ensures.same)) (some_bytes size) (omega arith) (somewhere_above len shapes c.args.address (size_bytes size) (some_bytes size) (omega arith) there) in
-    let at = ap (λ (z : ℕ). region len shapes c.args.address z) p.0 ∙ c.counter_at-m.ensures in
+    let at = c.counter_at-m.ensures (size_bytes size) p in
     let want : VmWant = Load c.counter_at-m.result.0 c.counter_at-m.result.1 c.counter_at-m.result.2 in
     let plain = plain_above shapes c.args.address (size_bytes size) (some_bytes size) (omega arith) in
-    subst (λ (b : Bool). IsWantOf b (region len shapes c.args.address (size_bytes size)) want) (sym plain) (subst (λ (q : Place). IsWantAt q want) (sym at) (refl, refl, refl))
+    subst (λ (b : Bool). IsWantOf b (load_place len shapes c.args.address (size_bytes size)) want) (sym plain) (subst (λ (q : Place). IsWantAt q want) (sym at) (refl, refl, refl))

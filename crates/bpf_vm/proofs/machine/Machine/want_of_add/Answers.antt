@@ -16,7 +16,7 @@ counter_at-m-requires-clause-there c =
     let s = machine_state add.0 i.self.now in
     let fits : FitsSigned w16 i.off = search rules in
     let there : (a : ℕ) × (slice_get i.self.now.registers (number i.dst) ≡ Some a) × (c.address.result ≡ address a i.off) = simp to_z-of_z at c.address.ensures.there in
-    subst (λ (a : ℕ). IsInCounter (region (length i.self.now.packet.bytes) i.self.now.shapes.now a 8)) (sym there.2) (add_there s add.1 i.dst i.src i.off there.0 c.register-delta.result there.1 c.register-delta.ensures add.2)
+    (8, subst (λ (a : ℕ). IsInCounter (region (length i.self.now.packet.bytes) i.self.now.shapes.now a 8)) (sym there.2) (add_there s add.1 i.dst i.src i.off there.0 c.register-delta.result there.1 c.register-delta.ensures add.2))
 
 pub returns-clause-want : goal.returns-clause-want
 returns-clause-want c = λ (pc : ℕ) (fetch : Bool) fine.
@@ -25,5 +25,5 @@ returns-clause-want c = λ (pc : ℕ) (fetch : Bool) fine.
     let fits : FitsSigned w16 i.off = search rules in
     let there : (a : ℕ) × (slice_get i.self.now.registers (number i.dst) ≡ Some a) × (c.address.result ≡ address a i.off) = simp to_z-of_z at c.address.ensures.there in
     let r = c.counter_at-m.result in
-    let at = subst (λ (a : ℕ). region (length i.self.now.packet.bytes) i.self.now.shapes.now a 8 ≡ InCounter r.0 r.1 r.2) there.2 c.counter_at-m.ensures in
+    let at = subst (λ (a : ℕ). region (length i.self.now.packet.bytes) i.self.now.shapes.now a 8 ≡ InCounter r.0 r.1 r.2) there.2 (c.counter_at-m.ensures 8 (subst (λ (a : ℕ). IsInCounter (region (length i.self.now.packet.bytes) i.self.now.shapes.now a 8)) (sym there.2) (add_there s fetch i.dst i.src i.off there.0 c.register-delta.result there.1 c.register-delta.ensures fine))) in
     want_of_add s fetch i.dst i.src i.off there.0 c.register-delta.result r.0 r.1 r.2 there.1 c.register-delta.ensures at fine
