@@ -13,7 +13,8 @@ use Rattle.bpf_maps.specs.declared.view.Part.{Part}
 use Rattle.bpf_maps.specs.declared.view.View.{View}
 use Rattle.bpf_note.specs.Shape.{Shape, IsCounter}
 use Rattle.bpf_maps.specs.Layout.{place_of, total}
-use Rattle.bpf_note.specs.History.{Entry, added, left_in, share}
+use Rattle.bpf_note.specs.History.{Entry, added, share}
+use Rattle.bpf_maps.specs.Beginning.{began, left_from}
 use Rattle.bpf_maps.specs.Rule.{Kept, part, times, word_of}
 use Rattle.bpf_maps.specs.Seats.{SeatView, TotalsView, Account, total_at}
 use Rattle.bpf_maps.proofs.PlaceLemmas.{place_within}
@@ -87,17 +88,17 @@ above_one q [] k h e = absurd (omega arith)
 above_one q (s ∷ ss) zero h e = let t = times_here q (part_of s) (map part_of ss) (sym e) in omega arith
 above_one q (s ∷ ss) (suc k) h e = let r = above_one q ss k (omega arith) e in let a : times q (map part_of (s ∷ ss)) ≡ cond (eqb q s.number) 1 0 + times q (map part_of ss) = sum_by-cons (λ (p : Part). cond (eqb q p.number) 1 0) (part_of s) (map part_of ss) in omega arith
 
-module _ (shapes : List Shape) (n : ℕ) (words : List ℕ) (id : ℕ) (v : View) (seats : List SeatView) (t : TotalsView) where
+module _ (shapes : List Shape) (begin : List ℕ) (n : ℕ) (words : List ℕ) (id : ℕ) (v : View) (seats : List SeatView) (t : TotalsView) where
   pub accounts : v.parts ≡ map part_of seats → ((q : ℕ) → q < n → Contains (map (λ (s : SeatView). s.number) seats) q) → t.shapes ≡ shapes
-      → ((i : ℕ) → i < total shapes → get_or t.values i 0 ≡ get_or words (i + 1) 0) → (s : State (Unit {0}) View) → Seen (Kept shapes n) id v s → s.words ≡ words
-      → Account seats t × ((m k j : ℕ) → IsCounter shapes m k j → total_at t m k j ≡ sum_by (λ (x : SeatView). sum_by (added m k j) x.ops) seats % 2 ^ 64)
+      → ((i : ℕ) → i < total shapes → get_or t.values i 0 ≡ get_or words (i + 1) 0) → (s : State (Unit {0}) View) → Seen (Kept shapes begin n) id v s → s.words ≡ words
+      → Account (began shapes begin) seats t × ((m k j : ℕ) → IsCounter shapes m k j → total_at t m k j ≡ (began shapes begin m k j + sum_by (λ (x : SeatView). sum_by (added m k j) x.ops) seats) % 2 ^ 64)
   accounts parts every same values s seen is =
       let r = seen.0 in
       let h = r.history in
-      let fits = subst (λ (ps : List Part). All (λ (p : Part). (v.shapes ≡ shapes) × (share p.number h ≡ p.ops)) ps) parts (r.shared id v seen.1) in
+      let fits = subst (λ (ps : List Part). All (λ (p : Part). (v.shapes ≡ shapes) × (v.begin ≡ begin) × (share p.number h ≡ p.ops)) ps) parts (r.shared id v seen.1) in
       let shares : All (λ (x : SeatView). share x.number h ≡ x.ops) seats = unmapped (λ (p : Part). share p.number h ≡ p.ops) seats
-      (All-weaker (λ (p : Part). (v.shapes ≡ shapes) × (share p.number h ≡ p.ops)) (λ (p : Part). share p.number h ≡ p.ops) (λ p z. z.1) (map part_of seats) fits) in
-      let left : (m k j : ℕ) → IsCounter shapes m k j → total_at t m k j ≡ left_in m k j h = λ m k j inside.
+      (All-weaker (λ (p : Part). (v.shapes ≡ shapes) × (v.begin ≡ begin) × (share p.number h ≡ p.ops)) (λ (p : Part). share p.number h ≡ p.ops) (λ p z. z.2) (map part_of seats) fits) in
+      let left : (m k j : ℕ) → IsCounter shapes m k j → total_at t m k j ≡ left_from (began shapes begin) m k j h = λ m k j inside.
       ap (λ (l : List Shape). get_or t.values (place_of l m k j) 0) same ∙ (values (place_of shapes m k j) (place_within shapes m k j inside)
       ∙ (ap (λ (l : List ℕ). get_or l (place_of shapes m k j + 1) 0) (sym is) ∙ (ap (λ (i : ℕ). get_or s.words i 0) (word_is m k j) ∙ r.leaves m k j inside))) in
       let once : All (λ (e : Entry). times e.0 (map part_of seats) ≡ 1) h = All-weaker (λ (e : Entry). e.0 < n) (λ (e : Entry). times e.0 (map part_of seats) ≡ 1)
@@ -109,13 +110,13 @@ module _ (shapes : List Shape) (n : ℕ) (words : List ℕ) (id : ℕ) (v : View
           no_others = All-weaker (λ (e : Entry). e.0 < n) (λ (e : Entry). Contains (map (λ (x : SeatView). x.number) seats) e.0) (λ e below. every e.0 below) h r.no_others;
           leaves = λ m k j inside. left m k j (subst (λ (l : List Shape). IsCounter l m k j) same inside);
         },
-        λ m k j inside. left m k j inside ∙ ap (λ (x : ℕ). x % 18446744073709551616) (sym (parts_sum (added m k j) h (map part_of seats) once) ∙ shares_sum (added m k j) h seats shares),
+        λ m k j inside. left m k j inside ∙ ap (λ (x : ℕ). (began shapes begin m k j + x) % 18446744073709551616) (sym (parts_sum (added m k j) h (map part_of seats) once) ∙ shares_sum (added m k j) h seats shares),
       )
     where
       word_is : (m k j : ℕ) → place_of shapes m k j + 1 ≡ word_of shapes m k j
       word_is m k j = omega arith
 
-      exactly : (q : ℕ) → q < n → (s : State (Unit {0}) View) (r : Kept shapes n s) → v.parts ≡ map part_of seats → ((q : ℕ) → q < n → Contains (map (λ (x : SeatView). x.number) seats) q)
+      exactly : (q : ℕ) → q < n → (s : State (Unit {0}) View) (r : Kept shapes begin n s) → v.parts ≡ map part_of seats → ((q : ℕ) → q < n → Contains (map (λ (x : SeatView). x.number) seats) q)
           → get_elem? s.views id ≡ some v → times q (map part_of seats) ≡ 1
       exactly q below s r parts every at =
           let known = every q below in

@@ -7,5 +7,6 @@ mod JoinLemmas
 mod OpeningLemmas
 mod ClosingLemmas
 mod PairLemmas
+mod NumberLemmas
 mod ReturnLemmas
 pub mod EverySeatLemmas

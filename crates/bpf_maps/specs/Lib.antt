@@ -1,3 +1,5 @@
+pub mod Beginning
 pub mod Layout
+pub mod Numbers
 pub mod Rule
 pub mod Seats

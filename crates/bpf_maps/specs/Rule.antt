@@ -12,7 +12,8 @@ use Rattle.bpf_maps.specs.declared.view.Part.{Part}
 use Rattle.bpf_maps.specs.declared.view.View.{View}
 use Rattle.bpf_note.specs.Shape.{Shape, IsCounter}
 use Rattle.bpf_maps.specs.Layout.{place_of, total}
-use Rattle.bpf_note.specs.History.{Entry, IsLegal, left_in, share}
+use Rattle.bpf_maps.specs.Beginning.{IsLegalFrom, began, left_from}
+use Rattle.bpf_note.specs.History.{Entry, share}
 
 -- the word of counter j of value k of map m
 abbrev pub word_of : List Shape → ℕ → ℕ → ℕ → ℕ
@@ -22,35 +23,35 @@ word_of shapes m k j = 1 + place_of shapes m k j
 abbrev pub part : ℕ → List Op → Part
 part number ops = record { number = number; ops = ops }
 
--- the shapes and the numbers at a seat
-abbrev pub view : List Shape → List Part → View
-view shapes parts = record { shapes = shapes; parts = parts }
+-- the shapes, the beginning and the numbers at a seat
+abbrev pub view : List Shape → List ℕ → List Part → View
+view shapes begin parts = record { shapes = shapes; begin = begin; parts = parts }
 
 -- the numbers first, first + 1 .., each with no operation
 abbrev pub blanks : ℕ → ℕ → List Part
 blanks first count = map (λ (number : ℕ). part number []) (range_with_len first count)
 
 -- before any step all numbers stand in one view
-abbrev pub first_view : List Shape → ℕ → View
-first_view shapes seats = view shapes (blanks 0 seats)
+abbrev pub first_view : List Shape → List ℕ → ℕ → View
+first_view shapes begin seats = view shapes begin (blanks 0 seats)
 
 -- how often a number stands in a view
 abbrev pub times : ℕ → List Part → ℕ
 times number parts = sum_by (λ (p : Part). if number == p.number then 1 else 0) parts
 
--- the list of a number is its share of the history, and the view has the maps' shapes
-abbrev pub Fits : List Shape → List Entry → View → Type 0
-Fits shapes history v = All (λ (p : Part). (v.shapes ≡ shapes) × (share p.number history ≡ p.ops)) v.parts
+-- the list of a number is its share of the history, and the view has the maps' shapes and the beginning
+abbrev pub Fits : List Shape → List ℕ → List Entry → View → Type 0
+Fits shapes begin history v = All (λ (p : Part). (v.shapes ≡ shapes) × (v.begin ≡ begin) × (share p.number history ≡ p.ops)) v.parts
 
--- one legal history leaves the words; the share of each number is its list, each number stands in one view, and there are no
+-- one legal history from the beginning leaves the words; the share of each number is its list, each number stands in one view, and
 -- there are no other entries
-pub record Kept (shapes : List Shape) (seats : ℕ) (s : State (Unit {0}) View) : Type 0 where
+pub record Kept (shapes : List Shape) (begin : List ℕ) (seats : ℕ) (s : State (Unit {0}) View) : Type 0 where
   pub history : List Entry
   pub wide : length s.words ≡ 1 + total shapes
   pub spare : slice_index s.words 0 ≡ 0
-  pub legal : IsLegal history
-  pub leaves : (m k j : ℕ) → IsCounter shapes m k j → slice_index s.words (word_of shapes m k j) ≡ left_in m k j history
-  pub shared : (id : ℕ) (v : View) → get_elem? s.views id ≡ some v → Fits shapes history v
+  pub legal : IsLegalFrom (began shapes begin) history
+  pub leaves : (m k j : ℕ) → IsCounter shapes m k j → slice_index s.words (word_of shapes m k j) ≡ left_from (began shapes begin) m k j history
+  pub shared : (id : ℕ) (v : View) → get_elem? s.views id ≡ some v → Fits shapes begin history v
   pub once : (number : ℕ) → sum_by (λ (v : View). times number v.parts) s.views ≡ (if nat_lt number seats then 1 else 0)
   pub no_others : All (λ (e : Entry). e.0 < seats) history
 
@@ -60,7 +61,7 @@ grown_first (p ∷ ps) o = part p.number (p.ops ++ o ∷ []) ∷ ps
 
 -- the operation stands at the end of the first list of a view
 abbrev pub grown : View → Op → View
-grown v o = view v.shapes (grown_first v.parts o)
+grown v o = view v.shapes v.begin (grown_first v.parts o)
 
 -- a seat of the table, its view and its slots
 abbrev pub Sat : Type 0
@@ -80,14 +81,14 @@ loaded = Grows (λ m k j first n. Load m k j n)
 abbrev pub fetched : Step (Unit {0}) → Sat → ℕ → Sat → Type 0
 fetched = Grows Add
 
--- the lists of a view are the shares of one legal history, and no number stands there twice
-abbrev pub AreShares : List Part → Type 0
-AreShares parts = (history : List Entry) × IsLegal history × All (λ (p : Part). share p.number history ≡ p.ops) parts ×
+-- the lists of a view are the shares of one legal history from this beginning, and no number stands there twice
+abbrev pub AreShares : List Shape → List ℕ → List Part → Type 0
+AreShares shapes begin parts = (history : List Entry) × IsLegalFrom (began shapes begin) history × All (λ (p : Part). share p.number history ≡ p.ops) parts ×
     ((number : ℕ) → times number parts ≤ 1)
 
 -- a look: the view stays, and its lists are shares of one legal history
 abbrev pub looked : Step (Unit {0}) → Sat → ℕ → Sat → Type 0
-looked st before n after = (after ≡ before) × AreShares before.0.parts
+looked st before n after = (after ≡ before) × AreShares before.0.shapes before.0.begin before.0.parts
 
 -- the first number with its list, and the others: what a split parts
 abbrev pub first_of : List Part → List Part

@@ -4,7 +4,8 @@ use Rattle.std.specs.Prelude.{◌≡◌, ◌≢◌, ℕ, List, [], ◌∷◌, Al
 use Rattle.std.specs.List.{range_with_len}
 use Rattle.atomic_table.specs.Seated.{TableId}
 use Rattle.bpf_note.specs.declared.op.Op.{Op}
-use Rattle.bpf_note.specs.History.{Entry, IsLegal, left_in, share}
+use Rattle.bpf_maps.specs.Beginning.{Beginning, IsLegalFrom, began, left_from}
+use Rattle.bpf_note.specs.History.{Entry, share}
 use Rattle.bpf_note.specs.Shape.{Shape, IsCounter}
 use Rattle.bpf_maps.specs.Layout.{place_of}
 use Rattle.bpf_maps.specs.declared.view.Part.{Part}
@@ -14,26 +15,32 @@ use Rattle.bpf_maps.specs.declared.view.View.{View}
 abbrev pub most_seats : ℕ
 most_seats = 64
 
--- the table, the maps' shapes, and how many seats there are
+-- the table, the maps' shapes, the numbers that the counters began with, in the order of their places, and how many seats there are
 pub record CountersView : Type 0 where
   pub table : TableId
   pub shapes : List Shape
+  pub begin : List ℕ
   pub seats : ℕ
 
--- the table and the maps' shapes, the seat's number, and what was done by it
+-- the table, the maps' shapes and the beginning of the counters, the seat's number, and what was done by it
 pub record SeatView : Type 0 where
   pub table : TableId
   pub shapes : List Shape
+  pub begin : List ℕ
   pub number : ℕ
   pub ops : List Op
 
 -- the seat is of these counters
 abbrev pub IsSeatOf : CountersView → SeatView → Type 0
-IsSeatOf c s = (s.table ≡ c.table) × (s.shapes ≡ c.shapes)
+IsSeatOf c s = (s.table ≡ c.table) × (s.shapes ≡ c.shapes) × (s.begin ≡ c.begin)
+
+-- the beginning of counters
+abbrev pub begin_of : CountersView → Beginning
+begin_of c = began c.shapes c.begin
 
 -- a seat that has done nothing
 abbrev pub new_seat : CountersView → ℕ → SeatView
-new_seat c number = record { table = c.table; shapes = c.shapes; number = number; ops = [] }
+new_seat c number = record { table = c.table; shapes = c.shapes; begin = c.begin; number = number; ops = [] }
 
 -- `count` seats, in order, from 0 on
 abbrev pub new_seats : CountersView → ℕ → List SeatView
@@ -50,12 +57,12 @@ ops_of (p ∷ ps) = p.ops
 
 -- what contracts see of a seat of the table t with the view v
 abbrev pub seat_view : TableId → View → SeatView
-seat_view t v = record { table = t; shapes = v.shapes; number = number_of v.parts; ops = ops_of v.parts }
+seat_view t v = record { table = t; shapes = v.shapes; begin = v.begin; number = number_of v.parts; ops = ops_of v.parts }
 
--- The operations of two seats stand in one legal history
-pub record StandTogether (a b : SeatView) : Type 0 where
+-- The operations of two seats stand in one legal history from this beginning
+pub record StandTogether (begin : Beginning) (a b : SeatView) : Type 0 where
   pub history : List Entry
-  pub legal : IsLegal history
+  pub legal : IsLegalFrom begin history
   pub first : share a.number history ≡ a.ops
   pub second : share b.number history ≡ b.ops
   pub apart : a.number ≢ b.number
@@ -69,10 +76,10 @@ pub record TotalsView : Type 0 where
 abbrev pub total_at : TotalsView → ℕ → ℕ → ℕ → ℕ
 total_at t m k j = slice_index t.values (place_of t.shapes m k j)
 
--- The seats' lists are the shares of one legal history, which has no other entries and leaves these numbers
-pub record Account (seats : List SeatView) (t : TotalsView) : Type 0 where
+-- The seats' lists are the shares of one legal history from this beginning, which has no other entries and leaves these numbers
+pub record Account (begin : Beginning) (seats : List SeatView) (t : TotalsView) : Type 0 where
   pub history : List Entry
-  pub legal : IsLegal history
+  pub legal : IsLegalFrom begin history
   pub shares : All (λ (s : SeatView). share s.number history ≡ s.ops) seats
   pub no_others : All (λ (e : Entry). Contains (map (λ (s : SeatView). s.number) seats) e.0) history
-  pub leaves : (m k j : ℕ) → IsCounter t.shapes m k j → total_at t m k j ≡ left_in m k j history
+  pub leaves : (m k j : ℕ) → IsCounter t.shapes m k j → total_at t m k j ≡ left_from begin m k j history

@@ -30,7 +30,7 @@ pub fn total(shapes: &[MapShape]) -> usize
     count
 }
 
-fn size(shape: &MapShape) -> usize
+pub(crate) fn size(shape: &MapShape) -> usize
     ensures size { result ≡ all_of shape.now }
     ensures most { result ≤ 524288 }
 {

@@ -30,16 +30,16 @@ impl Play<(), View> for Look {
 pub(crate) struct SplitFirst;
 
 impl Split<View> for SplitFirst {
-    ghost left = { λ v. view v.shapes (rest_of v.parts) };
+    ghost left = { λ v. view v.shapes v.begin (rest_of v.parts) };
 
-    ghost right = { λ v. view v.shapes (first_of v.parts) };
+    ghost right = { λ v. view v.shapes v.begin (first_of v.parts) };
 }
 
 /// The other's numbers come before the seat's own.
 pub(crate) struct JoinBoth;
 
 impl Join<View> for JoinBoth {
-    ghost both = { λ v w. view v.shapes (w.parts ++ v.parts) };
+    ghost both = { λ v w. view v.shapes v.begin (w.parts ++ v.parts) };
 
-    ghost spent = { view [] [] };
+    ghost spent = { view [] [] [] };
 }

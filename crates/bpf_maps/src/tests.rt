@@ -1,3 +1,4 @@
+mod beginning;
 mod eight_threads;
 mod growth;
 mod seats;

@@ -8,9 +8,10 @@ pub struct Part {
     pub ops: LinkedList<Op>,
 }
 
-/// The maps' shapes, and the numbers that stand at the seat. No value of it is made.
+/// The maps' shapes, the beginning of the counters, and the numbers that stand at the seat. No value of it is made.
 /// A seat that is in use has one number, one that others were joined to has several, and a spent one has none.
 pub struct View {
     pub shapes: LinkedList<MapShape>,
+    pub begin: LinkedList<u64>,
     pub parts: LinkedList<Part>,
 }

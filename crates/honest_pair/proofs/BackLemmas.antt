@@ -348,9 +348,9 @@ goes_on old new a v aw dl dn f r vw mem an i sl sh = record {
         },
         record {
           shapes = sh;
-          stands = λ wirings start cs h.
+          stands = λ wirings start begin cs h.
               let e : Entry = record { queue = 0; answer = a; event = i.event } in
-              (Stepped e ∷ [], i.stands_for wirings start cs h, (refl, tt), append-nil (all_came (listed i.event)) ∙ ap all_came t.0);
+              (Stepped e ∷ [], i.stands_for wirings start begin cs h, (refl, tt), append-nil (all_came (listed i.event)) ∙ ap all_came t.0);
         },
         back_follows bw p p.at g.0 refl g.3,
         tt,

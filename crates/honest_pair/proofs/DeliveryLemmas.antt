@@ -218,9 +218,9 @@ carries_on old new a v dl aw f r vw mem an i dn sh = record {
         },
         record {
           shapes = sh;
-          stands = λ wirings start cs h.
+          stands = λ wirings start begin cs h.
               let e : Entry = record { queue = 0; answer = a; event = i.event } in
-              (Stepped e ∷ [], i.stands_for wirings start cs h, (refl, tt), append-nil (all_came (listed i.event)) ∙ ap all_came g.2);
+              (Stepped e ∷ [], i.stands_for wirings start begin cs h, (refl, tt), append-nil (all_came (listed i.event)) ∙ ap all_came g.2);
         },
         back_follows bw p p.at g.0 refl g.5,
         tt,
@@ -304,7 +304,7 @@ module _ (old new : Held) (packet : List ℕ) (all : All IsByte packet) (aw : ne
           0,
           omega arith,
           subst (Shows bw fw new) (sym z.0) after_it,
-          record { shapes = sh; stands = λ wirings start cs h. (Delivers 0 packet ∷ [], i.stands_for wirings start cs h, (refl, tt), sym z.1) },
+          record { shapes = sh; stands = λ wirings start begin cs h. (Delivers 0 packet ∷ [], i.stands_for wirings start begin cs h, (refl, tt), sym z.1) },
           deliver_follows bw p packet p.at refl,
           tt,
         );
@@ -340,7 +340,7 @@ module _ (old new : Held) (packet : List ℕ) (all : All IsByte packet) (aw : ne
           0,
           omega arith,
           subst (Shows bw fw new) (sym z.0) after_it,
-          record { shapes = sh; stands = λ wirings start cs h. ([], subst (StandsFor new.world wirings start) (sym (append-nil cs)) (same_stands old.world new.world wirings start cs i h), tt, sym z.1) },
+          record { shapes = sh; stands = λ wirings start begin cs h. ([], subst (StandsFor new.world wirings start begin) (sym (append-nil cs)) (same_stands old.world new.world wirings start begin cs i h), tt, sym z.1) },
           deliver_follows bw p packet p.at refl,
           tt,
         );

@@ -129,7 +129,7 @@ module _ (old new : Held) (world : new.world ≡ old.world) (asleep : new.asleep
   }
 
   stays : GoesOn old.world new.world []
-  stays = record { shapes = ap (λ (x : World). x.counters.shapes) world; stands = λ wirings start cs h. ([], subst (λ (x : World). StandsFor x wirings start (cs ++ [])) (sym world) (subst (StandsFor old.world wirings start) (sym (append-nil cs)) h), tt, refl) }
+  stays = record { shapes = ap (λ (x : World). x.counters.shapes) world; stands = λ wirings start begin cs h. ([], subst (λ (x : World). StandsFor x wirings start begin (cs ++ [])) (sym world) (subst (StandsFor old.world wirings start begin) (sym (append-nil cs)) h), tt, refl) }
 
 pub not_done : (t : Steps Ending) → want_of t ≢ want.Done → IsGoing t
 not_done (done e) n = absurd (n refl)

@@ -1,4 +1,5 @@
 -- Events one after another.
+use Rattle.bpf_maps.specs.Beginning.{Beginning}
 use Rattle.std.proofs.Common.{◌≡◌, ℕ, zero, suc, ◌<◌, ◌^◌, refl, sym, ◌∙◌, ap, subst, arith, List, [], ◌∷◌, ◌++◌, length, map, true, Option, Some, None}
 use Rattle.bpf_verify.specs.Consistent.{Accepted, IsConsistent}
 use Rattle.xen_back.specs.Queues.{rest, state_of}
@@ -71,10 +72,10 @@ own_more (Awaits q pages ∷ a) b h g = (h.0, own_more a b h.1 g)
 goes_more : (a b c : World) (l m : List Item) → GoesOn a b l → GoesOn b c m → GoesOn a c (l ++ m)
 goes_more a b c l m g h = record {
   shapes = h.shapes ∙ g.shapes;
-  stands = λ wirings start cs s.
-      let x = g.stands wirings start cs s in
-      let y = h.stands wirings start (cs ++ x.0) x.1 in
-      (x.0 ++ y.0, subst (StandsFor c wirings start) (append_assoc cs x.0 y.0) y.1, own_more x.0 y.0 x.2 y.2, items_append 0 x.0 y.0 ∙ (λ i. x.3 i ++ y.3 i));
+  stands = λ wirings start begin cs s.
+      let x = g.stands wirings start begin cs s in
+      let y = h.stands wirings start begin (cs ++ x.0) x.1 in
+      (x.0 ++ y.0, subst (StandsFor c wirings start begin) (append_assoc cs x.0 y.0) y.1, own_more x.0 y.0 x.2 y.2, items_append 0 x.0 y.0 ∙ (λ i. x.3 i ++ y.3 i));
 }
 
 with_more : (es : List PairEvent) (g : List (PairEvent × ℕ)) (e : PairEvent) (n : ℕ) → GoWith es g → n < 2 ^ 64 → GoWith (es ++ e ∷ []) (g ++ (e, n) ∷ [])
@@ -88,7 +89,7 @@ bytes_more [] e h b = (b, tt)
 bytes_more (x ∷ es) e h b = (h.0, bytes_more es e h.1 b)
 
 pub done_none : (h : Held) → HasDone h h []
-done_none h = record { bytes = tt; does = λ bw fw p s. ([], tt, s, record { shapes = refl; stands = λ wirings start cs x. ([], subst (StandsFor h.world wirings start) (sym (append-nil cs)) x, tt, refl) }, follows_none bw p, acts_none fw p) }
+done_none h = record { bytes = tt; does = λ bw fw p s. ([], tt, s, record { shapes = refl; stands = λ wirings start begin cs x. ([], subst (StandsFor h.world wirings start begin) (sym (append-nil cs)) x, tt, refl) }, follows_none bw p, acts_none fw p) }
 
 pub done_more : (old mid new : Held) (es : List PairEvent) (e : PairEvent) → HasDone old mid es → Does mid new e → HasDone old new (es ++ e ∷ [])
 done_more old mid new es e h d = record {
@@ -194,11 +195,11 @@ fit_all [] (x ∷ g) h b = absurd h
 fit_all (e ∷ es) [] h b = absurd h
 fit_all (e ∷ es) (x ∷ g) h b = fit_more x g (subst IsBytes (sym h.0) b.0, h.1) (fit_all es g h.2 b.1)
 
-pub is_run : (program : Accepted) (start : ℕ) (called : List PairEvent) (r : PairRun) (old new : Held) → Begins program [] 1 0 start old.world → IsConsistent program → start < 2 ^ 32 → IsFresh start old.front →
+pub is_run : (program : Accepted) (start : ℕ) (called : List PairEvent) (r : PairRun) (old new : Held) → Begins program [] [] 1 0 start old.world → IsConsistent program → start < 2 ^ 32 → IsFresh start old.front →
     memory_in old.memory ≡ opening_memory start → old.asleep ≡ true → old.calling ≡ calling.Nothing → old.received.items ≡ [] → old.world.counters.shapes ≡ program.shapes → HasDone old new called →
     r.received ≡ new.received → length r.report.turns.items ≡ 1 → length r.report.deliveries.items ≡ 1 → length r.report.waits.items ≡ 1 → r.report.turns.items ≡ new.world.turns.items → r.report.deliveries.items ≡ new.world.deliveries.items → r.report.waits.items ≡ new.world.waits.items → r.report.totals.shapes ≡ new.world.counters.shapes →
-    ((wirings : ℕ → BackWiring) (s : ℕ) (es : List Entry) → Stands new.world wirings s es → Reports wirings s es r.report) →
-    ((wirings : ℕ → BackWiring) (s : ℕ) (cs : List Call) → StandsFor new.world wirings s cs → Tells wirings s cs r.report) → LogLaw → PairLaw → IsPairRun program start called r
+    ((wirings : ℕ → BackWiring) (s : ℕ) (g : Beginning) (es : List Entry) → Stands new.world wirings s g es → Reports wirings s g es r.report) →
+    ((wirings : ℕ → BackWiring) (s : ℕ) (g : Beginning) (cs : List Call) → StandsFor new.world wirings s g cs → Tells wirings s g cs r.report) → LogLaw → PairLaw → IsPairRun program start called r
 is_run program start called r old new b cons small fresh mem aw dl none sh done rec count delivered waited turns deliveries waits shapes reports tells logs law =
     let bw : BackWiring = b.wirings 0 in
     let fw : FrontWiring = front_wiring old.front in
@@ -222,7 +223,7 @@ is_run program start called r old new b cons small fresh mem aw dl none sh done 
       waits = (each q x0).waits ∙ ap (waits_in 0 0) (at q x0).0;
     } in
     let a = done.does bw fw p shows in
-    let x = a.3.stands b.wirings start [] b.stands in
+    let x = a.3.stands b.wirings start _ [] b.stands in
     let w0 : IsFor program [] 1 0 0 bw = b.wired 0 (omega arith) in
     let laid : IsBack program bw = record {
       tx = w0.tx;
@@ -253,7 +254,7 @@ is_run program start called r old new b cons small fresh mem aw dl none sh done 
       events = a.0;
       called_are = a.1;
       calls = x.0;
-      core = record { wirings = b.wirings; wired = b.wired; count = count; delivered = delivered; waited = waited; shapes = shapes ∙ a.3.shapes ∙ sh; tells = tells b.wirings start x.0 x.1 };
+      core = record { wirings = b.wirings; wired = b.wired; count = count; delivered = delivered; waited = waited; shapes = shapes ∙ a.3.shapes ∙ sh; tells = tells b.wirings start _ x.0 x.1 };
       alone = x.2;
       own = x.3;
       plain = λ h.
@@ -269,7 +270,7 @@ is_run program start called r old new b cons small fresh mem aw dl none sh done 
               delivered = delivered;
               waited = waited;
               shapes = shapes ∙ a.3.shapes ∙ sh;
-              reports = reports b.wirings start (entries_of x.0) (subst (StandsFor new.world b.wirings start) all x.1);
+              reports = reports b.wirings start _ (entries_of x.0) (subst (StandsFor new.world b.wirings start _) all x.1);
             },
             all,
           );

@@ -249,9 +249,9 @@ looks_on old new a index pages v dl aw f r ix vw an i mem dn sh = record {
         },
         record {
           shapes = sh;
-          stands = λ wirings start cs h.
+          stands = λ wirings start begin cs h.
               let e : Entry = record { queue = 0; answer = a; event = i.event } in
-              (Stepped e ∷ [], i.stands_for wirings start cs h, (refl, tt), append-nil (all_came (listed i.event)) ∙ ap all_came g.2);
+              (Stepped e ∷ [], i.stands_for wirings start begin cs h, (refl, tt), append-nil (all_came (listed i.event)) ∙ ap all_came g.2);
         },
         back_follows bw p p.at g.0 refl g.4,
         tt,
@@ -345,7 +345,7 @@ module _ (old new : Held) (pages : ℕ) (aw : new.asleep ≡ old.asleep) (f : ne
           0,
           omega arith,
           subst (Shows bw fw new) (sym z.0) after_it,
-          record { shapes = sh; stands = λ wirings start cs h. (AwaitsCall 0 pages ∷ [], i.stands_for wirings start cs h, (refl, tt), sym z.1) },
+          record { shapes = sh; stands = λ wirings start begin cs h. (AwaitsCall 0 pages ∷ [], i.stands_for wirings start begin cs h, (refl, tt), sym z.1) },
           await_follows bw p pages p.at refl,
           tt,
         );
@@ -381,7 +381,7 @@ module _ (old new : Held) (pages : ℕ) (aw : new.asleep ≡ old.asleep) (f : ne
           0,
           omega arith,
           subst (Shows bw fw new) (sym z.0) after_it,
-          record { shapes = sh; stands = λ wirings start cs h. ([], subst (StandsFor new.world wirings start) (sym (append-nil cs)) (same_stands old.world new.world wirings start cs i h), tt, sym z.1) },
+          record { shapes = sh; stands = λ wirings start begin cs h. ([], subst (StandsFor new.world wirings start begin) (sym (append-nil cs)) (same_stands old.world new.world wirings start begin cs i h), tt, sym z.1) },
           await_follows bw p pages p.at refl,
           tt,
         );

@@ -82,7 +82,7 @@ wakes old new aw dl dn wo f r mem sl = record {
         },
         record {
           shapes = ap (λ (z : World). z.counters.shapes) wo;
-          stands = λ wirings start cs h. ([], subst (λ (z : World). StandsFor z wirings start (cs ++ [])) (sym wo) (subst (StandsFor old.world wirings start) (sym (append-nil cs)) h), tt, ap all_came (sym same.4));
+          stands = λ wirings start begin cs h. ([], subst (λ (z : World). StandsFor z wirings start begin (cs ++ [])) (sym wo) (subst (StandsFor old.world wirings start begin) (sym (append-nil cs)) h), tt, ap all_came (sym same.4));
         },
         back_follows bw p p.at 0 refl same.5,
         tt,

@@ -1,5 +1,6 @@
 -- Stated: claims rest on this file.
 -- The honest pair: what a run of it is.
+use Rattle.bpf_maps.specs.Beginning.{given}
 use Rattle.std.specs.Prelude.{ℕ, ◌≡◌, ◌<◌, ◌^◌, List, [], ◌∷◌, length, map}
 use Rattle.bpf_verify.specs.Consistent.{Accepted}
 use Rattle.xen_turns.specs.declared.wiring.Wiring.{Wiring as BackWiring}
@@ -45,7 +46,7 @@ pub record IsCallRun (program : Accepted) (start : ℕ) (calls : List Call) (r :
   pub delivered : length r.deliveries.items ≡ 1
   pub waited : length r.waits.items ≡ 1
   pub shapes : r.totals.shapes ≡ program.shapes
-  pub tells : Tells wirings start calls r
+  pub tells : Tells wirings start (given program.shapes []) calls r
 
 -- The run of a pair through these events. `events` are they with the numbers that answered the counters' operations.
 --   core, alone, own: the back's events, the packets of its deliveries and the numbers of its waits, and no others, are a run of its queue
@@ -73,7 +74,7 @@ pub record IsPairRun (program : Accepted) (start : ℕ) (called : List PairEvent
   pub core : IsCallRun program start calls r.report
   pub alone : AreOwn calls
   pub own : items_of 0 calls ≡ back_items back front (opening state start) events
-  pub plain : NoneDelivers called → (steps : List (ℕ × ℕ)) × (plainly : IsCoreRun program [] 1 0 start steps r.report) ×
+  pub plain : NoneDelivers called → (steps : List (ℕ × ℕ)) × (plainly : IsCoreRun program [] [] 1 0 start steps r.report) ×
       (calls ≡ all_stepped plainly.entries)
   pub acts : HasActed front state (front_of (log back front (opening state start) events)) (run back front (opening state start) events)
   pub faithful : IsFaithful (opening_word start) (log back front (opening state start) events)

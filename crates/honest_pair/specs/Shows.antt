@@ -1,5 +1,6 @@
 -- For proofs: no claim rests on this file.
 -- What a pair of the code stands for.
+use Rattle.bpf_maps.specs.Beginning.{Beginning}
 use Rattle.std.specs.Prelude.{ℕ, ◌≡◌, ◌<◌, ◌^◌, ◌++◌, Bool, true, false, List, [], ◌∷◌, map, slice_index_or}
 use Rattle.std.specs.Prelude.{Option, Some, None}
 use Rattle.xen_steps.specs.Steps.{Steps, done, ask, never, bind}
@@ -104,8 +105,8 @@ pub record Shows (bw : BackWiring) (fw : FrontWiring) (held : Held) (p : Pair) :
 -- The world has come on by calls of its one queue with these items.
 pub record GoesOn (old new : World) (items : List Item) : Type 0 where
   pub shapes : new.counters.shapes ≡ old.counters.shapes
-  pub stands : (wirings : ℕ → BackWiring) (start : ℕ) (cs : List Call) → StandsFor old wirings start cs →
-      (more : List Call) × StandsFor new wirings start (cs ++ more) × AreOwn more × (items_of 0 more ≡ items)
+  pub stands : (wirings : ℕ → BackWiring) (start : ℕ) (begin : Beginning) (cs : List Call) → StandsFor old wirings start begin cs →
+      (more : List Call) × StandsFor new wirings start begin (cs ++ more) × AreOwn more × (items_of 0 more ≡ items)
 
 -- The pair has done this event.
 pub record Does (old new : Held) (e : PairEvent) : Type 0 where

@@ -52,7 +52,7 @@ impl Pair<'_, '_, '_> {
         pair_law();
         let layout = Layout::make(alloc, 1)?;
         let mut room = [Buffer::make(alloc)?];
-        let world = World::make(alloc, &layout, program, &[], &mut room, 1, 0, start)?;
+        let world = World::make(alloc, &layout, program, &[], &[], &mut room, 1, 0, start)?;
         let tx = buffers_from(alloc, 2)?;
         let rx = buffers_from(alloc, 258)?;
         let front = front(alloc, &layout, tx.as_slice(), rx.as_slice(), start)?;

@@ -1,6 +1,6 @@
 -- Stated: claims rest on this file.
 -- What a back thread does: rounds of its queue, one after another.
-use Rattle.std.specs.Prelude.{ℕ, ◌≡◌, ◌≤◌, ◌+◌, ◌*◌, ◌⊎◌, List, [], ◌∷◌, ◌++◌, length, Option}
+use Rattle.std.specs.Prelude.{ℕ, ◌≡◌, ◌≤◌, ◌+◌, ◌*◌, ◌⊎◌, List, [], ◌∷◌, ◌++◌, length, map, Option}
 use Rattle.bpf_note.specs.declared.op.Op.{Op}
 use Rattle.bpf_verify.specs.Consistent.{Accepted}
 use Rattle.bpf_maps.specs.Seats.{SeatView}
@@ -42,6 +42,10 @@ task_of program shared = record {
 -- The task that a setup gives, and what the host does.
 abbrev pub task_for : Accepted → Setup → Host → Task
 task_for program setup h = record { program = program; queues = setup.queues; ifindex = setup.ifindex; start = setup.start; host = h }
+
+-- The numbers that a setup's counters begin with.
+abbrev pub values_in : Setup → List (List ℕ)
+values_in setup = map (λ v. v.items) setup.values.items
 
 -- The wiring of queue n: its rings lie in the pages that the references 514 n and 514 n + 1 grant.
 pub record IsWiredFor (task : Task) (n : ℕ) (w : Wiring) : Type 0 where

@@ -24,6 +24,7 @@ use std::sync::Wait;
 use std::thread::{Promise, PromisedHandle};
 use xdp_world::{BACK, FRONT};
 use xen_back::{Queue, QueueDesc};
+use xen_netif::NO_OFFERS;
 use xen_page::{Bus, Mapped};
 use xen_ring::Port;
 
@@ -69,7 +70,7 @@ impl SeatBack {
 
 impl Promise<BackDone> for SeatBack {
     ghost kept_by = { λ p d. (d.seat.table ≡ p.seat.value.table) × (d.seat.shapes ≡ p.seat.value.shapes) ×
-        (d.seat.number ≡ p.seat.value.number)
+        (d.seat.begin ≡ p.seat.value.begin) × (d.seat.number ≡ p.seat.value.number)
         × IsWork (record { program = p.program.value; queues = p.queues; ifindex = p.ifindex; start = p.start; host = p.host })
         p.turns d.row d.seat };
 }
@@ -108,6 +109,7 @@ fn make_queue<'p, 'b>(
         ifindex: shared.ifindex,
         queue: number as u32,
         port,
+        offers: NO_OFFERS,
         start: shared.start,
     };
     Queue::make(program, &[], desc, room)

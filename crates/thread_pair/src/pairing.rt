@@ -6,7 +6,7 @@ ghost use Rattle.xdp_load.specs.SetupSeen.{setup_view};
 ghost use Rattle.xdp_load.specs.Sound.{IsSound};
 ghost use Rattle.thread_pair.specs.Resources.{IsBackOf, IsFrontOf, falling, number_of};
 ghost use Rattle.thread_pair.specs.Leaving.{AreLeft, HasWorked};
-ghost use Rattle.thread_pair.specs.Working.{task_for, task_of};
+ghost use Rattle.thread_pair.specs.Working.{task_for, task_of, values_in};
 
 use crate::fault::PairFault;
 use crate::gate::Gate;
@@ -18,7 +18,7 @@ use crate::report::{PairReport, PairRow};
 use crate::resources::{BackResources, FrontResources, make_backs, make_fronts, make_pages};
 use crate::shared::{Parkers, Shared};
 use crate::starting::{start_backs, start_fronts};
-use bpf_maps::{CounterSeat, Counters};
+use bpf_maps::{CounterSeat, Counters, Totals};
 use bpf_verify::Verified;
 use std::alloc::Global;
 use std::sync::Wait;
@@ -89,10 +89,11 @@ pub fn pair_over<R: Threads + Wait + Sync, G: Gate + Sync, I: Inbox + Sync>(
     requires parkers { (vec_len parkers.fronts ≡ job.now.setup.now.queues) × (vec_len parkers.backs ≡ job.now.setup.now.queues) }
     ensures rows { IfOk result (λ r. vec_len r.rows ≡ job.now.setup.now.queues) }
     ensures shapes { IfOk result (λ r. r.totals.shapes ≡ job.now.program.now.shapes) }
-    ensures account { IfOk result (λ r. AreLeft (task_for job.now.program.now job.now.setup.now job.now.shared.now.host) job.now.turns r) }
+    ensures account { IfOk result (λ r. AreLeft (task_for job.now.program.now job.now.setup.now job.now.shared.now.host) (values_in job.now.setup.now) job.now.turns r) }
 {
     let queues = job.setup.queues;
-    let (counters, seats) = Counters::make(alloc, job.program.shapes(), queues)?;
+    let first = Totals::begin(alloc, job.program.shapes(), job.setup.values.as_slice())?;
+    let (counters, seats) = Counters::begin(alloc, first, queues)?;
     let backs = make_backs(alloc, job.shared, seats, parkers.backs)?;
     let pages = make_pages(alloc, queues)?;
     let fronts = make_fronts(alloc, job.shared, pages.as_slice(), parkers.fronts)?;
@@ -122,7 +123,7 @@ pub fn pair_with<R: Threads + Wait + Sync, G: Gate + Sync>(
     requires { IsSound (setup_view setup.now) }
     ensures rows { IfOk result (λ r. vec_len r.rows ≡ setup.now.queues) }
     ensures shapes { IfOk result (λ r. r.totals.shapes ≡ program.now.shapes) }
-    ensures account { IfOk result (λ r. AreLeft (task_for program.now setup.now host) turns r) }
+    ensures account { IfOk result (λ r. AreLeft (task_for program.now setup.now host) (values_in setup.now) turns r) }
 {
     let (shared, parkers) = Shared::make(alloc, setup, host)?;
     let job = Job {

@@ -96,6 +96,7 @@ pub fn setup(alloc: Global, queues: usize, start: u32, packets: Vec<Packet>) -> 
     Setup {
         program: Vec::new(alloc),
         shapes: Vec::new(alloc),
+        values: Vec::new(alloc),
         names: Vec::new(alloc),
         queues,
         ifindex: 0,

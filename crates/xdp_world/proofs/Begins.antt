@@ -1,9 +1,11 @@
 -- A world that begins.
-use Rattle.std.proofs.Common.{◌≡◌, ℕ, zero, suc, ◌+◌, ◌<◌, false, List, [], ◌∷◌, ◌++◌, Some, length, get_or, slice_get, refl, sym, ap, subst, arith}
+use Rattle.std.proofs.Common.{◌≡◌, ℕ, zero, suc, ◌+◌, ◌%◌, ◌^◌, ◌<◌, false, List, [], ◌∷◌, ◌++◌, Some, length, get_or, slice_get, refl, sym, ◌∙◌, ap, subst, arith}
 use Rattle.std.specs.Global.{Vec}
 use Rattle.std.specs.Prelude.{Option}
 use Rattle.bpf_lists.specs.declared.list.MapList.{MapList}
-use Rattle.bpf_maps.specs.Seats.{total_at}
+use Rattle.bpf_maps.specs.Beginning.{given}
+use Rattle.bpf_maps.specs.Seats.{TotalsView, total_at}
+use Rattle.bpf_note.specs.Shape.{IsCounter, Shape}
 use Rattle.bpf_verify.specs.Consistent.{Accepted}
 use Rattle.xen_back.specs.Queues.{wiring_of}
 use Rattle.xen_back.specs.declared.queue.Queue.{Queue}
@@ -52,11 +54,20 @@ fresh_come accepted lists queues index start i w q at kept dl wl f wired is none
       stands_at = (refl, fresh_turn w q wired f.ready);
     })
 
-pub begins : (accepted : Accepted) (lists : List (Option MapList)) (queues index start : ℕ) (w : World) → 0 < length w.queues.items → length w.queues.items ≡ queues →
+-- the numbers that the counters of a program's maps begin with
+pub first : (p : Accepted) (t : TotalsView) (shapes : List Shape) (values : List (List ℕ)) → t.shapes ≡ shapes → shapes ≡ p.shapes →
+    ((m k j : ℕ) → IsCounter shapes m k j → total_at t m k j ≡ given shapes values m k j) → (m k j : ℕ) → IsCounter t.shapes m k j → total_at t m k j ≡ given p.shapes values m k j
+first p t shapes values same known h m k j is = h m k j (subst (λ ss. IsCounter ss m k j) same is) ∙ ap (λ ss. given ss values m k j) known
+
+-- a word of 64 bits to which nothing is added
+whole : (x y : ℕ) → x < 2 ^ 64 → x ≡ y → x ≡ (y + 0) % 2 ^ 64
+whole x y h e = omega arith
+
+pub begins : (accepted : Accepted) (lists : List (Option MapList)) (values : List (List ℕ)) (queues index start : ℕ) (w : World) → 0 < length w.queues.items → length w.queues.items ≡ queues →
     ((i : ℕ) (d : Queue) → i < queues → IsFresh accepted lists queues index start i (get_or w.queues.items i d)) → ((i : ℕ) → kept_in w.turns.items i ≡ []) → ((i : ℕ) → delivered_in w.deliveries.items i ≡ []) →
     ((i : ℕ) → waited_in w.waits.items i ≡ []) → ((i : ℕ) (e : Doing) → i < queues → get_or w.doing.items i e ≡ doing.Between) → w.history.items ≡ [] →
-    ((m k j : ℕ) → total_at w.counters m k j ≡ 0) → Begins accepted lists queues index start w
-begins accepted lists queues index start w some count fresh none nothing unwaited between past zeros =
+    ((m k j : ℕ) → IsCounter w.counters.shapes m k j → total_at w.counters m k j ≡ given accepted.shapes values m k j) → ((m k j : ℕ) → total_at w.counters m k j < 2 ^ 64) → Begins accepted lists values queues index start w
+begins accepted lists values queues index start w some count fresh none nothing unwaited between past first small =
     let qs = w.queues.items in
     let q0 : Queue = queue_at qs 0 some in
     record {
@@ -70,7 +81,7 @@ begins accepted lists queues index start w some count fresh none nothing unwaite
         serve = tt;
         past = past;
         legal = λ i e at. absurd (cc);
-        leaves = λ m k j is. zeros m k j;
+        leaves = λ m k j is. whole (total_at w.counters m k j) (given accepted.shapes values m k j) (small m k j) (first m k j is);
       };
     }
 

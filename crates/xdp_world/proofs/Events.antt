@@ -1,4 +1,5 @@
 -- A world goes on by events.
+use Rattle.bpf_maps.specs.Beginning.{Beginning}
 use Rattle.std.proofs.Common.{◌≡◌, ℕ, ◌<◌, false, List, [], ◌∷◌, ◌++◌, Some, length, get_or, slice_get, refl, sym, ◌∙◌, ap, subst, arith, append_assoc}
 use Rattle.std.proofs.lemmas.List.{append-nil}
 use Rattle.std.specs.Global.{Vec}
@@ -44,18 +45,18 @@ makes_append wirings start _ _ b _ y (await before q n es cs m) h =
 makes_append wirings start _ _ b _ y (await_busy before q n es cs i m) h = await_busy before q n (es ++ b) (cs ++ y) i (makes_append wirings start before es b cs y m h)
 
 pub by_none : (a : World) → GoesBy a a []
-by_none a wirings start cs h = ([], none cs, subst (λ (l : List Call). StandsFor a wirings start l) (sym (append-nil cs)) h)
+by_none a wirings start begin cs h = ([], none cs, subst (λ (l : List Call). StandsFor a wirings start begin l) (sym (append-nil cs)) h)
 
 pub by_then : (a b c : World) (x y : List WorldEvent) → GoesBy a b x → GoesBy b c y → GoesBy a c (x ++ y)
-by_then a b c x y g k wirings start cs h =
-    let m = g wirings start cs h in
-    let n = k wirings start (cs ++ m.0) m.2 in
-    (m.0 ++ n.0, makes_append wirings start cs x y m.0 n.0 m.1 n.1, subst (λ (l : List Call). StandsFor c wirings start l) (append_assoc cs m.0 n.0) n.2)
+by_then a b c x y g k wirings start begin cs h =
+    let m = g wirings start begin cs h in
+    let n = k wirings start begin (cs ++ m.0) m.2 in
+    (m.0 ++ n.0, makes_append wirings start cs x y m.0 n.0 m.1 n.1, subst (λ (l : List Call). StandsFor c wirings start begin l) (append_assoc cs m.0 n.0) n.2)
 
 pub by_step : (a b : World) (q n : ℕ) → IsStep a b q n → GoesBy a b (event.Step q n ∷ [])
-by_step a b q n s wirings start cs h =
+by_step a b q n s wirings start begin cs h =
     let e : Entry = record { queue = q; answer = n; event = s.event } in
-    (Stepped e ∷ [], step cs q n s.event [] [] (none (cs ++ Stepped e ∷ [])), s.stands_for wirings start cs h)
+    (Stepped e ∷ [], step cs q n s.event [] [] (none (cs ++ Stepped e ∷ [])), s.stands_for wirings start begin cs h)
 
 cons_not : (f : List Event) → (f ≡ [] → ⊥) → all_came f ≡ [] → ⊥
 cons_not [] n e = n refl
@@ -83,8 +84,8 @@ inside w start items ks dl wl q at n h = record {
   left = left_at w q at h.front h.stands_at;
 }
 
-pub same_stands : (a b : World) (wirings : ℕ → Wiring) (start : ℕ) (cs : List Call) → IsSame a b → StandsFor a wirings start cs → StandsFor b wirings start cs
-same_stands a b wirings start cs s h = record {
+pub same_stands : (a b : World) (wirings : ℕ → Wiring) (start : ℕ) (begin : Beginning) (cs : List Call) → IsSame a b → StandsFor a wirings start begin cs → StandsFor b wirings start begin cs
+same_stands a b wirings start begin cs s h = record {
   each = λ i d e l. rw (s.queues, s.doing, s.turns i, s.deliveries i, s.waits i) (h.each i d e (omega (arith, l, ap (λ (x : List Queue). length x) s.queues)));
   come = h.come;
   serve = h.serve;
@@ -94,9 +95,9 @@ same_stands a b wirings start cs s h = record {
 }
 
 -- a queue that is not between turns is inside something
-busy_at : (a : World) (q : ℕ) (wirings : ℕ → Wiring) (start : ℕ) (cs : List Call) → q < length a.queues.items → is_between (slice_get a.doing.items q) ≡ false → StandsFor a wirings start cs →
+busy_at : (a : World) (q : ℕ) (wirings : ℕ → Wiring) (start : ℕ) (begin : Beginning) (cs : List Call) → q < length a.queues.items → is_between (slice_get a.doing.items q) ≡ false → StandsFor a wirings start begin cs →
     IsInside (wirings q) start (items_of q cs)
-busy_at a q wirings start cs l between h =
+busy_at a q wirings start begin cs l between h =
     let la : q < length a.doing.items = omega (arith, l, a.queues.ok.0, a.doing.ok.0, a.all_doing) in
     let d = queue_at a.queues.items q l in
     let e = queue_at a.doing.items q la in
@@ -106,13 +107,13 @@ busy_at a q wirings start cs l between h =
     inside (wirings q) start (items_of q cs) _ _ _ (get_or a.queues.items q d) at n (h.each q d e l)
 
 pub by_deliver : (a b : World) (q : ℕ) (p : Vec ℕ) (o : Begun) → q < length a.queues.items → IsDeliver a b q p.items o → GoesBy a b (event.Deliver q p ∷ [])
-by_deliver a b q p begun.Busy l s wirings start cs h =
-    ([], busy cs q p [] [] (busy_at a q wirings start cs l s.0 h) (none cs), subst (λ (x : List Call). StandsFor b wirings start x) (sym (append-nil cs)) (same_stands a b wirings start cs s.1 h))
-by_deliver a b q p begun.Underway l s wirings start cs h = (Delivers q p.items ∷ [], deliver cs q p [] [] (none (cs ++ Delivers q p.items ∷ [])), s.stands_for wirings start cs h)
-by_deliver a b q p (begun.Over what) l s wirings start cs h = (Delivers q p.items ∷ [], deliver cs q p [] [] (none (cs ++ Delivers q p.items ∷ [])), s.stands_for wirings start cs h)
+by_deliver a b q p begun.Busy l s wirings start begin cs h =
+    ([], busy cs q p [] [] (busy_at a q wirings start begin cs l s.0 h) (none cs), subst (λ (x : List Call). StandsFor b wirings start begin x) (sym (append-nil cs)) (same_stands a b wirings start begin cs s.1 h))
+by_deliver a b q p begun.Underway l s wirings start begin cs h = (Delivers q p.items ∷ [], deliver cs q p [] [] (none (cs ++ Delivers q p.items ∷ [])), s.stands_for wirings start begin cs h)
+by_deliver a b q p (begun.Over what) l s wirings start begin cs h = (Delivers q p.items ∷ [], deliver cs q p [] [] (none (cs ++ Delivers q p.items ∷ [])), s.stands_for wirings start begin cs h)
 
 pub by_await : (a b : World) (q n : ℕ) (o : WaitBegun) → q < length a.queues.items → IsAwait a b q n o → GoesBy a b (event.Await q n ∷ [])
-by_await a b q n wait_begun.Busy l s wirings start cs h =
-    ([], await_busy cs q n [] [] (busy_at a q wirings start cs l s.0 h) (none cs), subst (λ (x : List Call). StandsFor b wirings start x) (sym (append-nil cs)) (same_stands a b wirings start cs s.1 h))
-by_await a b q n wait_begun.Underway l s wirings start cs h = (Awaits q n ∷ [], await cs q n [] [] (none (cs ++ Awaits q n ∷ [])), s.stands_for wirings start cs h)
-by_await a b q n (wait_begun.Over answer) l s wirings start cs h = (Awaits q n ∷ [], await cs q n [] [] (none (cs ++ Awaits q n ∷ [])), s.stands_for wirings start cs h)
+by_await a b q n wait_begun.Busy l s wirings start begin cs h =
+    ([], await_busy cs q n [] [] (busy_at a q wirings start begin cs l s.0 h) (none cs), subst (λ (x : List Call). StandsFor b wirings start begin x) (sym (append-nil cs)) (same_stands a b wirings start begin cs s.1 h))
+by_await a b q n wait_begun.Underway l s wirings start begin cs h = (Awaits q n ∷ [], await cs q n [] [] (none (cs ++ Awaits q n ∷ [])), s.stands_for wirings start begin cs h)
+by_await a b q n (wait_begun.Over answer) l s wirings start begin cs h = (Awaits q n ∷ [], await cs q n [] [] (none (cs ++ Awaits q n ∷ [])), s.stands_for wirings start begin cs h)

@@ -1,4 +1,5 @@
 -- A world on which no delivery and no wait was begun.
+use Rattle.bpf_maps.specs.Beginning.{Beginning}
 use Rattle.std.proofs.Common.{◌≡◌, ℕ, zero, suc, ◌<◌, true, false, Bool, cond, eqb, List, [], ◌∷◌, ◌++◌, Some, length, take, get_or, slice_get, refl, sym, ◌∙◌, ap, subst}
 use Rattle.xen_steps.specs.Event.{Event}
 use Rattle.xen_back.specs.Queues.{state_of}
@@ -96,12 +97,12 @@ have_events wirings start es h i e at n =
     (ap (items_of e.queue) (take_stepped i es) ∙ items_stepped e.queue (take i es)) (h i e (get_stepped es i e at) n)
 
 -- what a world stands for that was only stepped, of one queue
-pub plain_queue : (world : World) (wirings : ℕ → Wiring) (start : ℕ) (es : List Entry) → Stands world wirings start es → (i : ℕ) (d : Queue) (e : Doing) → i < length world.queues.items →
+pub plain_queue : (world : World) (wirings : ℕ → Wiring) (start : ℕ) (begin : Beginning) (es : List Entry) → Stands world wirings start begin es → (i : ℕ) (d : Queue) (e : Doing) → i < length world.queues.items →
     Plainly (wirings i) start (events_of i es) (kept_in world.turns.items i) (delivered_in world.deliveries.items i) (waited_in world.waits.items i) (get_or world.queues.items i d) (get_or world.doing.items i e)
-plain_queue world wirings start es h i d e l =
+plain_queue world wirings start begin es h i d e l =
     plainly (wirings i) start (items_of i (all_stepped es)) (events_of i es) (kept_in world.turns.items i) (delivered_in world.deliveries.items i) (waited_in world.waits.items i) (get_or world.queues.items i d) (get_or world.doing.items i e)
     (items_stepped i es) (h.each i d e l)
 
-pub sofar_of : (world : World) (wirings : ℕ → Wiring) (start : ℕ) (es : List Entry) → Stands world wirings start es → (i : ℕ) (d : Queue) → i < length world.queues.items →
+pub sofar_of : (world : World) (wirings : ℕ → Wiring) (start : ℕ) (begin : Beginning) (es : List Entry) → Stands world wirings start begin es → (i : ℕ) (d : Queue) → i < length world.queues.items →
     SoFar (wirings i) start (events_of i es) (kept_in world.turns.items i) (get_or world.queues.items i d)
-sofar_of world wirings start es h i d l = (plain_queue world wirings start es h i d doing.Between l).sofar
+sofar_of world wirings start begin es h i d l = (plain_queue world wirings start begin es h i d doing.Between l).sofar

@@ -134,12 +134,12 @@ reads_append [] b = refl
 reads_append (e ∷ a) b = ap (λ l. read_answer e.event ++ l) (reads_append a b) ∙ sym (append_assoc (read_answer e.event) (read_answers a) (read_answers b))
 
 pub replays_none : (a : World) (q : ℕ) → Replays a a q []
-replays_none a q wirings start es h = ([], tt, refl, rw append-nil h)
+replays_none a q wirings start begin es h = ([], tt, refl, rw append-nil h)
 
 pub replays_then : (a b c : World) (q : ℕ) (g h : List ℕ) → Replays a b q g → Replays b c q h → Replays a c q (g ++ h)
-replays_then a b c q g h x y wirings start es s =
-    let m = x wirings start es s in
-    let n = y wirings start (es ++ m.0) m.3 in (
+replays_then a b c q g h x y wirings start begin es s =
+    let m = x wirings start begin es s in
+    let n = y wirings start begin (es ++ m.0) m.3 in (
       m.0 ++ n.0,
       of_append q m.0 n.0 m.1 n.1,
       reads_append m.0 n.0 ∙ ap (λ l. l ++ read_answers n.0) m.2 ∙ ap (λ l. g ++ l) n.2,
@@ -147,9 +147,9 @@ replays_then a b c q g h x y wirings start es s =
     )
 
 pub replays_step : (a b : World) (q answer : ℕ) (r : List ℕ) → (s : IsStep a b q answer) → read_answer s.event ≡ r → Replays a b q r
-replays_step a b q answer r s e wirings start es h =
+replays_step a b q answer r s e wirings start begin es h =
     let entry : Entry = record { queue = q; answer = answer; event = s.event } in
-    (entry ∷ [], (refl, tt), append-nil (read_answer s.event) ∙ e, s.stands wirings start es h)
+    (entry ∷ [], (refl, tt), append-nil (read_answer s.event) ∙ e, s.stands wirings start begin es h)
 
 halted_by : (w : Wiring) (start : ℕ) (ev : List Event) (ks : List Kept) (s : State) (front : List Event) (left : Steps Ending) (o : Option Halt) → s.halt ≡ o →
     Turns w (started_at start) ev ks s front → IsUnfinished w s front left → want_of left ≡ want.Done → IsHalted w start ev

@@ -3,9 +3,10 @@ use Rattle.std.proofs.Common.{◌≡◌, ◌≢◌, ℕ, zero, suc, ◌+◌, ◌
 use Rattle.std.proofs.lemmas.Bool.Decides.{eqb_tells}
 use Rattle.std.proofs.lemmas.List.{append-nil, take-append-le}
 use Rattle.std.proofs.lemmas.Option.{slice_get_within}
+use Rattle.bpf_maps.specs.Beginning.{Beginning, IsLegalFrom, left_from}
 use Rattle.bpf_maps.specs.Seats.{TotalsView, total_at}
-use Rattle.bpf_maps.proofs.HistoryLemmas.{legal_more, left_more, left_same, adds_here, adds_elsewhere, both_same}
-use Rattle.bpf_note.specs.History.{IsLegal, left_in, added}
+use Rattle.bpf_maps.proofs.HistoryLemmas.{legal_from, left_from_more, left_from_same, adds_here, adds_elsewhere, both_same}
+use Rattle.bpf_note.specs.History.{added}
 use Rattle.bpf_note.specs.Shape.{IsCounter}
 use Rattle.bpf_note.specs.declared.op.Op.{Op}
 use Rattle.bpf_note.specs.declared.op.Op.TheVariants as op
@@ -141,33 +142,33 @@ have_more wirings start cs c h g i x at n =
     (at_more cs c i (Stepped x) at)
 
 -- the history and the counters after an operation
-legal_op : (i : ℕ) (c d : TotalsView) (h : List (ℕ × Op)) (o : Option Op) → IsLegal h → ((m k j : ℕ) → IsCounter c.shapes m k j → total_at c m k j ≡ left_in m k j h) → Counts c o d → IsLegal (h ++ tagged i (op_list o))
-legal_op i c d h None legal leaves counts = rw append-nil legal
-legal_op i c d h (Some (op.Load m k j v)) legal leaves counts = legal_more h i (op.Load m k j v) legal (counts.1 ∙ leaves m k j counts.0)
-legal_op i c d h (Some (op.Add m k j delta old)) legal leaves counts = legal_more h i (op.Add m k j delta old) legal (counts.1 ∙ leaves m k j counts.0)
+legal_op : (begin : Beginning) (i : ℕ) (c d : TotalsView) (h : List (ℕ × Op)) (o : Option Op) → IsLegalFrom begin h → ((m k j : ℕ) → IsCounter c.shapes m k j → total_at c m k j ≡ left_from begin m k j h) → Counts c o d → IsLegalFrom begin (h ++ tagged i (op_list o))
+legal_op begin i c d h None legal leaves counts = rw append-nil legal
+legal_op begin i c d h (Some (op.Load m k j v)) legal leaves counts = legal_from begin h i (op.Load m k j v) legal (counts.1 ∙ leaves m k j counts.0)
+legal_op begin i c d h (Some (op.Add m k j delta old)) legal leaves counts = legal_from begin h i (op.Add m k j delta old) legal (counts.1 ∙ leaves m k j counts.0)
 
-leaves_op : (i : ℕ) (c d : TotalsView) (h : List (ℕ × Op)) (o : Option Op) → d.shapes ≡ c.shapes → ((m k j : ℕ) → IsCounter c.shapes m k j → total_at c m k j ≡ left_in m k j h) → Counts c o d →
-    (m k j : ℕ) → IsCounter d.shapes m k j → total_at d m k j ≡ left_in m k j (h ++ tagged i (op_list o))
-leaves_op i c d h None shapes leaves counts m k j is = rw (append-nil, counts) (leaves m k j (subst (λ ss. IsCounter ss m k j) shapes is))
-leaves_op i c d h (Some (op.Load a b e v)) shapes leaves counts m k j is =
+leaves_op : (begin : Beginning) (i : ℕ) (c d : TotalsView) (h : List (ℕ × Op)) (o : Option Op) → d.shapes ≡ c.shapes → ((m k j : ℕ) → IsCounter c.shapes m k j → total_at c m k j ≡ left_from begin m k j h) → Counts c o d →
+    (m k j : ℕ) → IsCounter d.shapes m k j → total_at d m k j ≡ left_from begin m k j (h ++ tagged i (op_list o))
+leaves_op begin i c d h None shapes leaves counts m k j is = rw (append-nil, counts) (leaves m k j (subst (λ ss. IsCounter ss m k j) shapes is))
+leaves_op begin i c d h (Some (op.Load a b e v)) shapes leaves counts m k j is =
     ap (λ (x : TotalsView). total_at x m k j) counts.2 ∙ leaves m k j (subst (λ ss. IsCounter ss m k j) shapes is)
-    ∙ sym (left_more m k j h i (op.Load a b e v) ∙ left_same m k j h 0 refl)
-leaves_op i c d h (Some (op.Add a b e delta old)) shapes leaves counts m k j is =
+    ∙ sym (left_from_more begin m k j h i (op.Load a b e v) ∙ left_from_same begin m k j h 0 refl)
+leaves_op begin i c d h (Some (op.Add a b e delta old)) shapes leaves counts m k j is =
     let at = subst (λ ss. IsCounter ss m k j) shapes is in
     elim (both_same m k j a b e) [
       | yes p ↦ rw (p.0, p.1, p.2) (counts.2 ∙ ap (λ (x : ℕ). (x + delta) % 18446744073709551616) (counts.1 ∙ leaves a b e counts.0)
-          ∙ ap (λ (x : ℕ). (left_in a b e h + x) % 18446744073709551616) (sym (adds_here a b e delta old)) ∙ sym (left_more a b e h i (op.Add a b e delta old)))
-      | no n ↦ counts.3 m k j at n ∙ leaves m k j at ∙ sym (left_more m k j h i (op.Add a b e delta old) ∙ left_same m k j h (added m k j (op.Add a b e delta old)) (adds_elsewhere m k j a b e delta old n))
+          ∙ ap (λ (x : ℕ). (left_from begin a b e h + x) % 18446744073709551616) (sym (adds_here a b e delta old)) ∙ sym (left_from_more begin a b e h i (op.Add a b e delta old)))
+      | no n ↦ counts.3 m k j at n ∙ leaves m k j at ∙ sym (left_from_more begin m k j h i (op.Add a b e delta old) ∙ left_from_same begin m k j h (added m k j (op.Add a b e delta old)) (adds_elsewhere m k j a b e delta old n))
     ]
 
 -- what is known of a world after one more call
-pub record After (wirings : ℕ → Wiring) (start : ℕ) (qs : List Queue) (ats : List Doing) (kept : ℕ → List Kept) (dels : ℕ → List Delivered) (waits : ℕ → List Waited) (past : List (ℕ × Op)) (d : TotalsView) (cs : List Call) : Type 0 where
+pub record After (wirings : ℕ → Wiring) (start : ℕ) (begin : Beginning) (qs : List Queue) (ats : List Doing) (kept : ℕ → List Kept) (dels : ℕ → List Delivered) (waits : ℕ → List Waited) (past : List (ℕ × Op)) (d : TotalsView) (cs : List Call) : Type 0 where
   pub each : Each wirings start qs ats kept dels waits cs
   pub come : HaveCome wirings start cs
   pub serve : AllServe (entries_of cs)
   pub joined : past ≡ history (entries_of cs)
-  pub legal : IsLegal (history (entries_of cs))
-  pub leaves : (m k j : ℕ) → IsCounter d.shapes m k j → total_at d m k j ≡ left_in m k j (history (entries_of cs))
+  pub legal : IsLegalFrom begin (history (entries_of cs))
+  pub leaves : (m k j : ℕ) → IsCounter d.shapes m k j → total_at d m k j ≡ left_from begin m k j (history (entries_of cs))
 
 step_event : (x y : Entry) → Stepped x ≡ Stepped y → x ≡ y
 step_event x y e = cc
@@ -178,9 +179,9 @@ not_step i p e h = cc
 not_awaits : (i n : ℕ) (e : Entry) → Awaits i n ≡ Stepped e → ⊥
 not_awaits i n e h = cc
 
-module _ (wirings : ℕ → Wiring) (start i a : ℕ) (qs : List Queue) (ats : List Doing) (kept kept' : ℕ → List Kept) (dels dels' : ℕ → List Delivered) (waits waits' : ℕ → List Waited) (past : List (ℕ × Op)) (c : TotalsView) (cs : List Call)
+module _ (wirings : ℕ → Wiring) (start : ℕ) (begin : Beginning) (i a : ℕ) (qs : List Queue) (ats : List Doing) (kept kept' : ℕ → List Kept) (dels dels' : ℕ → List Delivered) (waits waits' : ℕ → List Waited) (past : List (ℕ × Op)) (c : TotalsView) (cs : List Call)
     (q q' : Queue) (at at' : Doing) (l : i < length qs) (la : i < length ats) (is : (x : Queue) → get_or qs i x ≡ q) (does : (x : Doing) → get_or ats i x ≡ at)
-    (h : After wirings start qs ats kept dels waits past c cs)
+    (h : After wirings start begin qs ats kept dels waits past c cs)
     (others : (j : ℕ) → (j ≡ i → ⊥) → kept' j ≡ kept j) (others' : (j : ℕ) → (j ≡ i → ⊥) → dels' j ≡ dels j) (others'' : (j : ℕ) → (j ≡ i → ⊥) → waits' j ≡ waits j) (wi : wiring_of q' ≡ wiring_of q) where
   abbrev pub entry : Option Event → Entry
   entry e = record { queue = i; answer = a; event = e }
@@ -209,7 +210,7 @@ module _ (wirings : ℕ → Wiring) (start i a : ℕ) (qs : List Queue) (ats : L
   step_serve o s = subst AllServe (sym (entries_append cs (Stepped (entry o) ∷ []))) (serve_more (entries_of cs) (entry o) h.serve s)
 
   stands_rest : (d : TotalsView) → is_call (Some at) ≡ false → want_of (rest q) ≡ want.Done → at' ≡ at → Rests q q' c d → d.shapes ≡ c.shapes → kept' i ≡ kept i → dels' i ≡ dels i → waits' i ≡ waits i →
-      After wirings start (set qs i q') (set ats i at') kept' dels' waits' past d (grown (Stepped (entry None)))
+      After wirings start begin (set qs i q') (set ats i at') kept' dels' waits' past d (grown (Stepped (entry None)))
   stands_rest d n w e r shapes ke de we =
       let same : history (entries_of (grown (Stepped (entry None)))) ≡ history (entries_of cs) = step_past None ∙ append-nil (history (entries_of cs)) in
       let come : HasCome (wirings i) start (items_of i cs) (kept i) (dels i) (waits i) q' at' =
@@ -219,12 +220,12 @@ module _ (wirings : ℕ → Wiring) (start i a : ℕ) (qs : List Queue) (ats : L
         come = step_come None (λ x. halted (wirings i) start (items_of i cs) (kept i) (dels i) (waits i) q at n own w);
         serve = step_serve None tt;
         joined = h.joined ∙ sym same;
-        legal = subst IsLegal (sym same) h.legal;
-        leaves = λ m x j s. ap (λ (t : TotalsView). total_at t m x j) r.counters ∙ h.leaves m x j (subst (λ ss. IsCounter ss m x j) shapes s) ∙ ap (left_in m x j) (sym same);
+        legal = subst (IsLegalFrom begin) (sym same) h.legal;
+        leaves = λ m x j s. ap (λ (t : TotalsView). total_at t m x j) r.counters ∙ h.leaves m x j (subst (λ ss. IsCounter ss m x j) shapes s) ∙ ap (left_from begin m x j) (sym same);
       }
 
   stands_turn : (d : TotalsView) (o : Option Op) (k : Option Kept) → is_call (Some at) ≡ false → at' ≡ after_turn k → (v : Happens q q' c d a o k) → d.shapes ≡ c.shapes → kept' i ≡ kept i ++ kept_list k → dels' i ≡ dels i → waits' i ≡ waits i →
-      After wirings start (set qs i q') (set ats i at') kept' dels' waits' (past ++ tagged i (op_list o)) d (grown (Stepped (entry (Some v.event))))
+      After wirings start begin (set qs i q') (set ats i at') kept' dels' waits' (past ++ tagged i (op_list o)) d (grown (Stepped (entry (Some v.event))))
   stands_turn d o k n e v shapes ke de we =
       let more : history (entries_of (grown (Stepped (entry (Some v.event))))) ≡ history (entries_of cs) ++ tagged i (op_list o) =
       step_past (Some v.event) ∙ ap (λ (x : List Op). history (entries_of cs) ++ tagged i x) v.label in
@@ -236,12 +237,12 @@ module _ (wirings : ℕ → Wiring) (start i a : ℕ) (qs : List Queue) (ats : L
         come = step_come (Some v.event) (λ x. absurd (none_some (Some v.event) v.event x refl));
         serve = step_serve (Some v.event) v.serves;
         joined = ap (λ (x : List (ℕ × Op)). x ++ tagged i (op_list o)) h.joined ∙ sym more;
-        legal = subst IsLegal (sym more) (legal_op i c d (history (entries_of cs)) o h.legal h.leaves v.counts);
-        leaves = λ m x j s. leaves_op i c d (history (entries_of cs)) o shapes h.leaves v.counts m x j s ∙ ap (left_in m x j) (sym more);
+        legal = subst (IsLegalFrom begin) (sym more) (legal_op begin i c d (history (entries_of cs)) o h.legal h.leaves v.counts);
+        leaves = λ m x j s. leaves_op begin i c d (history (entries_of cs)) o shapes h.leaves v.counts m x j s ∙ ap (left_from begin m x j) (sym more);
       }
 
   stands_carry : (d : TotalsView) (x : Delivering) (o : Option Delivery) → at ≡ doing.Delivery x → d ≡ c → (v : Carries q x q' at' a o) → kept' i ≡ kept i → dels' i ≡ dels i ++ delivered_list (length (kept i)) o → waits' i ≡ waits i →
-      After wirings start (set qs i q') (set ats i at') kept' dels' waits' past d (grown (Stepped (entry (Some v.event))))
+      After wirings start begin (set qs i q') (set ats i at') kept' dels' waits' past d (grown (Stepped (entry (Some v.event))))
   stands_carry d x o e dc v ke de we =
       let same : history (entries_of (grown (Stepped (entry (Some v.event))))) ≡ history (entries_of cs) =
       step_past (Some v.event) ∙ ap (λ (y : List Op). history (entries_of cs) ++ tagged i y) v.quiet ∙ append-nil (history (entries_of cs)) in
@@ -251,13 +252,13 @@ module _ (wirings : ℕ → Wiring) (start i a : ℕ) (qs : List Queue) (ats : L
         come = step_come (Some v.event) (λ y. absurd (none_some (Some v.event) v.event y refl));
         serve = step_serve (Some v.event) v.serves;
         joined = h.joined ∙ sym same;
-        legal = subst IsLegal (sym same) h.legal;
-        leaves = λ m y j s. ap (λ (t : TotalsView). total_at t m y j) dc ∙ h.leaves m y j (subst (λ (t : TotalsView). IsCounter t.shapes m y j) dc s) ∙ ap (left_in m y j) (sym same);
+        legal = subst (IsLegalFrom begin) (sym same) h.legal;
+        leaves = λ m y j s. ap (λ (t : TotalsView). total_at t m y j) dc ∙ h.leaves m y j (subst (λ (t : TotalsView). IsCounter t.shapes m y j) dc s) ∙ ap (left_from begin m y j) (sym same);
       }
 
   stands_look : (d : TotalsView) (x : Awaiting) (o : Option Awaited) → at ≡ doing.Wait x → d ≡ c → (v : Looks q x q' at' a o) → kept' i ≡ kept i → dels' i ≡ dels i →
       waits' i ≡ waits i ++ waited_list (length (kept i)) (length (dels i)) o →
-      After wirings start (set qs i q') (set ats i at') kept' dels' waits' past d (grown (Stepped (entry (Some v.event))))
+      After wirings start begin (set qs i q') (set ats i at') kept' dels' waits' past d (grown (Stepped (entry (Some v.event))))
   stands_look d x o e dc v ke de we =
       let same : history (entries_of (grown (Stepped (entry (Some v.event))))) ≡ history (entries_of cs) =
       step_past (Some v.event) ∙ ap (λ (y : List Op). history (entries_of cs) ++ tagged i y) v.quiet ∙ append-nil (history (entries_of cs)) in
@@ -267,13 +268,13 @@ module _ (wirings : ℕ → Wiring) (start i a : ℕ) (qs : List Queue) (ats : L
         come = step_come (Some v.event) (λ y. absurd (none_some (Some v.event) v.event y refl));
         serve = step_serve (Some v.event) v.serves;
         joined = h.joined ∙ sym same;
-        legal = subst IsLegal (sym same) h.legal;
-        leaves = λ m y j s. ap (λ (t : TotalsView). total_at t m y j) dc ∙ h.leaves m y j (subst (λ (t : TotalsView). IsCounter t.shapes m y j) dc s) ∙ ap (left_in m y j) (sym same);
+        legal = subst (IsLegalFrom begin) (sym same) h.legal;
+        leaves = λ m y j s. ap (λ (t : TotalsView). total_at t m y j) dc ∙ h.leaves m y j (subst (λ (t : TotalsView). IsCounter t.shapes m y j) dc s) ∙ ap (left_from begin m y j) (sym same);
       }
 
   pub stands_step : (d : TotalsView) (e : Option Event) (o : Option Op) (k : Option Kept) (what : Option Delivery) (r : Option Awaited) → Moves q q' at at' c d a e o k what r → d.shapes ≡ c.shapes →
       kept' i ≡ kept i ++ kept_list k → dels' i ≡ dels i ++ delivered_list (length (kept i)) what → waits' i ≡ waits i ++ waited_list (length (kept i)) (length (dels i)) r →
-      After wirings start (set qs i q') (set ats i at') kept' dels' waits' (past ++ tagged i (op_list o)) d (grown (Stepped (entry e)))
+      After wirings start begin (set qs i q') (set ats i at') kept' dels' waits' (past ++ tagged i (op_list o)) d (grown (Stepped (entry e)))
   stands_step d _ _ _ _ _ (rests n w e r) shapes ke de we =
       rw append-nil (stands_rest d n w e r shapes (ke ∙ append-nil (kept i)) (de ∙ append-nil (dels i)) (we ∙ append-nil (waits i)))
   stands_step d _ _ _ _ _ (turns o k n e v) shapes ke de we = stands_turn d o k n e v shapes ke (de ∙ append-nil (dels i)) (we ∙ append-nil (waits i))
@@ -281,7 +282,7 @@ module _ (wirings : ℕ → Wiring) (start i a : ℕ) (qs : List Queue) (ats : L
   stands_step d _ _ _ _ _ (looks x r e dc v) shapes ke de we = rw append-nil (stands_look d x r e dc v (ke ∙ append-nil (kept i)) (de ∙ append-nil (dels i)) we)
 
   pub stands_given : (p : List ℕ) (o : Option Delivery) → at ≡ doing.Between → Lands q (whole_delivery (wiring_of q).vif (state_of q) p) q' at' o → kept' i ≡ kept i → dels' i ≡ dels i ++ delivered_list (length (kept i)) o →
-      waits' i ≡ waits i → After wirings start (set qs i q') (set ats i at') kept' dels' waits' past c (grown (Delivers i p))
+      waits' i ≡ waits i → After wirings start begin (set qs i q') (set ats i at') kept' dels' waits' past c (grown (Delivers i p))
   stands_given p o e v ke de we =
       let same : entries_of (grown (Delivers i p)) ≡ entries_of cs = entries_append cs (Delivers i p ∷ []) ∙ append-nil (entries_of cs) in
       let mine : HasCome (wirings i) start (items_of i cs) (kept i) (dels i) (waits i) q doing.Between = subst (λ (y : Doing). HasCome (wirings i) start (items_of i cs) (kept i) (dels i) (waits i) q y) e own in
@@ -291,12 +292,12 @@ module _ (wirings : ℕ → Wiring) (start i a : ℕ) (qs : List Queue) (ats : L
         come = have_more wirings start cs (Delivers i p) h.come (λ x s n. absurd (not_step i p x s));
         serve = subst AllServe (sym same) h.serve;
         joined = h.joined ∙ ap history (sym same);
-        legal = subst (λ (x : List Entry). IsLegal (history x)) (sym same) h.legal;
-        leaves = λ m x j s. h.leaves m x j s ∙ ap (λ (y : List Entry). left_in m x j (history y)) (sym same);
+        legal = subst (λ (x : List Entry). IsLegalFrom begin (history x)) (sym same) h.legal;
+        leaves = λ m x j s. h.leaves m x j s ∙ ap (λ (y : List Entry). left_from begin m x j (history y)) (sym same);
       }
 
   pub stands_awaits : (p : ℕ) (o : Option Awaited) → at ≡ doing.Between → Resumes q (whole_wait (wiring_of q).vif.rx (state_of q) p) q' at' o → kept' i ≡ kept i → dels' i ≡ dels i →
-      waits' i ≡ waits i ++ waited_list (length (kept i)) (length (dels i)) o → After wirings start (set qs i q') (set ats i at') kept' dels' waits' past c (grown (Awaits i p))
+      waits' i ≡ waits i ++ waited_list (length (kept i)) (length (dels i)) o → After wirings start begin (set qs i q') (set ats i at') kept' dels' waits' past c (grown (Awaits i p))
   stands_awaits p o e v ke de we =
       let same : entries_of (grown (Awaits i p)) ≡ entries_of cs = entries_append cs (Awaits i p ∷ []) ∙ append-nil (entries_of cs) in
       let mine : HasCome (wirings i) start (items_of i cs) (kept i) (dels i) (waits i) q doing.Between = subst (λ (y : Doing). HasCome (wirings i) start (items_of i cs) (kept i) (dels i) (waits i) q y) e own in
@@ -306,8 +307,8 @@ module _ (wirings : ℕ → Wiring) (start i a : ℕ) (qs : List Queue) (ats : L
         come = have_more wirings start cs (Awaits i p) h.come (λ x s n. absurd (not_awaits i p x s));
         serve = subst AllServe (sym same) h.serve;
         joined = h.joined ∙ ap history (sym same);
-        legal = subst (λ (x : List Entry). IsLegal (history x)) (sym same) h.legal;
-        leaves = λ m x j s. h.leaves m x j s ∙ ap (λ (y : List Entry). left_in m x j (history y)) (sym same);
+        legal = subst (λ (x : List Entry). IsLegalFrom begin (history x)) (sym same) h.legal;
+        leaves = λ m x j s. h.leaves m x j s ∙ ap (λ (y : List Entry). left_from begin m x j (history y)) (sym same);
       }
 
 pub get_some : {A : Type 0} (l : List A) (i : ℕ) (x : A) → i < length l → ((d : A) → get_or l i d ≡ x) → slice_get l i ≡ Some x

@@ -1,5 +1,6 @@
 -- Stated: claims rest on this file.
 -- A run of a world's events, deliveries and waits among them.
+use Rattle.bpf_maps.specs.Beginning.{Beginning, given}
 use Rattle.std.specs.Prelude.{ℕ, ◌≡◌, ◌≢◌, ◌<◌, List, [], ◌∷◌, ◌++◌, Option, length}
 use Rattle.std.specs.Global.{Vec}
 use Rattle.bpf_verify.specs.Consistent.{Accepted}
@@ -53,8 +54,8 @@ pub data Makes (wirings : ℕ → Wiring) (start : ℕ) : List Call → List Wor
 
 -- The world goes on by these events.
 abbrev pub GoesBy : World → World → List WorldEvent → Type 0
-GoesBy old new es = (wirings : ℕ → Wiring) (start : ℕ) (cs : List Call) → StandsFor old wirings start cs →
-    (more : List Call) × Makes wirings start cs es more × StandsFor new wirings start (cs ++ more)
+GoesBy old new es = (wirings : ℕ → Wiring) (start : ℕ) (begin : Beginning) (cs : List Call) → StandsFor old wirings start begin cs →
+    (more : List Call) × Makes wirings start cs es more × StandsFor new wirings start begin (cs ++ more)
 
 -- The report of a run of a program's queues through these events.
 pub record IsWorldRun (program : Accepted) (queues ifindex start : ℕ) (es : List WorldEvent) (r : Report) : Type 0 where
@@ -66,4 +67,4 @@ pub record IsWorldRun (program : Accepted) (queues ifindex start : ℕ) (es : Li
   pub delivered : length r.deliveries.items ≡ queues
   pub waited : length r.waits.items ≡ queues
   pub shapes : r.totals.shapes ≡ program.shapes
-  pub tells : Tells wirings start calls r
+  pub tells : Tells wirings start (given program.shapes []) calls r

@@ -1,6 +1,7 @@
 -- Stated: claims rest on this file.
 -- Where a world begins.
 use Rattle.std.specs.Prelude.{ℕ, ◌≡◌, ◌<◌, ◌+◌, ◌*◌, List, [], Option}
+use Rattle.bpf_maps.specs.Beginning.{given}
 use Rattle.bpf_lists.specs.declared.list.MapList.{MapList}
 use Rattle.bpf_verify.specs.Consistent.{Accepted}
 use Rattle.xen_back.specs.Queues.{state_of, wiring_of, IsReady}
@@ -31,8 +32,8 @@ pub record IsFresh (program : Accepted) (lists : List (Option MapList)) (queues 
   pub state : state_of q ≡ started_at start
   pub ready : IsReady q
 
--- The world stands for no steps, from queues of this layout and program.
-pub record Begins (program : Accepted) (lists : List (Option MapList)) (queues ifindex start : ℕ) (world : World) : Type 0 where
+-- The world stands for no steps, from queues of this layout and program, and counters that begin with these numbers.
+pub record Begins (program : Accepted) (lists : List (Option MapList)) (values : List (List ℕ)) (queues ifindex start : ℕ) (world : World) : Type 0 where
   pub wirings : ℕ → Wiring
   pub wired : (i : ℕ) → i < queues → IsFor program lists queues ifindex i (wirings i)
-  pub stands : Stands world wirings start []
+  pub stands : Stands world wirings start (given program.shapes values) []

@@ -43,7 +43,7 @@ pub data Stops (w : Wiring) (start : ℕ) (events : List Event) (kept : List Kep
 -- The report is of a run through steps of this queue, whose reads took the answers in order, as far as it came.
 pub record IsReplay (program : Accepted) (queues ifindex start queue : ℕ) (answers : List ℕ) (r : Report) : Type 0 where
   pub steps : List (ℕ × ℕ)
-  pub run : IsCoreRun program [] queues ifindex start steps r
+  pub run : IsCoreRun program [] [] queues ifindex start steps r
   pub own : AreOf queue run.entries
   pub left : List ℕ
   pub answered : answers ≡ read_answers run.entries ++ left

@@ -1,5 +1,6 @@
 -- For proofs: no claim rests on this file.
 -- A world in which one queue is stepped.
+use Rattle.bpf_maps.specs.Beginning.{Beginning}
 use Rattle.std.specs.Prelude.{ℕ, ◌≡◌, ◌⊎◌, List, [], ◌++◌, slice_index_or}
 use Rattle.xen_back.specs.Queues.{rest, wiring_of}
 use Rattle.xen_turns.specs.Tree.{whole_turn}
@@ -35,8 +36,8 @@ IsNear n q = Pauses (want_of (rest q)) ⊎ Bounded Anything Any (rest q) n
 
 -- The world goes on by steps of a queue, whose reads were answered by these numbers.
 abbrev pub Replays : World → World → ℕ → List ℕ → Type 0
-Replays old new queue given = (wirings : ℕ → Wiring) (start : ℕ) (es : List Entry) → Stands old wirings start es →
-    (more : List Entry) × AreOf queue more × (read_answers more ≡ given) × Stands new wirings start (es ++ more)
+Replays old new queue given = (wirings : ℕ → Wiring) (start : ℕ) (begin : Beginning) (es : List Entry) → Stands old wirings start begin es →
+    (more : List Entry) × AreOf queue more × (read_answers more ≡ given) × Stands new wirings start begin (es ++ more)
 
 -- A queue that is stepped no further when these answers are left.
 abbrev pub Rests : Want → List ℕ → Type 0

@@ -1,10 +1,10 @@
 -- Stated: claims rest on this file.
 -- What a world stands for.
+use Rattle.bpf_maps.specs.Beginning.{Beginning, IsLegalFrom, left_from}
 use Rattle.std.specs.Prelude.{ℕ, ◌≡◌, ◌<◌, ◌++◌, ◌∷◌, List, [], Option, Some, None, true, false, length, slice_get, slice_index_or, vec_len}
 use Rattle.std.specs.Prelude.{vec_capacity}
 use Rattle.std.specs.Global.{Vec}
 use Rattle.bpf_maps.specs.Seats.{total_at}
-use Rattle.bpf_note.specs.History.{IsLegal, left_in}
 use Rattle.bpf_note.specs.Shape.{IsCounter}
 use Rattle.xen_steps.specs.Event.{Event}
 use Rattle.xen_turns.specs.Deliveries.{whole_delivery}
@@ -85,20 +85,20 @@ pub record HasCome (w : Wiring) (start : ℕ) (items : List Item) (kept : List K
   pub waits : waited ≡ waits_in 0 0 deeds
   pub stands_at : IsAt w q at front
 
--- The world has come through these calls, from queues with these wirings that began at this index.
-pub record StandsFor (world : World) (wirings : ℕ → Wiring) (start : ℕ) (cs : List Call) : Type 0 where
+-- The world has come through these calls, from queues with these wirings that began at this index, and from counters that began so.
+pub record StandsFor (world : World) (wirings : ℕ → Wiring) (start : ℕ) (begin : Beginning) (cs : List Call) : Type 0 where
   pub each : (i : ℕ) (d : Queue) (e : Doing) → i < length world.queues.items →
       HasCome (wirings i) start (items_of i cs) (kept_in world.turns.items i) (delivered_in world.deliveries.items i)
       (waited_in world.waits.items i) (slice_index_or world.queues.items i d) (slice_index_or world.doing.items i e)
   pub come : HaveCome wirings start cs
   pub serve : AllServe (entries_of cs)
   pub past : world.history.items ≡ history (entries_of cs)
-  pub legal : IsLegal (history (entries_of cs))
-  pub leaves : (m k j : ℕ) → IsCounter world.counters.shapes m k j → total_at world.counters m k j ≡ left_in m k j (history (entries_of cs))
+  pub legal : IsLegalFrom begin (history (entries_of cs))
+  pub leaves : (m k j : ℕ) → IsCounter world.counters.shapes m k j → total_at world.counters m k j ≡ left_from begin m k j (history (entries_of cs))
 
 -- The world has come through these entries alone: no delivery and no wait was begun.
-abbrev pub Stands : World → (ℕ → Wiring) → ℕ → List Entry → Type 0
-Stands world wirings start es = StandsFor world wirings start (all_stepped es)
+abbrev pub Stands : World → (ℕ → Wiring) → ℕ → Beginning → List Entry → Type 0
+Stands world wirings start begin es = StandsFor world wirings start begin (all_stepped es)
 
 -- The world has done nothing, but for room that it may have taken.
 pub record IsSame (old new : World) : Type 0 where
@@ -138,10 +138,10 @@ pub record IsStep (old new : World) (queue answer : ℕ) : Type 0 where
   pub waits : waited_in new.waits.items queue ≡ waited_in old.waits.items queue ++
       waited_list (length (kept_in old.turns.items queue)) (length (delivered_in old.deliveries.items queue)) awaited
   pub no_wait : ((a : Awaiting) → doing_in old queue ≡ Some (doing.Wait a) → ⊥) → awaited ≡ None
-  pub stands : (wirings : ℕ → Wiring) (start : ℕ) (es : List Entry) → Stands old wirings start es →
-      Stands new wirings start (es ++ record { queue = queue; answer = answer; event = event } ∷ [])
-  pub stands_for : (wirings : ℕ → Wiring) (start : ℕ) (cs : List Call) → StandsFor old wirings start cs →
-      StandsFor new wirings start (cs ++ Stepped (record { queue = queue; answer = answer; event = event }) ∷ [])
+  pub stands : (wirings : ℕ → Wiring) (start : ℕ) (begin : Beginning) (es : List Entry) → Stands old wirings start begin es →
+      Stands new wirings start begin (es ++ record { queue = queue; answer = answer; event = event } ∷ [])
+  pub stands_for : (wirings : ℕ → Wiring) (start : ℕ) (begin : Beginning) (cs : List Call) → StandsFor old wirings start begin cs →
+      StandsFor new wirings start begin (cs ++ Stepped (record { queue = queue; answer = answer; event = event }) ∷ [])
 
 -- The world began to deliver a packet on a queue that was between turns. If the delivery is over by that, what became of it is kept.
 pub record HasBegun (old new : World) (queue : ℕ) (packet : List ℕ) (over : Option Delivery) : Type 0 where
@@ -154,8 +154,8 @@ pub record HasBegun (old new : World) (queue : ℕ) (packet : List ℕ) (over : 
   pub deliveries : delivered_in new.deliveries.items queue ≡
       delivered_in old.deliveries.items queue ++ delivered_list (length (kept_in old.turns.items queue)) over
   pub waits : waited_in new.waits.items queue ≡ waited_in old.waits.items queue
-  pub stands_for : (wirings : ℕ → Wiring) (start : ℕ) (cs : List Call) → StandsFor old wirings start cs →
-      StandsFor new wirings start (cs ++ Delivers queue packet ∷ [])
+  pub stands_for : (wirings : ℕ → Wiring) (start : ℕ) (begin : Beginning) (cs : List Call) → StandsFor old wirings start begin cs →
+      StandsFor new wirings start begin (cs ++ Delivers queue packet ∷ [])
 
 -- What a host is told that has a packet delivered. Inside a turn, a delivery or a wait nothing is done.
 abbrev pub IsDeliver : World → World → ℕ → List ℕ → Begun → Type 0
@@ -174,8 +174,8 @@ pub record HasBegunWait (old new : World) (queue pages : ℕ) (over : Option Awa
   pub deliveries : delivered_in new.deliveries.items queue ≡ delivered_in old.deliveries.items queue
   pub waits : waited_in new.waits.items queue ≡ waited_in old.waits.items queue ++
       waited_list (length (kept_in old.turns.items queue)) (length (delivered_in old.deliveries.items queue)) over
-  pub stands_for : (wirings : ℕ → Wiring) (start : ℕ) (cs : List Call) → StandsFor old wirings start cs →
-      StandsFor new wirings start (cs ++ Awaits queue pages ∷ [])
+  pub stands_for : (wirings : ℕ → Wiring) (start : ℕ) (begin : Beginning) (cs : List Call) → StandsFor old wirings start begin cs →
+      StandsFor new wirings start begin (cs ++ Awaits queue pages ∷ [])
 
 -- What a host is told that waits for rx slots. Inside a turn, a delivery or a wait nothing is done.
 abbrev pub IsAwait : World → World → ℕ → ℕ → WaitBegun → Type 0
@@ -185,8 +185,8 @@ IsAwait old new queue pages (wait_begun.Over answer) = HasBegunWait old new queu
 
 -- The world goes on by these steps.
 abbrev pub GoesOn : World → World → List (ℕ × ℕ) → Type 0
-GoesOn old new steps = (wirings : ℕ → Wiring) (start : ℕ) (es : List Entry) → Stands old wirings start es →
-    (more : List Entry) × (steps_of more ≡ steps) × Stands new wirings start (es ++ more)
+GoesOn old new steps = (wirings : ℕ → Wiring) (start : ℕ) (begin : Beginning) (es : List Entry) → Stands old wirings start begin es →
+    (more : List Entry) × (steps_of more ≡ steps) × Stands new wirings start begin (es ++ more)
 
 -- One more can be kept without memory.
 abbrev pub HasRoom : {A : Type 0} → Option (Vec A) → Type 0

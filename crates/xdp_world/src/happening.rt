@@ -79,6 +79,7 @@ impl World<'_, '_> {
             &layout,
             program,
             &[],
+            &[],
             buffers.as_mut_slice(),
             queues,
             ifindex,

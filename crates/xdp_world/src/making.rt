@@ -1,5 +1,6 @@
 //! Making a world, and running it.
-ghost use Rattle.std.specs.Prelude.{◌≡◌, ◌<◌, ◌≤◌, ℕ, List, [], All, IfOk, length, slice_index_or, vec_len};
+ghost use Rattle.std.specs.Prelude.{◌≡◌, ◌<◌, ◌≤◌, ℕ, List, [], All, IfOk, length, map, slice_index_or, vec_len};
+ghost use Rattle.bpf_maps.specs.Beginning.{Beginning};
 ghost use Rattle.xen_turns.specs.declared.wiring.Wiring.{Wiring};
 ghost use Rattle.xdp_world.specs.Begin.{Begins, IsFresh};
 ghost use Rattle.xdp_world.specs.Entries.{Entry};
@@ -20,6 +21,7 @@ use bpf_verify::Verified;
 use bpf_vm::Buffer;
 use std::alloc::{AllocError, Global};
 use xen_back::{Queue, QueueDesc};
+use xen_netif::NO_OFFERS;
 
 /// A queue before its first turn.
 pub(crate) fn queue<'p, 'b>(
@@ -47,6 +49,7 @@ pub(crate) fn queue<'p, 'b>(
         ifindex,
         queue: number as u32,
         port: Layout::back_port(number),
+        offers: NO_OFFERS,
         start,
     };
     Ok(Queue::make(program, lists, desc, buffer))
@@ -100,13 +103,14 @@ fn none_waited(alloc: Global, queues: usize) -> Result<Vec<Vec<Waited>>, AllocEr
 }
 
 impl<'p, 'b> World<'p, 'b> {
-    /// `queues` queues of a program with lists of its maps, before their first turns, with all counters 0. Their packets lie in
-    /// the buffers.
+    /// `queues` queues of a program with lists of its maps, before their first turns, whose counters begin with these numbers.
+    /// Their packets lie in the buffers.
     pub fn make(
         alloc: Global,
         layout: &'p Layout,
         program: &'p Verified,
         lists: &'p [Option<MapList>],
+        values: &[Vec<u64>],
         buffers: &'b mut [Buffer],
         queues: usize,
         ifindex: u32,
@@ -118,9 +122,9 @@ impl<'p, 'b> World<'p, 'b> {
         ensures size { IfOk result (λ w. vec_len w.queues ≡ queues) }
         ensures shapes { IfOk result (λ w. w.counters.shapes ≡ program.now.shapes) }
         ensures free { IfOk result (λ w. (i : ℕ) → IsFree w i) }
-        ensures begins { IfOk result (Begins program.now lists.now queues ifindex start) }
+        ensures begins { IfOk result (Begins program.now lists.now (map (λ v. v.items) values.now) queues ifindex start) }
     {
-        let counters = Totals::make(alloc, program.shapes())?;
+        let counters = Totals::begin(alloc, program.shapes(), values)?;
         let mut all = Vec::with_capacity(alloc, queues)?;
         let mut turns: Vec<Vec<Kept>> = Vec::with_capacity(alloc, queues)?;
         let doing = all_between(alloc, queues)?;
@@ -164,10 +168,10 @@ impl<'p, 'b> World<'p, 'b> {
         ensures deliveries { result.deliveries.items ≡ self.entry.deliveries.items }
         ensures waits { result.waits.items ≡ self.entry.waits.items }
         ensures shapes { result.totals.shapes ≡ self.entry.counters.shapes }
-        ensures reports { (wirings : ℕ → Wiring) (start : ℕ) (es : List Entry) → Stands self.entry wirings start es →
-            Reports wirings start es result }
-        ensures tells { (wirings : ℕ → Wiring) (start : ℕ) (cs : List Call) → StandsFor self.entry wirings start cs →
-            Tells wirings start cs result }
+        ensures reports { (wirings : ℕ → Wiring) (start : ℕ) (begin : Beginning) (es : List Entry) → Stands self.entry wirings start begin es →
+            Reports wirings start begin es result }
+        ensures tells { (wirings : ℕ → Wiring) (start : ℕ) (begin : Beginning) (cs : List Call) → StandsFor self.entry wirings start begin cs →
+            Tells wirings start begin cs result }
     {
         let World {
             queues: _,
@@ -195,6 +199,7 @@ impl World<'_, '_> {
         alloc: Global,
         program: &Verified,
         lists: &[Option<MapList>],
+        values: &[Vec<u64>],
         queues: usize,
         ifindex: u32,
         start: u32,
@@ -202,7 +207,7 @@ impl World<'_, '_> {
     ) -> Result<Report, AllocError>
         requires queues { (1 ≤ queues) × (queues ≤ 8) }
         requires steps { All (λ s. s.0 < queues) steps.now }
-        ensures { IfOk result (IsCoreRun program.now lists.now queues ifindex start steps.now) }
+        ensures { IfOk result (IsCoreRun program.now lists.now (map (λ v. v.items) values.now) queues ifindex start steps.now) }
     {
         let layout = Layout::make(alloc, queues)?;
         let mut buffers = buffers(alloc, queues)?;
@@ -211,6 +216,7 @@ impl World<'_, '_> {
             &layout,
             program,
             lists,
+            values,
             buffers.as_mut_slice(),
             queues,
             ifindex,

@@ -102,6 +102,7 @@ pub fn replay(
         &layout,
         program,
         &[],
+        &[],
         buffers.as_mut_slice(),
         queues,
         ifindex,

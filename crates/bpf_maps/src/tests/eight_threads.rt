@@ -1,6 +1,7 @@
 //! As many threads as seats, in a scope, each of which promises to give its seat back.
 ghost use Rattle.std.specs.Prelude.{◌≡◌, ℕ, List, All, Contains, map, ◌<◌, ◌≤◌, length, IfOk};
 ghost use Rattle.bpf_note.specs.Shape.{IsCounter, most_maps};
+ghost use Rattle.bpf_maps.specs.Beginning.{Beginning};
 ghost use Rattle.bpf_maps.specs.Seats.{IsSeatOf, CountersView, SeatView, Account, most_seats};
 
 use super::worker::hit;
@@ -17,7 +18,7 @@ use std::thread::{Promise, PromisedHandle, Scope, Threads};
 struct SeatBack(Snapshot<CounterSeat>);
 
 impl Promise<CounterSeat> for SeatBack {
-    ghost kept_by = { λ p s. (s.table ≡ p.0.value.table) × (s.shapes ≡ p.0.value.shapes) × (s.number ≡ p.0.value.number) };
+    ghost kept_by = { λ p s. (s.table ≡ p.0.value.table) × (s.shapes ≡ p.0.value.shapes) × (s.begin ≡ p.0.value.begin) × (s.number ≡ p.0.value.number) };
 }
 
 type Child = PromisedHandle<CounterSeat, SeatBack>;
@@ -97,7 +98,7 @@ fn many<R: Threads + Wait + Sync>(
     requires seats { (0 < seats) × (seats ≤ most_seats) }
     requires place { IsCounter shapes.now 0 0 0 }
     ensures shapes { IfOk result (λ t. t.shapes ≡ shapes.now) }
-    ensures account { IfOk result (λ t. (back : List SeatView) × Account back t) }
+    ensures account { IfOk result (λ t. (begin : Beginning) × (back : List SeatView) × Account begin back t) }
 {
     let (counters, dealt) = Counters::make(alloc, shapes, seats)?;
     let back = run_all(rt, alloc, &counters, dealt, times)?;

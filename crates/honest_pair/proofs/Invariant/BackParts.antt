@@ -10,7 +10,10 @@ use Rattle.std.proofs.lemmas.Bool.Decides.{nat_tests}
 use Rattle.xen_buffers.specs.Grants.{buffer}
 use Rattle.xen_buffers.specs.declared.wiring.Wiring.{Wiring}
 use Rattle.xen_front.specs.Slots.{piece_size, told_size, word_at}
-use Rattle.xen_netif.specs.Fragments.{fragment_of, fragments_of, is_in_page, later_fragment, slot_size, split}
+use Rattle.xen_netif.proofs.SegmentLemmas.{plain_offered}
+use Rattle.xen_netif.specs.Segments.{offered_fragments}
+use Rattle.xen_netif.specs.declared.segments.Offers.{Offers}
+use Rattle.xen_netif.specs.Fragments.{fragment_of, is_in_page, later_fragment, slot_size, split}
 use Rattle.xen_netif.specs.Slots.{tx_req_of}
 use Rattle.xen_netif.specs.declared.fault.SizeFault.{SizeFault}
 use Rattle.xen_netif.specs.declared.fault.SizeFault.TheVariants.{ShortPacket, LaterSizes, PastPage, ExtraInfo}
@@ -114,9 +117,9 @@ module _ (w : Wiring) (start : ℕ) where
       within z h = grind (arith, nat_tests)
 
   -- no refusal: the fragments of a sent packet's chain are its pieces
-  pub fragments_sent : (p : List ℕ) (n id : ℕ) (ids : List ℕ) → 14 ≤ length p → id < 256 → AllOf (λ i. i < 256) ids → length p ≤ 4096 * (1 + length ids) →
-      fragments_of (map (tx_words w start) (pieces_from p n 0 (id ∷ ids))) ≡ Ok (map part (pieces_from p n 0 (id ∷ ids)))
-  fragments_sent p n id ids h a b q =
+  pub fragments_sent : (offers : Offers) (p : List ℕ) (n id : ℕ) (ids : List ℕ) → 14 ≤ length p → id < 256 → AllOf (λ i. i < 256) ids → length p ≤ 4096 * (1 + length ids) →
+      offered_fragments offers (map (tx_words w start) (pieces_from p n 0 (id ∷ ids))) ≡ Ok (map part (pieces_from p n 0 (id ∷ ids)))
+  fragments_sent offers p n id ids h a b q =
       let x : Piece = record { bytes = p; n = n; k = 0; id = id } in
       let first = tx_words w start x in
       let later = map (tx_words w start) (pieces_from p n 1 ids) in
@@ -126,7 +129,8 @@ module _ (w : Wiring) (start : ℕ) where
       ap (λ f. f ∷ map later_fragment later) (slot_part x (slot_size first - sum_by slot_size later) (omega (arith, size, sum, piece_size_of (length p) 0)))
       ∙ ap (λ l. part x ∷ l) (later_parts p n 1 ids (omega arith) b) in
       let rest : List Fragment → Result (List Fragment) SizeFault = λ l. if list_all is_in_page l then Ok l else Err PastPage in
-      ap (λ t. if t then Err ExtraInfo else (if nat_lt (slot_size first) 14 then Err ShortPacket else (if nat_lt (slot_size first) (sum_by slot_size later) then Err LaterSizes else rest (split first later)))) (no_extra w start x)
+      plain_offered offers first later (no_extra w start x)
+      ∙ ap (λ t. if t then Err ExtraInfo else (if nat_lt (slot_size first) 14 then Err ShortPacket else (if nat_lt (slot_size first) (sum_by slot_size later) then Err LaterSizes else rest (split first later)))) (no_extra w start x)
       ∙ ap (λ t. if t then Err ShortPacket else (if nat_lt (slot_size first) (sum_by slot_size later) then Err LaterSizes else rest (split first later))) (enough (slot_size first) (omega (arith, size, h)))
       ∙ ap (λ t. if t then Err LaterSizes else rest (split first later)) (fits (slot_size first) (sum_by slot_size later) (omega (arith, size, sum)))
       ∙ ap rest parts

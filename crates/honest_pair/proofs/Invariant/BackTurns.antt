@@ -8,7 +8,8 @@ use Rattle.xen_turns.specs.declared.state.State.{State}
 use Rattle.xen_turns.specs.declared.wiring.Wiring.{Wiring as BackWiring}
 use Rattle.xen_buffers.specs.declared.wiring.Wiring.{Wiring}
 use Rattle.xen_netif.specs.Chain.{Slot}
-use Rattle.xen_netif.specs.Fragments.{fragments_of}
+use Rattle.xen_netif.specs.Segments.{offered_fragments}
+use Rattle.xen_netif.specs.declared.segments.Offers.{Offers}
 use Rattle.xen_steps.specs.Places.{add32}
 use Rattle.xen_steps.specs.Steps.{done, bind}
 use Rattle.honest_pair.specs.Machine.Halves.{Half, HasRun, half_chain, half_copy, half_look, half_scan, half_turn, half_unless}
@@ -27,17 +28,17 @@ use Rattle.honest_pair.proofs.Invariant.BackCopies.{Copied, copy_safe}
 use Rattle.honest_pair.proofs.Invariant.BackAnswers.{Answered, HasLeft, program_safe, respond_safe}
 
 -- no refusal of a sent packet's sizes
-fragments_there : (w : Wiring) (start : ℕ) (s : Sent) → IsSent s → fragments_of (map (tx_words w start) (pieces_in s)) ≡ Ok (map (part w start) (pieces_in s))
-fragments_there w start s h = by s.ids refl
+fragments_there : (offers : Offers) (w : Wiring) (start : ℕ) (s : Sent) → IsSent s → offered_fragments offers (map (tx_words w start) (pieces_in s)) ≡ Ok (map (part w start) (pieces_in s))
+fragments_there offers w start s h = by s.ids refl
   where
-    by : (ids : List ℕ) → s.ids ≡ ids → fragments_of (map (tx_words w start) (pieces_in s)) ≡ Ok (map (part w start) (pieces_in s))
+    by : (ids : List ℕ) → s.ids ≡ ids → offered_fragments offers (map (tx_words w start) (pieces_in s)) ≡ Ok (map (part w start) (pieces_in s))
     by [] e = let a = h.count in let b = h.least in let c : length s.ids ≡ 0 = ap length e in absurd (omega (arith, a, b, c))
     by (id ∷ ids) e =
         let all : AllOf (λ i. i < 256) (id ∷ ids) = subst (AllOf (λ i. i < 256)) e h.ids in
         let n : length s.ids ≡ suc (length ids) = ap length e in
         let a = h.count in
-        subst (λ o. fragments_of (map (tx_words w start) (pieces_from s.bytes (length s.ids) 0 o)) ≡ Ok (map (part w start) (pieces_from s.bytes (length s.ids) 0 o))) (sym e)
-        (fragments_sent w start s.bytes (length s.ids) id ids h.least all.0 all.1 (omega (arith, a, n)))
+        subst (λ o. offered_fragments offers (map (tx_words w start) (pieces_from s.bytes (length s.ids) 0 o)) ≡ Ok (map (part w start) (pieces_from s.bytes (length s.ids) 0 o))) (sym e)
+        (fragments_sent w start offers s.bytes (length s.ids) id ids h.least all.0 all.1 (omega (arith, a, n)))
 
 pub done_count : (start : ℕ) (d : List Sent) (s : Sent) → add32 (add32 start (length (slots d))) (length s.ids) ≡ add32 start (length (slots (d ++ s ∷ [])))
 done_count start d s =
@@ -115,7 +116,7 @@ module _ (w : Wiring) (start : ℕ) (y : Laid w) (small : start < 2 ^ 32) (v : B
     scanned_safe : (b : Back) (o : Scan) → Scanned w start v d s l g rs e (length s.ids) all b o → BackSafe w start (HasGiven g) Ends b (half_scan wiring state o)
     scanned_safe b o h =
         onto (λ b2 o2. BackSafe w start (HasGiven g) Ends b2 (half_scan wiring state o2)) read b (Ok all) o h.0 h.1
-        (subst (λ f. BackSafe w start (HasGiven g) Ends read (half_chain wiring state all f)) (sym (fragments_there w start s good))
+        (subst (λ f. BackSafe w start (HasGiven g) Ends read (half_chain wiring state all f)) (sym (fragments_there wiring.offers w start s good))
         (safe_bind w start (HasGiven g) (Copied w start v j d s l g rs e good) Ends read (copy wiring (map (part w start) (pieces_in s)) []) (half_copy wiring state all)
         (copy_safe w start v j d s l g rs e good) copied_safe))
 

@@ -2,7 +2,7 @@
 use Rattle.std.proofs.Common.{◌≡◌, ℕ, zero, suc, ◌<◌, ◌^◌, refl, sym, ◌∙◌, ap, subst, arith, List, [], ◌∷◌, ◌++◌, Option, Some, None, Result, Ok, Err, take}
 use Rattle.std.proofs.lemmas.List.{append-nil}
 use Rattle.xen_netif.specs.Chain.{Slot}
-use Rattle.xen_netif.specs.Fragments.{fragments_of}
+use Rattle.xen_netif.specs.Segments.{offered_fragments}
 use Rattle.xen_netif.specs.Standing.{standing}
 use Rattle.xen_netif.specs.declared.chain.ChainState.TheVariants as wanted
 use Rattle.xen_netif.specs.declared.fault.SizeFault.{SizeFault}
@@ -72,7 +72,7 @@ module _ (w : Wiring) (s : State) (slots : List Slot) (packet : List ℕ) (left 
       let d : l ≡ left = ap (λ x. left_in x left) h in
       rw append-nil (subst (λ (l : Left). (r : Ran w s t slots l) × (r.packet ≡ packet)) d (subst (λ (ss : List Slot). (r : Ran w s t ss l) × (r.packet ≡ packet)) a (r, e ∙ b)))
 
-  copied : (p1 p2 p3 p : List Event) (n : ℕ) (ss : List Slot) (fragments : List Fragment) (a : HasRead w s n p1 p2 ss) → standing ss ≡ Some (Ok wanted.Complete) → fragments_of ss ≡ Ok fragments →
+  copied : (p1 p2 p3 p : List Event) (n : ℕ) (ss : List Slot) (fragments : List Fragment) (a : HasRead w s n p1 p2 ss) → standing ss ≡ Some (Ok wanted.Complete) → offered_fragments w.offers ss ≡ Ok fragments →
       (o : Option (List ℕ)) → IsCopy w fragments p3 o → Runs (half_copy w s ss o) p (HasRun slots packet left) → Has (p1 ++ (p2 ++ (p3 ++ p)))
   copied p1 p2 p3 p n ss fragments a v f None c h = absurd (never_runs (after_copy w s ss None) p slots packet left h)
   copied p1 p2 p3 p n ss fragments a v f (Some bytes) c h =
@@ -80,7 +80,7 @@ module _ (w : Wiring) (s : State) (slots : List Slot) (packet : List ℕ) (left 
       let run = run_parts w s p1 p2 p3 i.front n ss fragments bytes i.mid a v f c i.first in
       subst Has (sym (ap (λ q. p1 ++ (p2 ++ (p3 ++ q))) i.joined ∙ regroup p1 p2 p3 i.front i.back)) (gives ss bytes i.mid i.back (p1 ++ (p2 ++ (p3 ++ i.front))) run refl i.later)
 
-  chain_has : (p1 p2 p : List Event) (n : ℕ) (ss : List Slot) → HasRead w s n p1 p2 ss → standing ss ≡ Some (Ok wanted.Complete) → (o : Result (List Fragment) SizeFault) → fragments_of ss ≡ o →
+  chain_has : (p1 p2 p : List Event) (n : ℕ) (ss : List Slot) → HasRead w s n p1 p2 ss → standing ss ≡ Some (Ok wanted.Complete) → (o : Result (List Fragment) SizeFault) → offered_fragments w.offers ss ≡ o →
       Runs (half_chain w s ss o) p (HasRun slots packet left) → Has (p1 ++ (p2 ++ p))
   chain_has p1 p2 p n ss a v (Err fault) f h = absurd (never_runs (after_chain w s ss (Err fault)) p slots packet left h)
   chain_has p1 p2 p n ss a v (Ok fragments) f h =
@@ -88,7 +88,7 @@ module _ (w : Wiring) (s : State) (slots : List Slot) (packet : List ℕ) (left 
       rw i.joined (copied p1 p2 i.front i.back n ss fragments a v f i.mid (copy_parts w fragments i.front i.mid i.first) i.later)
 
   scan_has : (p1 p2 p : List Event) (n : ℕ) (ss : List Slot) (x : Scan) → HasRead w s n p1 p2 ss → ScanEnds n [] ss x → Runs (half_scan w s x) p (HasRun slots packet left) → Has (p1 ++ (p2 ++ p))
-  scan_has p1 p2 p n ss _ a (is_whole v) h = chain_has p1 p2 p n ss a v (fragments_of ss) refl h
+  scan_has p1 p2 p n ss _ a (is_whole v) h = chain_has p1 p2 p n ss a v (offered_fragments w.offers ss) refl h
   scan_has p1 p2 p n ss _ a (is_faulty fault v) h = absurd (never_runs (after_scan w s (Err (halt.Chain fault))) p slots packet left h)
   scan_has p1 p2 p n ss _ a (none_left e v) h = absurd (never_runs (after_scan w s (Err halt.ShortChain)) p slots packet left h)
 

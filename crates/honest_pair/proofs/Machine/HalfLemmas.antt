@@ -2,7 +2,7 @@
 use Rattle.std.proofs.Common.{◌≡◌, ℕ, zero, suc, refl, ◌∙◌, ap, List, [], Option, Some, None, Result, Ok, Err}
 use mathlib.Core.Path.{fun_ext}
 use Rattle.xen_netif.specs.Chain.{Slot}
-use Rattle.xen_netif.specs.Fragments.{fragments_of}
+use Rattle.xen_netif.specs.Segments.{offered_fragments}
 use Rattle.xen_netif.specs.declared.fault.SizeFault.{SizeFault}
 use Rattle.xen_netif.specs.declared.fragment.Fragment.{Fragment}
 use Rattle.xen_steps.specs.Steps.{Steps, done, ask, never, bind}
@@ -43,7 +43,7 @@ module _ (w : Wiring) (s : State) where
 
   scan_whole : (x : Scan) → bind (half_scan w s x) (second_half w s) ≡ after_scan w s x
   scan_whole (Err cause) = over_whole (after_scan w s (Err cause))
-  scan_whole (Ok slots) = chain_whole slots (fragments_of slots)
+  scan_whole (Ok slots) = chain_whole slots (offered_fragments w.offers slots)
 
   look_whole : (o : Option ℕ) → bind (half_look w s o) (second_half w s) ≡ after_look w s o
   look_whole None = over_whole (after_look w s None)

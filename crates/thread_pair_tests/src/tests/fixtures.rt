@@ -1,5 +1,5 @@
 //! Runs of pairs over a bench.
-ghost use Rattle.std.specs.Prelude.{◌≡◌, ◌≤◌, Some, length, slice_get, vec_len};
+ghost use Rattle.std.specs.Prelude.{◌≡◌, ◌≤◌, Some, length, slice_get, vec_len, false};
 ghost use Rattle.bpf_note.specs.declared.key.MapKey.TheVariants.{Index};
 
 use crate::bench::{Bench, Rows, TURNS, program, rows_of, setup_of};
@@ -71,7 +71,7 @@ impl Bench {
         parkers: Parkers,
     ) -> Option<(Rows, u64)>
         requires parkers { (vec_len parkers.fronts ≡ self.now.setup.queues) × (vec_len parkers.backs ≡ self.now.setup.queues) }
-        requires shape { slice_get program.now.shapes 0 ≡ Some (record { entries = 2; counters = 1; key = Index }) }
+        requires shape { slice_get program.now.shapes 0 ≡ Some (record { entries = 2; counters = 1; key = Index; parts = false }) }
     {
         let job = Job {
             setup: &self.setup,

@@ -1,6 +1,6 @@
 //! Counters that several queues' threads add to.
 
-ghost use Rattle.std.specs.Prelude.{◌≡◌, Some, slice_get};
+ghost use Rattle.std.specs.Prelude.{◌≡◌, Some, slice_get, false};
 ghost use Rattle.bpf_note.specs.declared.key.MapKey.TheVariants.{Index};
 
 use crate::bench::{
@@ -46,7 +46,7 @@ times = 500
 
 /// The rows of a report, and its two counters.
 fn counted(report: &PairReport) -> (Rows, [u64; 2])
-    requires { slice_get report.now.totals.shapes 0 ≡ Some (record { entries = 2; counters = 1; key = Index }) }
+    requires { slice_get report.now.totals.shapes 0 ≡ Some (record { entries = 2; counters = 1; key = Index; parts = false }) }
 {
     let counters = [report.totals.at(0, 0, 0), report.totals.at(0, 1, 0)];
     (rows_of(report.rows.as_slice()), counters)

@@ -84,7 +84,7 @@ fn counted(report: Result<Report, AllocError>) -> Option<bool> {
 }
 
 fn run(alloc: Global, program: &Verified) -> Option<bool> {
-    counted(World::run(alloc, program, &[], 1, 0, 0, &STEPS))
+    counted(World::run(alloc, program, &[], &[], 1, 0, 0, &STEPS))
 }
 
 /// Whether a run was refused, and whether it or else another one comes to that.
@@ -176,7 +176,7 @@ fn stepped(
     requires layout { layout.now.queues ≡ 1 }
     requires buffers { 1 ≤ length buffers.now }
 {
-    let Ok(mut world) = World::make(alloc, layout, program, &[], buffers, 1, 0, 0) else {
+    let Ok(mut world) = World::make(alloc, layout, program, &[], &[], buffers, 1, 0, 0) else {
         return None;
     };
     match step_all(&mut world) {

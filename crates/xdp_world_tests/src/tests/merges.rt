@@ -1,5 +1,5 @@
 //! Every order in which two queues' last nine events of a turn can fall.
-ghost use Rattle.std.specs.Prelude.{◌≡◌, ◌≤◌, Some, length, slice_get};
+ghost use Rattle.std.specs.Prelude.{◌≡◌, ◌≤◌, Some, length, slice_get, false};
 ghost use Rattle.bpf_note.specs.declared.key.MapKey.TheVariants.{Index};
 
 use super::programs::{READ_AND_ADD, accepted, add_turn, buffers, report_of};
@@ -83,7 +83,7 @@ fn sum_after(
 ) -> Option<u64>
     requires layout { layout.now.queues ≡ 2 }
     requires buffers { 2 ≤ length buffers.now }
-    requires shape { slice_get program.now.shapes 0 ≡ Some (record { entries = 2; counters = 1; key = Index }) }
+    requires shape { slice_get program.now.shapes 0 ≡ Some (record { entries = 2; counters = 1; key = Index; parts = false }) }
 {
     let report = report_of(alloc, layout, buffers, program, 2, 0, steps)?;
     is_one_history(&report).then_some(report.totals.at(0, 0, 0))
@@ -99,7 +99,7 @@ fn orders_of(
 ) -> Result<u32, u32>
     requires layout { layout.now.queues ≡ 2 }
     requires buffers { 2 ≤ length buffers.old }
-    requires shape { slice_get program.now.shapes 0 ≡ Some (record { entries = 2; counters = 1; key = Index }) }
+    requires shape { slice_get program.now.shapes 0 ≡ Some (record { entries = 2; counters = 1; key = Index; parts = false }) }
 {
     let mut orders = 0u32;
     for order in 0u32..1 << 18 {

@@ -1,5 +1,5 @@
 //! Programs of the tests, one slot per line, and their runs.
-ghost use Rattle.std.specs.Prelude.{◌≡◌, ◌≤◌, IfOk, IfSome, Some, length, slice_get, vec_len};
+ghost use Rattle.std.specs.Prelude.{◌≡◌, ◌≤◌, IfOk, IfSome, Some, length, slice_get, vec_len, false};
 ghost use Rattle.bpf_note.specs.declared.key.MapKey.TheVariants.{Index};
 
 use bpf_insn::decode;
@@ -84,7 +84,7 @@ fn add_bytes(bytes: &mut Vec<u8>, slots: &[u64]) -> Result<(), AllocError> {
 
 /// The accepted program of these bytes, with one map of two values of one counter.
 pub(crate) fn accepted_bytes(alloc: Global, bytes: &[u8]) -> Option<Verified>
-    ensures { IfSome result (λ v. slice_get v.shapes 0 ≡ Some (record { entries = 2; counters = 1; key = Index })) }
+    ensures { IfSome result (λ v. slice_get v.shapes 0 ≡ Some (record { entries = 2; counters = 1; key = Index; parts = false })) }
 {
     let shape = MapShape::of(2, 1)?;
     match decode(alloc, bytes) {
@@ -95,7 +95,7 @@ pub(crate) fn accepted_bytes(alloc: Global, bytes: &[u8]) -> Option<Verified>
 
 /// The accepted program of these slots, with one map of two values of one counter.
 pub(crate) fn accepted(alloc: Global, slots: &[u64]) -> Option<Verified>
-    ensures { IfSome result (λ v. slice_get v.shapes 0 ≡ Some (record { entries = 2; counters = 1; key = Index })) }
+    ensures { IfSome result (λ v. slice_get v.shapes 0 ≡ Some (record { entries = 2; counters = 1; key = Index; parts = false })) }
 {
     let mut bytes = Vec::new(alloc);
     match add_bytes(&mut bytes, slots) {
@@ -134,7 +134,8 @@ pub(crate) fn report_of(
     ensures count { IfSome result (λ r. vec_len r.turns ≡ queues) }
     ensures shapes { IfSome result (λ r. r.totals.shapes ≡ program.now.shapes) }
 {
-    let Ok(mut world) = World::make(alloc, layout, program, &[], buffers, queues, 0, start) else {
+    let Ok(mut world) = World::make(alloc, layout, program, &[], &[], buffers, queues, 0, start)
+    else {
         return None;
     };
     match step_all(&mut world, queues, steps) {

@@ -1,5 +1,5 @@
 //! Runs of a few steps.
-ghost use Rattle.std.specs.Prelude.{◌≡◌, ◌≤◌, ◌<◌, Some, slice_get};
+ghost use Rattle.std.specs.Prelude.{◌≡◌, ◌≤◌, ◌<◌, Some, slice_get, false};
 ghost use Rattle.bpf_note.specs.declared.key.MapKey.TheVariants.{Index};
 
 use super::kind::{Kind, kind_of, passes};
@@ -11,7 +11,7 @@ use xen_back::Halt;
 
 /// The counters of a report, of keys 0 and 1.
 fn counters(report: &Report) -> [u64; 2]
-    requires { slice_get report.now.totals.shapes 0 ≡ Some (record { entries = 2; counters = 1; key = Index }) }
+    requires { slice_get report.now.totals.shapes 0 ≡ Some (record { entries = 2; counters = 1; key = Index; parts = false }) }
 {
     [report.totals.at(0, 0, 0), report.totals.at(0, 1, 0)]
 }
@@ -112,7 +112,7 @@ fn whole_run(
     }
     let (ifindex, start) = interface_and_start;
     let program = accepted(alloc, slots)?;
-    match World::run(alloc, &program, &[], queues, ifindex, start, steps) {
+    match World::run(alloc, &program, &[], &[], queues, ifindex, start, steps) {
         Ok(report) => Some(seen_of(&report)),
         Err(_) => None,
     }

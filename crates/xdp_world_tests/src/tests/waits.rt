@@ -167,6 +167,7 @@ fn holds(alloc: Global, scenario: Scenario) -> Option<bool> {
         &layout,
         &program,
         &[],
+        &[],
         buffers.as_mut_slice(),
         2,
         0,

@@ -52,17 +52,17 @@ loop-thread-preserved g c =
     let longer : length c.loop-thread.threads.items ≡ suc (length left) = omega (arith, n, m) in
     let queue : c.len.result ≡ length left = (let l = c.len.ensures in omega arith) in
     let rises = last_rises promised_number left c.in-Some.thread (subst (λ (l : List Child). map promised_number l ≡ range_with_len 0 (length l)) split before.numbers) in
-    let number = kept.2 ∙ rises.0 in
+    let number = kept.3 ∙ rises.0 in
     let noted = c.note_back.ensures in
     record {
       kept = λ task turns d all.
           let both = before.kept task turns d all in
           let known = last_of (PromisesSeatOf task turns d) _ _ _ split both.0 in
           let others = subst (λ (k : ℕ). (j : ℕ) → j ≢ k → slice_get c.note_back.new.rows.items j ≡ slice_get c.loop-thread.rows.items j) queue noted.others in
-          let work = subst (λ (k : ℕ). IsWork task k c.join-seat.result.row c.join-seat.result.seat) known.1.2 (subst (λ (k : Task). IsWork k c.in-Some.thread.promise.turns c.join-seat.result.row c.join-seat.result.seat) known.1.1 kept.3) in
+          let work = subst (λ (k : ℕ). IsWork task k c.join-seat.result.row c.join-seat.result.seat) known.1.2 (subst (λ (k : Task). IsWork k c.in-Some.thread.promise.turns c.join-seat.result.row c.join-seat.result.seat) known.1.1 kept.4) in
           let now = noted_now task turns (length left) c.note_back.new.rows.items c.join-seat.result.seat c.join-seat.result.row number (ap (λ (k : ℕ). option_map back_of (slice_get c.note_back.new.rows.items k)) (sym queue) ∙ noted.noted) work in (
             known.0,
-            subst (All (IsSeatOf d)) (sym pushed) (All-push (IsSeatOf d) c.loop-thread.seats.items c.join-seat.result.seat both.1 (kept.0 ∙ known.1.0.0, kept.1 ∙ known.1.0.1)),
+            subst (All (IsSeatOf d)) (sym pushed) (All-push (IsSeatOf d) c.loop-thread.seats.items c.join-seat.result.seat both.1 (kept.0 ∙ known.1.0.0, kept.1 ∙ known.1.0.1, kept.2 ∙ known.1.0.2)),
             subst (All (IsNoted task turns (length left) c.note_back.new.rows.items)) (sym pushed)
                 (All-push (IsNoted task turns (length left) c.note_back.new.rows.items) c.loop-thread.seats.items c.join-seat.result.seat
                 (all_later task turns (length left) (length c.loop-thread.threads.items) c.loop-thread.rows.items c.note_back.new.rows.items c.loop-thread.seats.items others longer both.2) now),

@@ -1,8 +1,11 @@
-use Rattle.std.proofs.Common.{arith, ◌≡◌, All, length, ap, List, subst}
+use Rattle.std.proofs.Common.{arith, ◌≡◌, ◌∙◌, ◌+◌, ◌%◌, ℕ, All, length, ap, List, subst, sum_by, sym}
+use Rattle.bpf_maps.specs.Beginning.{given}
+use Rattle.bpf_maps.specs.Seats.{SeatView, begin_of}
+use Rattle.bpf_note.specs.History.{added}
 use Rattle.bpf_note.specs.Shape.{Shape, IsCounter}
-use Rattle.thread_pair.proofs.SeatLemmas.{length_new}
+use Rattle.thread_pair.proofs.SeatLemmas.{first_given, length_new}
 use Rattle.thread_pair.specs.Leaving.{HasWorked}
-use Rattle.thread_pair.specs.Working.{Task, task_for, task_of}
+use Rattle.thread_pair.specs.Working.{Task, task_for, task_of, values_in}
 use Rattle.thread_pair.proofs.pairing.pair_over.Goals as goal
 
 pub make_backs-requires-clause-seats : goal.make_backs-requires-clause-seats
@@ -19,6 +22,10 @@ close-requires-clause-every g c q below =
     let queues = c.requires.shared in
     c.in_ok-seats.ensures.2 q (omega arith)
 
+-- what was added at all seats
+abbrev sum_of : List SeatView → ℕ → ℕ → ℕ → ℕ
+sum_of seats m k j = sum_by (λ (s : SeatView). sum_by (added m k j) s.ops) seats
+
 pub returns-clause-account : goal.returns-clause-account
 returns-clause-account g c =
     let queues = c.requires.shared in
@@ -29,6 +36,12 @@ returns-clause-account g c =
       seats = c.in_ok-seats.seats.items;
       every = λ q below. (let all = c.in_ok-backs.ensures.count in c.in_ok-seats.ensures.2 q (omega (arith, below, all, queues, c.in_ok-seats.ensures.3)));
       worked = subst (λ (t : Task). All (HasWorked t c.args.job.now.turns c.in_ok-seats.rows.items) c.in_ok-seats.seats.items) same c.in_ok-seats.ensures.1;
+      begin = begin_of c.in_ok-counters.counters;
+      begins = λ m k j is. first_given c.shapes.result.now _ _ m k j (c.in_ok-counters.ensures.begin m k j) (c.in_ok-first.ensures.begins m k j (subst (λ (l : List Shape). IsCounter l m k j) (c.close.ensures.shapes ∙ c.in_ok-counters.ensures.counters.0 ∙ c.in_ok-first.ensures.shapes) is)) c.as_slice.ensures.value ∙ ap (λ (l : List Shape). given l (values_in c.args.job.now.setup.now) m k j) (sym (c.close.ensures.shapes ∙ c.in_ok-counters.ensures.counters.0 ∙ c.in_ok-first.ensures.shapes));
       account = c.close.ensures.history;
-      sums = λ m k j is. c.close.ensures.sums m k j (subst (λ (l : List Shape). IsCounter l m k j) c.close.ensures.shapes is);
+      sums = λ m k j is.
+          let shapes = c.close.ensures.shapes ∙ c.in_ok-counters.ensures.counters.0 ∙ c.in_ok-first.ensures.shapes in
+          c.close.ensures.sums m k j (subst (λ (l : List Shape). IsCounter l m k j) c.close.ensures.shapes is)
+          ∙ ap (λ (n : ℕ). (n + sum_of c.in_ok-seats.seats.items m k j) % 18446744073709551616)
+          (first_given c.shapes.result.now _ _ m k j (c.in_ok-counters.ensures.begin m k j) (c.in_ok-first.ensures.begins m k j (subst (λ (l : List Shape). IsCounter l m k j) shapes is)) c.as_slice.ensures.value ∙ ap (λ (l : List Shape). given l (values_in c.args.job.now.setup.now) m k j) (sym shapes));
     }

@@ -51,7 +51,7 @@ loop-own-preserved g c =
       shapes = before.shapes;
       resources = known.0;
       promises = subst (All (PromisesSeatOf task c.args.job.now.turns counters)) (sym pushed)
-          (All-push (PromisesSeatOf task c.args.job.now.turns counters) old c.in-Ok.back before.promises ((ap (λ (s : SeatView). s.table) (is ∙ known.1.seat), ap (λ (s : SeatView). s.shapes) (is ∙ known.1.seat)), same, turns));
+          (All-push (PromisesSeatOf task c.args.job.now.turns counters) old c.in-Ok.back before.promises ((ap (λ (s : SeatView). s.table) (is ∙ known.1.seat), ap (λ (s : SeatView). s.shapes) (is ∙ known.1.seat), ap (λ (s : SeatView). s.begin) (is ∙ known.1.seat)), same, turns));
       left = ap (λ k. map number_of c.pop.new.self.items ++ falling k) longer ∙ lower.1;
       started = subst (λ (l : List Child). map promised_number l ≡ range_with_len 0 (length l)) (sym pushed)
           (pushed_rises promised_number old c.in-Ok.back (ap (λ (s : SeatView). s.number) is ∙ lower.0) before.started);
@@ -86,6 +86,7 @@ spawn_with-requires-clause-keeps g c κs within r h =
     let same : told ≡ task = (λ i. record { program = program i; queues = queues i; ifindex = ifindex i; start = start i; host = host i }) in (
       h.0.0 ∙ sym (ap (λ (s : SeatView). s.table) seat),
       h.0.1 ∙ sym (ap (λ (s : SeatView). s.shapes) seat),
+      h.0.2 ∙ sym (ap (λ (s : SeatView). s.begin) seat),
       h.1 ∙ sym (ap (λ (s : SeatView). s.number) of.seat),
       subst (λ (n : ℕ). IsWork told n r.row r.seat) (sym of.numbers.2) (subst (λ (k : Task). IsWork k c.args.job.now.turns r.row r.seat) (sym same) h.2),
     )

@@ -22,7 +22,7 @@ give-requires-clause-enough c = λ d.
     let most : 287383 + instructions program.code ≡ 287383 + c.from-most.result = omega (arith, c.from-most.ensures, c.instructions.ensures.count) in
     subst (λ (n : ℕ). IsEnough n (get_or world.queues.items queue d)) most
     (enough_begun program (b.wirings queue) c.args.start (events_of queue []) (kept_in world.turns.items queue) (get_or world.queues.items queue d)
-    c.instructions.ensures.consistent (b.wired queue c.requires.queue).program (sofar_of world b.wirings c.args.start [] b.stands queue d there))
+    c.instructions.ensures.consistent (b.wired queue c.requires.queue).program (sofar_of world b.wirings c.args.start _ [] b.stands queue d there))
 
 pub returns : goal.returns
 returns c =
@@ -31,7 +31,7 @@ returns c =
     let world = c.give.new.self in
     let queue = c.args.queue in
     let start = c.args.start in
-    let g = took.replays b.wirings start [] b.stands in
+    let g = took.replays b.wirings start _ [] b.stands in
     let there : queue < length world.queues.items = omega (arith, c.requires.queue, c.give.ensures.size, c.in_ok-world.ensures.size, world.queues.ok.0) in
     let d : Queue = queue_at world.queues.items queue there in
     let q = get_or world.queues.items queue d in
@@ -47,11 +47,11 @@ returns c =
         delivered = omega (arith, c.report.ensures.delivered, c.give.ensures.size, c.in_ok-world.ensures.size, c.report.result.deliveries.ok.0);
         waited = omega (arith, c.report.ensures.waited, c.give.ensures.size, c.in_ok-world.ensures.size, c.report.result.waits.ok.0);
         shapes = c.report.ensures.shapes ∙ c.give.ensures.shapes ∙ c.in_ok-world.ensures.shapes;
-        reports = c.report.ensures.reports b.wirings start g.0 g.3;
+        reports = c.report.ensures.reports b.wirings start _ g.0 g.3;
       };
       own = g.1;
       left = took.left;
       answered = took.split ∙ ap (λ (l : List ℕ). l ++ took.left) (sym g.2);
       stops = subst (λ (k : List Kept). Stops (b.wirings queue) start (events_of queue g.0) k took.left) turns
-          (stops (b.wirings queue) start (events_of queue g.0) (kept_in world.turns.items queue) q took.left (sofar_of world b.wirings start g.0 g.3 queue d there) (took.rests d));
+          (stops (b.wirings queue) start (events_of queue g.0) (kept_in world.turns.items queue) q took.left (sofar_of world b.wirings start _ g.0 g.3 queue d there) (took.rests d));
     }

@@ -20,7 +20,7 @@ fetch_add-requires c =
     let words = c.self.invariant.2 in (
       ap (λ s. s.table) c.seat.view_is ∙ (c.requires.seat.0 ∙ sym (ap (λ v. v.table) c.self.view_is)),
       omega arith,
-      adds_at _ shapes _ _ _ _ _ m k j _ (ap (λ p. p.shapes.items) c.self.invariant.0) word c.seat.invariant.1 in_range,
+      adds_at _ shapes _ _ _ _ _ _ m k j _ (ap (λ p. p.shapes.items) c.self.invariant.0) word c.seat.invariant.1 in_range,
     )
 
 grew : (c : goal.After-fetch_add) → c.fetch_add.new.seat.me.0 ≡ grown c.seat.inside.seat.me.0 (Add c.args.m c.args.k c.args.j c.args.delta c.fetch_add.result)

@@ -20,7 +20,7 @@ load-requires c =
     let words = c.self.invariant.2 in (
       ap (λ s. s.table) c.seat.view_is ∙ (c.requires.seat.0 ∙ sym (ap (λ v. v.table) c.self.view_is)),
       omega arith,
-      loads_at _ shapes _ _ _ _ _ m k j (ap (λ p. p.shapes.items) c.self.invariant.0) word c.seat.invariant.1 in_range,
+      loads_at _ shapes _ _ _ _ _ _ m k j (ap (λ p. p.shapes.items) c.self.invariant.0) word c.seat.invariant.1 in_range,
     )
 
 grew : (c : goal.After-load) → c.load.new.seat.me.0 ≡ grown c.seat.inside.seat.me.0 (Load c.args.m c.args.k c.args.j c.load.result)

@@ -27,9 +27,9 @@ loop-child-preserved g c =
           let both = before.0 d all in
           let known = last_of (PromisesSeatOf d) _ _ _ c.in-Some.ensures.items both.0 in (
             known.0,
-            subst (All (IsSeatOf d)) (sym c.in_ok-push.ensures.items) (All-push (IsSeatOf d) c.loop-child.seats.items c.join.result both.1 (kept.0 ∙ known.1.0, kept.1 ∙ known.1.1)),
+            subst (All (IsSeatOf d)) (sym c.in_ok-push.ensures.items) (All-push (IsSeatOf d) c.loop-child.seats.items c.join.result both.1 (kept.0 ∙ known.1.0, kept.1 ∙ known.1.1, kept.2 ∙ known.1.2)),
           ),
-      λ q h. moved promised_number (λ (s : SeatView). s.number) _ _ _ _ _ _ c.in-Some.ensures.items c.in_ok-push.ensures.items kept.2 q (before.1 q h),
+      λ q h. moved promised_number (λ (s : SeatView). s.number) _ _ _ _ _ _ c.in-Some.ensures.items c.in_ok-push.ensures.items kept.3 q (before.1 q h),
     )
 
 pub returns-clause-numbers : goal.returns-clause-numbers

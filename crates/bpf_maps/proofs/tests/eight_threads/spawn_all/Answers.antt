@@ -27,7 +27,7 @@ loop-seat-preserved g c =
     let is : promised c.in_ok-child.child ≡ c.in-Some.seat = ap (λ p. p.0.value) c.in_ok-child.ensures.ok ∙ c.of.ensures in (
       known.0,
       subst (All (PromisesSeatOf counters)) (sym c.in_ok-push.ensures.items)
-          (All-push (PromisesSeatOf counters) c.loop-seat.children.items c.in_ok-child.child before.1 (ap (λ s. s.table) is ∙ known.1.0, ap (λ s. s.shapes) is ∙ known.1.1)),
+          (All-push (PromisesSeatOf counters) c.loop-seat.children.items c.in_ok-child.child before.1 (ap (λ s. s.table) is ∙ known.1.0, ap (λ s. s.shapes) is ∙ known.1.1, ap (λ s. s.begin) is ∙ known.1.2)),
       λ q h. moved (λ (s : SeatView). s.number) promised_number _ _ _ _ _ _ c.in-Some.ensures.items c.in_ok-push.ensures.items (ap (λ (s : SeatView). s.number) is) q (before.2 q h),
     )
 

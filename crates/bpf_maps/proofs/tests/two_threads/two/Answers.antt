@@ -28,4 +28,4 @@ returns g c =
     let a : F c.in-Some-pop.first ≡ 0 = ap F d.1 in
     let b : F c.in-Some.second ≡ 0 = ap F d.2 in
     let total : sum_by F c.push-2.new.self.items ≡ c.args.ones * 1 + c.args.twos * 2 = omega (arith, h.first.2, h.second.2) in
-    c.at-2.ensures ∙ (c.close.ensures.sums 0 0 0 (subst (λ (l : List Shape). IsCounter l 0 0 0) (sym c.in_ok-counters.ensures.counters.0) c.requires.place) ∙ ap (λ (n : ℕ). n % 18446744073709551616) total)
+    c.at-2.ensures ∙ (c.close.ensures.sums 0 0 0 (subst (λ (l : List Shape). IsCounter l 0 0 0) (sym c.in_ok-counters.ensures.counters.0) c.requires.place) ∙ ap (λ (n : ℕ). n % 18446744073709551616) (let zero = c.in_ok-counters.ensures.zeros 0 0 0 in omega arith))

@@ -107,9 +107,9 @@ returns-clause-ok c =
       turns = refl;
       deliveries = refl;
       waits = mine;
-      stands_for = λ wirings start cs h.
-          let came : After wirings start qs ats kept dels waits w.history.items w.counters cs = record { each = h.each; come = h.come; serve = h.serve; joined = h.past; legal = h.legal; leaves = h.leaves } in
-          let x = stands_awaits wirings start i 0 qs ats kept kept dels dels waits waits' w.history.items w.counters cs q q' at at' l la is does came (λ j y. refl) (λ j y. refl) others s.ensures.same
+      stands_for = λ wirings start begin cs h.
+          let came : After wirings start begin qs ats kept dels waits w.history.items w.counters cs = record { each = h.each; come = h.come; serve = h.serve; joined = h.past; legal = h.legal; leaves = h.leaves } in
+          let x = stands_awaits wirings start begin i 0 qs ats kept kept dels dels waits waits' w.history.items w.counters cs q q' at at' l la is does came (λ j y. refl) (λ j y. refl) others s.ensures.same
           p o (between_is at between) s.ensures.resumes refl refl mine in
           record { each = x.each; come = x.come; serve = x.serve; past = x.joined; legal = x.legal; leaves = x.leaves };
     })

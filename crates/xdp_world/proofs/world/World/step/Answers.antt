@@ -1,3 +1,4 @@
+use Rattle.bpf_maps.specs.Beginning.{Beginning}
 use Rattle.std.proofs.Common.{◌≡◌, ◌<◌, ℕ, ◌++◌, vec_len, List, [], ◌∷◌, Option, Some, false, length, get_or, set, slice_get, sym, subst, ◌∙◌, ap, arith, get_or-set_same}
 use Rattle.std.proofs.lemmas.List.{get_or_read}
 use Rattle.std.specs.Global.{Vec}
@@ -78,9 +79,9 @@ returns-clause-ok c =
     let now : slice_get ats i ≡ Some at = get_some ats i at la does in
     let was : slice_get w.doing.items i ≡ Some at = ap (λ (x : List Doing). slice_get x i) (sym same.doing) ∙ now in
     let is_free : is_call (slice_get w.doing.items i) ≡ false → is_call (Some at) ≡ false = λ f. ap is_call (sym was) ∙ f in
-    let stands_for : (wirings : ℕ → Wiring) (start : ℕ) (cs : List Call) → StandsFor w wirings start cs →
-    After wirings start (set qs i q') (set ats i at') kept' dels' waits' c.note.new.history.items s.new.counters (cs ++ Stepped (record { queue = i; answer = a; event = e }) ∷ []) = λ wirings start cs h.
-    let came : After wirings start qs ats kept dels waits b.history.items b.counters cs = record {
+    let stands_for : (wirings : ℕ → Wiring) (start : ℕ) (begin : Beginning) (cs : List Call) → StandsFor w wirings start begin cs →
+    After wirings start begin (set qs i q') (set ats i at') kept' dels' waits' c.note.new.history.items s.new.counters (cs ++ Stepped (record { queue = i; answer = a; event = e }) ∷ []) = λ wirings start begin cs h.
+    let came : After wirings start begin qs ats kept dels waits b.history.items b.counters cs = record {
       each = λ j d x n. rw (same.queues, same.doing, same.turns j, same.deliveries j, same.waits j) (h.each j d x (omega (arith, n, ap (λ (y : List Queue). length y) same.queues)));
       come = h.come;
       serve = h.serve;
@@ -88,7 +89,7 @@ returns-clause-ok c =
       legal = h.legal;
       leaves = rw same.counters h.leaves;
     } in
-    let x = stands_step wirings start i a qs ats kept kept' dels dels' waits waits' b.history.items b.counters cs q q' at at' l la is does came
+    let x = stands_step wirings start begin i a qs ats kept kept' dels dels' waits waits' b.history.items b.counters cs q q' at at' l la is does came
     (λ j n. ap kept_of (get_set_other ts i j c.note.new.kept n)) (λ j n. ap delivered_of (get_set_other ls i j c.note.new.delivered n))
     (λ j n. ap waited_of (get_set_other ws i j c.note.new.waited n)) s.ensures.same
     s.new.counters e o k what r m s.ensures.shapes mine mine' mine'' in
@@ -118,14 +119,14 @@ returns-clause-ok c =
           rw (before d, after d, get_or-set_same ats i at' y la) (looked_of q q' at at' b.counters s.new.counters a e o k what r x m its);
       waits = mine'' ∙ (λ j. same.waits i j ++ waited_list (length (same.turns i j)) (length (same.deliveries i j)) r);
       no_wait = λ f. unwaited_of q q' at at' b.counters s.new.counters a e o k what r m (λ x its. f x (was ∙ ap Some its));
-      stands = λ wirings start es h.
-          let done = stands_for wirings start (all_stepped es) h in
+      stands = λ wirings start begin es h.
+          let done = stands_for wirings start begin (all_stepped es) h in
           let to : all_stepped es ++ Stepped (record { queue = i; answer = a; event = e }) ∷ [] ≡ all_stepped (es ++ record { queue = i; answer = a; event = e } ∷ []) =
           sym (stepped_append es (record { queue = i; answer = a; event = e } ∷ [])) in
-          let x = subst (λ (cs : List Call). After wirings start (set qs i q') (set ats i at') kept' dels' waits' c.note.new.history.items s.new.counters cs) to done in
+          let x = subst (λ (cs : List Call). After wirings start begin (set qs i q') (set ats i at') kept' dels' waits' c.note.new.history.items s.new.counters cs) to done in
           record { each = x.each; come = x.come; serve = x.serve; past = x.joined; legal = x.legal; leaves = x.leaves };
-      stands_for = λ wirings start cs h.
-          let x = stands_for wirings start cs h in
+      stands_for = λ wirings start begin cs h.
+          let x = stands_for wirings start begin cs h in
           record { each = x.each; come = x.come; serve = x.serve; past = x.joined; legal = x.legal; leaves = x.leaves };
     }
   where
