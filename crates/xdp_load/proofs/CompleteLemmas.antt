@@ -1,7 +1,9 @@
 -- Each sound setup is that of a document: the one that spells its fields.
-use Rattle.std.proofs.Common.{append-nil, not, true, None, Result, ◌≡◌, ◌<◌, ◌≤◌, ◌/◌, ℕ, pos, List, [], ◌∷◌, length, map, codes, Ok, refl, ap, sym, arith, suc}
+use Rattle.std.proofs.Common.{append-nil, not, false, subst, true, ◌*◌, ℤ, None, Result, ◌≡◌, ◌<◌, ◌≤◌, ◌/◌, ℕ, pos, List, [], ◌∷◌, length, map, codes, Ok, refl, ap, sym, ◌∙◌, arith, suc, Bool}
+use Rattle.std.specs.Prelude.{unsigned_abs}
 use Rattle.std.proofs.lemmas.Bool.{and_parts, le-leb, lt-ltb, not-true}
-use Rattle.std.specs.List.{AllByRecursion}
+use Rattle.std.specs.List.{AllByRecursion, list_any}
+use Rattle.std.proofs.lemmas.List.{length-map}
 use Rattle.bpf_note.specs.declared.key.MapKey.{MapKey}
 use Rattle.bpf_note.specs.Shape.{Shape, IsNarrow}
 use Rattle.hex.specs.Hex.{IsBytes, encode_lower}
@@ -9,7 +11,8 @@ use Rattle.hex.proofs.HexLemmas.{decode_of-encode_lower, decode_of-ok}
 use Rattle.toml.specs.Data.{Data, string, integer, array, table, Members, no_members, member}
 use Rattle.toml.specs.View.{items_of}
 use Rattle.xdp_load.specs.Complete.{HasFields, IsWritten}
-use Rattle.xdp_load.specs.Document.{Text, MapText, PacketText, StepText, map_row, packet_row, step_row}
+use Rattle.xdp_load.specs.Values.{AreFilled, are_values, is_negative, room_of, values_of}
+use Rattle.xdp_load.specs.Document.{Text, MapText, PacketText, StepText, is_no_number, number_in, map_row, packet_row, step_row}
 use Rattle.xdp_load.specs.Gives.{each}
 use Rattle.xdp_load.specs.Keys.{least, most}
 use Rattle.xdp_load.specs.Limits.{HexPacket, LimitedText, are_names, bad_name, is_bad_first, limited_shape, limited_step, limited_packet, limited_of, limited_lists, limited_rows, limited_with}
@@ -32,16 +35,27 @@ each_read c f g h e n (x ∷ xs) = rw (e x, each_read c f g h e (suc n) xs) refl
 -- ---- what is written
 
 abbrev Named : Type 0
-Named = Text × Shape
+Named = Text × Shape × List ℕ
 
 abbrev map_text : Named → MapText
-map_text p = record { name = p.0; entries = pos p.1.entries; counters = pos p.1.counters }
+map_text p = record { name = p.0; entries = pos p.1.entries; counters = pos p.1.counters; values = map pos p.2 }
+
+abbrev number_data : ℕ → Data
+number_data n = integer (pos n)
+
+all_numbers : (ns : List ℕ) → list_any is_no_number (map number_data ns) ≡ false
+all_numbers [] = refl
+all_numbers (n ∷ ns) = all_numbers ns
+
+numbers_back : (ns : List ℕ) → map number_in (map number_data ns) ≡ map pos ns
+numbers_back [] = refl
+numbers_back (n ∷ ns) = ap (λ (zs : List ℤ). pos n ∷ zs) (numbers_back ns)
 
 abbrev map_data : Named → Data
-map_data p = table (member (codes "name") (string p.0) (member (codes "entries") (integer (pos p.1.entries)) (member (codes "counters") (integer (pos p.1.counters)) no_members)))
+map_data p = table (member (codes "name") (string p.0) (member (codes "entries") (integer (pos p.1.entries)) (member (codes "counters") (integer (pos p.1.counters)) (member (codes "values") (array (items_of (map number_data p.2))) no_members))))
 
 map_read : (p : Named) → map_row (map_data p) ≡ Ok (map_text p)
-map_read p = refl
+map_read p = rw (items_list-items_of (map number_data p.2), all_numbers p.2, numbers_back p.2) refl
 
 abbrev step_text : ℕ × ℕ → StepText
 step_text s = record { queue = pos s.0; answer = pos s.1 }
@@ -61,9 +75,9 @@ packet_data p = table (member (codes "queue") (integer (pos p.queue)) (member (c
 packet_read : (p : Packet) → packet_row (packet_data p) ≡ Ok (packet_text p)
 packet_read p = refl
 
-abbrev named : List Text → List Shape → List Named
-named (n ∷ ns) (s ∷ ss) = (n, s) ∷ named ns ss
-named ns ss = []
+abbrev named : List Text → List Shape → List (List ℕ) → List Named
+named (n ∷ ns) (s ∷ ss) (v ∷ vs) = (n, s, v) ∷ named ns ss vs
+named ns ss vs = []
 
 abbrev document : SetupView → Members
 document s =
@@ -71,7 +85,7 @@ document s =
     (member (codes "queues") (integer (pos s.queues))
     (member (codes "ifindex") (integer (pos s.ifindex))
     (member (codes "start") (integer (pos s.start))
-    (member (codes "map") (array (items_of (map map_data (named s.names s.shapes))))
+    (member (codes "map") (array (items_of (map map_data (named s.names s.shapes s.values))))
     (member (codes "script") (array (items_of (map step_data s.script)))
     (member (codes "packet") (array (items_of (map packet_data s.packets))) no_members))))))
 
@@ -79,7 +93,7 @@ abbrev written : SetupView → WrittenText
 written s = record {
   program = encode_lower s.program ∷ [];
   numbers = record { queues = pos s.queues; ifindex = pos s.ifindex; start = pos s.start };
-  maps = map map_text (named s.names s.shapes);
+  maps = map map_text (named s.names s.shapes s.values);
   relocs = [];
   script = map step_text s.script;
   packets = map packet_text s.packets;
@@ -89,10 +103,10 @@ document_written : (s : SetupView) → written_of (document s) ≡ Ok (written s
 unfolding written_of rows_of_table written_with program_of rows_of
 document_written s =
     rw (
-      items_list-items_of (map map_data (named s.names s.shapes)),
+      items_list-items_of (map map_data (named s.names s.shapes s.values)),
       items_list-items_of (map step_data s.script),
       items_list-items_of (map packet_data s.packets),
-      each_read fault.Key map_row map_data map_text map_read 0 (named s.names s.shapes),
+      each_read fault.Key map_row map_data map_text map_read 0 (named s.names s.shapes s.values),
       each_read fault.Key step_row step_data step_text step_read 0 s.script,
       each_read fault.Key packet_row packet_data packet_text packet_read 0 s.packets,
     ) refl
@@ -102,29 +116,56 @@ document_written s =
 limited_all : (k : Key) (n : ℕ) → least k ≤ n → n ≤ most k → limited k (pos n) ≡ Ok n
 limited_all k n a b = rw (le-leb (least k) n a, le-leb n (most k) b) refl
 
-shape_limited : (n : Text) (s : Shape) → IsNarrow s → limited_shape (map_text (n, s)) ≡ Ok s
-shape_limited n s h =
-    rw (limited_all key.Entries s.entries h.some_entries h.most_entries, limited_all key.Counters s.counters h.some_counters h.most_counters)
-    (ap (λ (k : MapKey). Ok (record { entries = s.entries; counters = s.counters; key = k })) (sym h.index))
+none_negative : (ns : List ℕ) → list_any is_negative (map pos ns) ≡ false
+none_negative [] = refl
+none_negative (n ∷ ns) = none_negative ns
 
-shapes_limited : (i : ℕ) (ns : List Text) (ss : List Shape) → length ns ≡ length ss → AllByRecursion IsNarrow ss → each fault.Limit limited_shape i (map map_text (named ns ss)) ≡ Ok ss
-shapes_limited i [] [] e a = refl
-shapes_limited i [] (s ∷ ss) e a = absurd (omega (arith, e))
-shapes_limited i (n ∷ ns) [] e a = absurd (omega (arith, e))
-shapes_limited i (n ∷ ns) (s ∷ ss) e a = rw (shape_limited n s a.0, shapes_limited (suc i) ns ss (omega (arith, e)) a.1) refl
+back_from : (ns : List ℕ) → map unsigned_abs (map pos ns) ≡ ns
+back_from [] = refl
+back_from (n ∷ ns) = ap (λ (xs : List ℕ). n ∷ xs) (back_from ns)
 
-names_back : (ns : List Text) (ss : List Shape) → length ns ≡ length ss → names_of (map map_text (named ns ss)) ≡ ns
+values_fit : (n : ℕ) (v : List ℕ) → length v ≤ n → are_values n (map pos v) ≡ true
+values_fit n v few = rw (length-map v pos, none_negative v, le-leb (length v) n few) refl
+
+shape_limited : (n : Text) (s : Shape) (v : List ℕ) → IsNarrow s → length v ≤ s.counters * s.entries → limited_shape (map_text (n, s, v)) ≡ Ok s
+shape_limited n s v h few =
+    rw (limited_all key.Entries s.entries h.some_entries h.most_entries, limited_all key.Counters s.counters h.some_counters h.most_counters, values_fit (s.counters * s.entries) v few)
+    (ap (λ (k : MapKey). Ok (record { entries = s.entries; counters = s.counters; key = k; parts = false })) (sym h.index)
+    ∙ ap (λ (p : Bool). Ok (record { entries = s.entries; counters = s.counters; key = s.key; parts = p })) (sym h.whole))
+
+-- of an array as many as counters
+narrow_room : (s : Shape) (v : List ℕ) → IsNarrow s → length v ≤ room_of s.key (s.counters * s.entries) → length v ≤ s.counters * s.entries
+narrow_room s v h few = subst (λ (k : MapKey). length v ≤ room_of k (s.counters * s.entries)) h.index few
+
+shapes_limited : (i : ℕ) (ns : List Text) (ss : List Shape) (vs : List (List ℕ)) → length ns ≡ length ss → AllByRecursion IsNarrow ss → AreFilled ss vs → each fault.Limit limited_shape i (map map_text (named ns ss vs)) ≡ Ok ss
+shapes_limited i [] [] vs e a f = refl
+shapes_limited i [] (s ∷ ss) vs e a f = absurd (omega (arith, e))
+shapes_limited i (n ∷ ns) [] vs e a f = absurd (omega (arith, e))
+shapes_limited i (n ∷ ns) (s ∷ ss) [] e a f = absurd f
+shapes_limited i (n ∷ ns) (s ∷ ss) (v ∷ vs) e a f = rw (shape_limited n s v a.0 (narrow_room s v a.0 f.0), shapes_limited (suc i) ns ss vs (omega (arith, e)) a.1 f.1) refl
+
+names_back : (ns : List Text) (ss : List Shape) (vs : List (List ℕ)) → length ns ≡ length ss → AreFilled ss vs → names_of (map map_text (named ns ss vs)) ≡ ns
 unfolding names_of
-names_back [] [] e = refl
-names_back [] (s ∷ ss) e = absurd (omega (arith, e))
-names_back (n ∷ ns) [] e = absurd (omega (arith, e))
-names_back (n ∷ ns) (s ∷ ss) e = ap (λ (xs : List Text). n ∷ xs) (names_back ns ss (omega (arith, e)))
+names_back [] [] vs e f = refl
+names_back [] (s ∷ ss) vs e f = absurd (omega (arith, e))
+names_back (n ∷ ns) [] vs e f = absurd (omega (arith, e))
+names_back (n ∷ ns) (s ∷ ss) [] e f = absurd f
+names_back (n ∷ ns) (s ∷ ss) (v ∷ vs) e f = ap (λ (xs : List Text). n ∷ xs) (names_back ns ss vs (omega (arith, e)) f.1)
 
-maps_counted : (ns : List Text) (ss : List Shape) → length ns ≡ length ss → length (map map_text (named ns ss)) ≡ length ss
-maps_counted [] [] e = refl
-maps_counted [] (s ∷ ss) e = absurd (omega (arith, e))
-maps_counted (n ∷ ns) [] e = absurd (omega (arith, e))
-maps_counted (n ∷ ns) (s ∷ ss) e = ap suc (maps_counted ns ss (omega (arith, e)))
+values_back : (ns : List Text) (ss : List Shape) (vs : List (List ℕ)) → length ns ≡ length ss → AreFilled ss vs → map values_of (map map_text (named ns ss vs)) ≡ vs
+values_back [] [] [] e f = refl
+values_back [] [] (v ∷ vs) e f = absurd f
+values_back [] (s ∷ ss) vs e f = absurd (omega (arith, e))
+values_back (n ∷ ns) [] vs e f = absurd (omega (arith, e))
+values_back (n ∷ ns) (s ∷ ss) [] e f = absurd f
+values_back (n ∷ ns) (s ∷ ss) (v ∷ vs) e f = rw (back_from v, values_back ns ss vs (omega (arith, e)) f.1) refl
+
+maps_counted : (ns : List Text) (ss : List Shape) (vs : List (List ℕ)) → length ns ≡ length ss → AreFilled ss vs → length (map map_text (named ns ss vs)) ≡ length ss
+maps_counted [] [] vs e f = refl
+maps_counted [] (s ∷ ss) vs e f = absurd (omega (arith, e))
+maps_counted (n ∷ ns) [] vs e f = absurd (omega (arith, e))
+maps_counted (n ∷ ns) (s ∷ ss) [] e f = absurd f
+maps_counted (n ∷ ns) (s ∷ ss) (v ∷ vs) e f = ap suc (maps_counted ns ss vs (omega (arith, e)) f.1)
 
 step_limited : (q : ℕ) (p : ℕ × ℕ) → q ≤ 8 → p.0 < q → p.1 < 4294967296 → limited_step q (step_text p) ≡ Ok p
 step_limited q p few a b = rw (limited_all key.StepQueue p.0 (omega arith) (omega (arith, a, few)), lt-ltb p.0 q a, limited_all key.Answer p.1 (omega arith) (omega (arith, b))) refl
@@ -184,13 +225,13 @@ numbers_limited s h f =
 rows_limited : (s : SetupView) → IsSound s → HasFields s → limited_rows (written s) (limits_of s).numbers ≡ Ok (limits_of s)
 unfolding limited_rows limited_with
 rows_limited s h f =
-    rw (shapes_limited 0 s.names s.shapes h.named h.shapes, steps_limited s.queues 0 s.script h.few_queues h.script f.answers, packets_limited s.queues 0 s.packets h.few_queues h.packets f.packets) refl
+    rw (shapes_limited 0 s.names s.shapes s.values h.named h.shapes h.values, steps_limited s.queues 0 s.script h.few_queues h.script f.answers, packets_limited s.queues 0 s.packets h.few_queues h.packets f.packets) refl
 
 lists_limited : (s : SetupView) → IsSound s → HasFields s → limited_lists (written s) (limits_of s).numbers ≡ Ok (limits_of s)
 unfolding limited_lists
 lists_limited s h f =
-    let few : length (map map_text (named s.names s.shapes)) ≤ 4 = rw (maps_counted s.names s.shapes h.named) h.few_maps in
-    rw (le-leb (length (map map_text (named s.names s.shapes))) 4 few) (rows_limited s h f)
+    let few : length (map map_text (named s.names s.shapes s.values)) ≤ 4 = rw (maps_counted s.names s.shapes s.values h.named h.values) h.few_maps in
+    rw (le-leb (length (map map_text (named s.names s.shapes s.values))) 4 few) (rows_limited s h f)
 
 written_limited : (s : SetupView) → IsSound s → HasFields s → limited_of (written s) ≡ Ok (limits_of s)
 unfolding limited_of
@@ -202,11 +243,11 @@ written_decoded s f = rw (decode_of-encode_lower s.program f.program, append-nil
 
 written_relocated : (s : SetupView) → IsSound s → relocated_setup (written s) (limits_of s) (s.program, s.packets) ≡ Ok s
 unfolding relocated_setup
-written_relocated s h = rw (names_back s.names s.shapes h.named) refl
+written_relocated s h = rw (names_back s.names s.shapes s.values h.named h.values, values_back s.names s.shapes s.values h.named h.values) refl
 
 limited_setup : (s : SetupView) → IsSound s → HasFields s → setup_of_limited (written s) (limits_of s) ≡ Ok s
 unfolding setup_of_limited
-limited_setup s h f = rw (names_back s.names s.shapes h.named, names_good 0 s.names h.names, written_decoded s f) (written_relocated s h)
+limited_setup s h f = rw (names_back s.names s.shapes s.values h.named h.values, names_good 0 s.names h.names, written_decoded s f) (written_relocated s h)
 
 whole_setup : (s : SetupView) → IsSound s → HasFields s → setup_of_table (document s) ≡ Ok s
 unfolding setup_of_table

@@ -1,6 +1,6 @@
 -- The keys of lists, one after another, and the first list that is none.
-use Rattle.std.proofs.Common.{append_assoc, add-one, suc, arith, ◌≡◌, ◌<◌, ◌+◌, ◌++◌, ℕ, List, [], ◌∷◌, length, get_or, drop, take, map, option_map, slice_get, Option, Some, None, Result, Ok, Err, refl, ap, sym, subst, ◌∙◌, ◌⊎◌, inl, inr}
-use Rattle.std.proofs.lemmas.List.{drop_more, map-append, take_more}
+use Rattle.std.proofs.Common.{append_assoc, add-one, suc, arith, ◌≡◌, ◌<◌, ◌≤◌, ◌+◌, ◌++◌, ℕ, List, [], ◌∷◌, length, get_or, drop, take, map, option_map, slice_get, Option, Some, None, Result, Ok, Err, refl, ap, sym, subst, ◌∙◌, ◌⊎◌, inl, inr}
+use Rattle.std.proofs.lemmas.List.{drop_more, length-map, map-append, take_all, take_more}
 use Rattle.std.proofs.lemmas.Option.{slice_get-get_or, slice_get-map}
 use Rattle.std.proofs.lemmas.Bool.{cases_order}
 use Rattle.bpf_lists.specs.Keys.{Keyed}
@@ -15,6 +15,7 @@ use Rattle.xdp_load.specs.Listed.{AreListedBelow, IsFirstUnlisted, list_of, list
 use Rattle.xdp_load.specs.ListedFault.{IsListed, IsListError, IsUnlistedError}
 use Rattle.xdp_load.specs.ListedSeen.{list_seen, lists_seen, row_texts}
 use Rattle.xdp_load.specs.MapKeys.{ListedText}
+use Rattle.xdp_load.specs.Seen.{row_numbers}
 use Rattle.xdp_load.specs.Setup.{bytes_in}
 use Rattle.xdp_load.specs.Spot.{Refused}
 use Rattle.xdp_load.specs.declared.fault.LoadError.{LoadError}
@@ -26,6 +27,11 @@ use Rattle.xdp_load.specs.declared.lists.ListBytes.{ListBytes}
 pub texts_counted : (vs : List Value) → length (row_texts vs) ≡ length vs
 texts_counted [] = refl
 texts_counted (v ∷ vs) = ap suc (texts_counted vs)
+
+-- each value is a number
+pub numbers_counted : (vs : List Value) → length (row_numbers vs) ≡ length vs
+numbers_counted [] = refl
+numbers_counted (v ∷ vs) = ap suc (numbers_counted vs)
 
 -- ---- lists
 
@@ -80,6 +86,13 @@ below_more ls i d h a l k list less there = go (cases_order k i)
     go (inl e) = listed_list (option_map list_seen (get_or ls i d)) list l (sym (list_at ls i d h) ∙ (rw e at there))
     go (inr (inl m)) = a k list m there
     go (inr (inr m)) = absurd (omega (arith, m, less))
+
+-- all lists are such as maps can have
+pub all_listed : (ls : List (Option ListBytes)) (i : ℕ) (made : List (Option MapList)) → length ls ≤ i → made ≡ lists_seen (take i ls) → AreListedBelow (lists_seen ls) i → AreListedBelow made (length made)
+all_listed ls i made h is below k rows less there =
+    let whole : made ≡ lists_seen ls = is ∙ ap lists_seen (take_all i ls h) in
+    let counted : length made ≡ length ls = ap length whole ∙ length-map ls (option_map list_seen) in
+    below k rows (omega (arith, less, counted, h)) (subst (λ (xs : List (Option MapList)). slice_get xs k ≡ Some (Some (Rows rows))) whole there)
 
 -- the next list is the first that is none
 first_unlisted : (ls : List (Option MapList)) (i : ℕ) (o : Option MapList) → slice_get ls i ≡ Some o → AreListedBelow ls i → (IsListed o → ⊥) → IsFirstUnlisted ls i

@@ -8,7 +8,6 @@ use Rattle.std.specs.Str.{bytes_eq}
 use Rattle.std.proofs.lemmas.List.{length-append, length-map}
 use Rattle.std.proofs.lemmas.Bool.{and_parts, leb-true, eqb-true}
 use Rattle.std.proofs.Math.Nat.{add_comm, mul-div_left, mul-mod_left, suc-mul}
-use Rattle.bpf_lists.specs.Keys.{count}
 use Rattle.bpf_lists.specs.declared.list.MapList.{MapList}
 use Rattle.bpf_note.specs.Keys.{IsKey, IsKind, size}
 use Rattle.bpf_note.specs.Shape.{IsShape, Shape, most_maps}
@@ -18,13 +17,14 @@ use Rattle.bpf_note.specs.declared.key.MapKey.{MapKey}
 use Rattle.bpf_note.specs.declared.key.MapKey.TheVariants.{Index, Listed, Constants}
 use Rattle.toml.specs.Data.{Members}
 use Rattle.xdp_load.specs.Document.{MapText, Text, packet_row, reloc_row, step_row, unknown_key}
-use Rattle.xdp_load.specs.Gives.{each, in_key, in_row, or_else, or_refused, ◌>>=◌}
+use Rattle.xdp_load.specs.Gives.{each, in_key, in_original, in_row, or_else, or_refused, ◌>>=◌}
 use Rattle.xdp_load.specs.Keys.{least, most}
 use Rattle.xdp_load.specs.Limits.{LimitedText, bad_name, limited_with}
-use Rattle.xdp_load.specs.Listed.{ListedView, ListedWritten, entries_key, known_keys, list_of, listed_limits, listed_limits_of, listed_limits_with, listed_of, listed_of_table, listed_rows_of, listed_setup_of, listed_setup_with, listed_shape, listed_written, lists_of, map_key, most_of, row_bytes}
+use Rattle.xdp_load.specs.Listed.{ListedView, ListedWritten, entries_key, known_keys, list_of, listed_by, listed_limits, listed_limits_of, listed_limits_with, listed_of, listed_of_table, listed_rows_of, listed_setup_of, listed_setup_with, listed_shape, listed_written, lists_of, map_key, most_of, row_bytes}
 use Rattle.xdp_load.specs.ListedSound.{AreFitting, Fits, IsListedSound}
 use Rattle.xdp_load.specs.MapKeys.{KeyText, ListedText, are_rows, constants_of, exact_of, index_of, is_row_of, limited_key, listed_row, prefix_of, truth_at}
 use Rattle.xdp_load.specs.Numbers.{limited, limited_numbers, numbers_of}
+use Rattle.xdp_load.specs.Original.{RewrittenView, limited_place, listed_beside, listed_in, original_of, original_program, rewritten_of, rewritten_of_table}
 use Rattle.xdp_load.specs.Setup.{Packet, bytes_in, bytes_of, decoded_of, document_of, names_of, relocated_setup, text_of}
 use Rattle.xdp_load.specs.Spot.{Refused, at, refused, row, unknown, whole}
 use Rattle.xdp_load.specs.Written.{WrittenText, program_of, rows_of, written_with}
@@ -33,7 +33,8 @@ use Rattle.xdp_load.specs.declared.key.Key.{Key}
 use Rattle.xdp_load.specs.declared.key.Key.TheVariants as key
 use Rattle.xdp_load.specs.declared.numbers.Limits.{Limits}
 use Rattle.xdp_load.specs.declared.numbers.Numbers.{Numbers}
-use Rattle.xdp_load.proofs.SoundLemmas.{IsLimited, bind_ok, bytes_length, cond_ok, each_length, else_ok, key_ok, row_ok, limited_within, numbers_within, of_decoded, same_Ok, with_limited}
+use Rattle.xdp_load.proofs.SoundLemmas.{IsLimited, bind_ok, bytes_length, cond_ok, each_length, else_ok, key_ok, row_ok, limited_within, maps_filled, numbers_within, of_decoded, same_Ok, values_fit, with_limited}
+use Rattle.xdp_load.specs.Values.{AreFilled, are_values, room_of, values_of}
 
 -- ---- a map's key
 
@@ -70,17 +71,22 @@ entries_most false n h = let low = h.0 in let high = h.1 in (low, omega (arith, 
 
 -- a shape is within its limits, and the map can have the rows that are written
 abbrev IsMapWithin : Shape → ListedText → Type 0
-IsMapWithin s m = IsShape s × (are_rows s.key s.entries m.key.rows ≡ true)
+IsMapWithin s m = IsShape s × (are_rows s.key s.entries m.key.rows ≡ true) × (length (values_of m.map) ≤ room_of s.key (s.counters * s.entries))
+
+which_ok : {A E P : Type 0} (b : Bool) (r : Result A E) (y : A) (d : E) → cond b r (Err d) ≡ Ok y → (b ≡ true → r ≡ Ok y → P) → P
+which_ok true r y d e k = k refl e
+which_ok false r y d e k = absurd (cc)
 
 shape_within : (wide : Bool) (m : ListedText) (s : Shape) → listed_shape wide m ≡ Ok s → IsMapWithin s m
 shape_within wide m s e =
     bind_ok (limited (entries_key wide) m.map.entries) _ s e (λ entries here rest.
     bind_ok (limited key.Counters m.map.counters) _ s rest (λ counters there more.
     bind_ok (limited_key m.key) _ s more (λ k last end.
-    let (held, same) = cond_ok (are_rows k entries m.key.rows) _ s key.Rows end in
+    which_ok (are_rows k entries m.key.rows) _ s key.Rows end (λ held filled.
+    let (room, same) = cond_ok (are_values (room_of k (counters * entries)) m.map.values) _ s key.Values filled in
     let most = entries_most wide entries (limited_within (entries_key wide) m.map.entries entries here) in
     let each = limited_within key.Counters m.map.counters counters there in
-    subst (λ (x : Shape). IsMapWithin x m) same (record { some_entries = most.0; most_entries = most.1; some_counters = each.0; most_counters = each.1; key = key_within m.key k last }, held))))
+    subst (λ (x : Shape). IsMapWithin x m) same (record { some_entries = most.0; most_entries = most.1; some_counters = each.0; most_counters = each.1; key = key_within m.key k last }, held, values_fit _ m.map.values room)))))
 
 -- each of the shapes is one of the map beside it
 abbrev AreWithin : List Shape → List ListedText → Type 0
@@ -186,7 +192,9 @@ limits_with x n l are few q e =
     bind_ok (each fault.Limit (listed_shape x.wide) 0 x.maps) (limited_with x.written n) l e (λ shapes e1 rest.
     let all = maps_within x.wide 0 x.maps shapes e1 in
     let counted : length shapes ≡ length x.written.maps = each_length fault.Limit (listed_shape x.wide) 0 x.maps shapes e1 ∙ sym (length-map x.maps (λ m. m.map)) ∙ sym (ap length are) in
-    let (held, same) = with_limited most_maps IsShape x.written n shapes l (few_of x.wide (length x.written.maps) few) q counted (shapes_within shapes x.maps all) rest in
+    let filled = maps_filled (listed_shape x.wide) (λ m. m.map) (λ m s h. (shape_within x.wide m s h).2) 0 x.maps shapes e1 in
+    let (held, same) = with_limited most_maps IsShape x.written n shapes l (few_of x.wide (length x.written.maps) few) q counted (shapes_within shapes x.maps all)
+    (subst (λ (ms : List MapText). AreFilled shapes (map values_of ms)) (sym are) filled) rest in
     (held, subst (λ (ss : List Shape). AreWithin ss x.maps) (sym same) all))
 
 limits_of : (x : ListedWritten) (n : Limits) (l : LimitedText) → AreMaps x → (1 ≤ n.queues) × (n.queues ≤ 8) → listed_limits_of x n ≡ Ok l → IsListedLimited x l
@@ -220,9 +228,8 @@ rows_maps ms x e =
     bind_ok (in_key fault.Key (truth_at key.Wide ms)) _ x r4 (λ wide e5 last.
     subst AreMaps (same_Ok _ _ last) (with_maps program numbers (map (λ m. m.map) maps) ms written e4))))))
 
-written_maps : (ms : Members) (x : ListedWritten) → listed_written ms ≡ Ok x → AreMaps x
-unfolding listed_written
-written_maps ms x e = go (unknown_key known_keys ms) e
+written_maps : (known : List Key) (ms : Members) (x : ListedWritten) → listed_by known ms ≡ Ok x → AreMaps x
+written_maps known ms x e = go (unknown_key known ms) e
   where
     go : (o : Option Text) → option_map_or (λ k. Err (refused fault.Key (unknown k))) o (listed_rows_of ms) ≡ Ok x → AreMaps x
     go None h = rows_maps ms x h
@@ -241,6 +248,7 @@ sound_with x l d y held named e1 e =
       few_queues = given.few_queues;
       few_maps = given.few_maps;
       shapes = given.shapes;
+      values = given.values;
       named = given.named;
       names = given.names;
       script = given.script;
@@ -257,9 +265,22 @@ sound_setup x l y held e = go (bad_name 0 (names_of x.written.maps)) refl e
     go (Some n) t h = absurd (cc)
 
 pub listed_sound : (bytes : List ℕ) (y : ListedView) → listed_of bytes ≡ Ok y → IsListedSound y
-unfolding listed_of listed_of_table
+unfolding listed_of listed_of_table listed_written
 listed_sound bytes y e =
     bind_ok (or_refused fault.Text whole (text_of bytes)) _ y e (λ text e1 rest.
     bind_ok (document_of text) listed_of_table y rest (λ document e2 more.
     bind_ok (listed_written document) _ y more (λ x e3 last.
-    bind_ok (listed_limits x) (listed_setup_of x) y last (λ l e4 end. sound_setup x l y (limited_all x l (written_maps document x e3) e4) end))))
+    bind_ok (listed_limits x) (listed_setup_of x) y last (λ l e4 end. sound_setup x l y (limited_all x l (written_maps known_keys document x e3) e4) end))))
+
+pub rewritten_sound : (bytes : List ℕ) (r : RewrittenView) → rewritten_of bytes ≡ Ok r → IsListedSound (listed_in r)
+unfolding rewritten_of rewritten_of_table listed_beside
+rewritten_sound bytes r e =
+    bind_ok (or_refused fault.Text whole (text_of bytes)) _ r e (λ text e1 rest.
+    bind_ok (document_of text) rewritten_of_table r rest (λ document e2 more.
+    bind_ok (original_of document) _ r more (λ o e3 next.
+    bind_ok (listed_beside document) _ r next (λ x e4 then.
+    bind_ok (in_original (each fault.Limit limited_place 0 o.places)) _ r then (λ places e5 after.
+    bind_ok (listed_limits x) _ r after (λ l e6 last.
+    bind_ok (listed_setup_of x l) _ r last (λ listed e7 end.
+    bind_ok (original_program (names_of x.written.maps) o) _ r end (λ original e8 all.
+    subst (λ (v : RewrittenView). IsListedSound (listed_in v)) (same_Ok _ _ all) (sound_setup x l listed (limited_all x l (written_maps (key.Original ∷ known_keys) document x e4) e6) e7)))))))))

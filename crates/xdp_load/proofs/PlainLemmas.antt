@@ -72,13 +72,13 @@ unknown_free known ks (member l d ms) a =
 -- ---- maps
 
 abbrev plain_key : KeyText
-plain_key = record { kind = codes "index"; size = pos 4; rows = [] }
+plain_key = record { kind = codes "index"; size = pos 4; rows = []; parts = false }
 
 abbrev plain_text : MapText → ListedText
 plain_text m = record { map = m; key = plain_key }
 
 key_plain : (ms : Members) → IsPlainMap ms → key_of_fields ms ≡ Ok plain_key
-key_plain ms p = rw (p.kind, p.size, p.rows) refl
+key_plain ms p = rw (p.kind, p.size, p.rows, p.parts) refl
 
 fields_plain : (ms : Members) → IsPlainMap ms → listed_of_fields ms ≡ seen_by plain_text (map_of_fields ms)
 fields_plain ms p = go (map_of_fields ms)
@@ -88,7 +88,7 @@ fields_plain ms p = go (map_of_fields ms)
     go (Err k) = refl
 
 table_plain : (ms : Members) → IsPlainMap ms → listed_map_of_table ms ≡ seen_by plain_text (map_of_table ms)
-table_plain ms p = rw (unknown_free map_keys (key.KeyKind ∷ key.KeySize ∷ key.Rows ∷ []) ms (p.kind, (p.size, (p.rows, tt)))) (go (has_only map_keys ms))
+table_plain ms p = rw (unknown_free map_keys (key.KeyKind ∷ key.KeySize ∷ key.Rows ∷ key.Parts ∷ []) ms (p.kind, (p.size, (p.rows, (p.parts, tt))))) (go (has_only map_keys ms))
   where
     go : (b : Bool) → cond b (listed_of_fields ms) (Err key.Map) ≡ seen_by plain_text (cond b (map_of_fields ms) (Err key.Map))
     go true = fields_plain ms p

@@ -1,6 +1,6 @@
 -- Each setup is sound.
-use Rattle.std.proofs.Common.{◌≡◌, ◌<◌, ◌≤◌, ◌&&◌, ◌∙◌, ℕ, ℤ, pos, negsuc, Bool, true, false, cond, suc, List, [], ◌∷◌, length, Option, Some, None, Result, Ok, Err, refl, ap, sym, subst, arith, ◌/◌}
-use Rattle.std.specs.Prelude.{IfOk, nat_le, nat_lt}
+use Rattle.std.proofs.Common.{◌≡◌, ◌<◌, ◌≤◌, ◌&&◌, ◌∙◌, ◌*◌, map, ℕ, ℤ, pos, negsuc, Bool, true, false, cond, suc, List, [], ◌∷◌, length, Option, Some, None, Result, Ok, Err, refl, ap, sym, subst, arith, ◌/◌}
+use Rattle.std.specs.Prelude.{IfOk, nat_le, nat_lt, unsigned_abs}
 use Rattle.std.specs.List.{AllByRecursion}
 use Rattle.std.specs.Option.{option_map_or}
 use Rattle.std.specs.Result.{result_ok}
@@ -9,7 +9,7 @@ use Rattle.std.proofs.lemmas.Bool.{and_parts, leb-true, ltb-true}
 use Rattle.xdp_load.specs.declared.fault.Fault.{Fault}
 use Rattle.xdp_load.specs.declared.fault.Fault.TheVariants as fault
 use Rattle.xdp_load.specs.Document.{MapText, PacketText, StepText}
-use Rattle.xdp_load.specs.Gives.{Gives, each, in_key, in_original, in_row, or_else, or_refused, ◌>>=◌}
+use Rattle.xdp_load.specs.Gives.{Gives, each, in_key, in_row, or_else, or_refused, ◌>>=◌}
 use Rattle.xdp_load.specs.Keys.{least, most}
 use Rattle.xdp_load.specs.Limits.{HexPacket, LimitedText, are_names, bad_name, is_bad_first, is_packet_text, limited_shape, limited_lists, limited_of, limited_packet, limited_rows, limited_step, limited_with, packet_text}
 use Rattle.xdp_load.specs.Numbers.{below, limited, limited_numbers}
@@ -22,10 +22,8 @@ use Rattle.xdp_load.specs.declared.numbers.Numbers.{Numbers}
 use Rattle.xdp_load.specs.declared.key.Key.TheVariants as key
 use Rattle.bpf_note.specs.Shape.{Shape, IsNarrow}
 use Rattle.hex.proofs.HexLemmas.{decode_of-ok}
-use Rattle.xdp_load.specs.Original.{RewrittenView, limited_place, original_of, original_program, rewritten_of, rewritten_of_table, written_beside}
-use Rattle.xdp_load.specs.OriginalSeen.{rewritten_view}
-use Rattle.xdp_load.specs.declared.rewritten.Rewritten.{Rewritten}
 use Rattle.xdp_load.specs.Sound.{IsPacket, IsSound}
+use Rattle.xdp_load.specs.Values.{AreFilled, are_values, room_of, values_of}
 use Rattle.xdp_load.specs.SetupSeen.{setup_view}
 use Rattle.xdp_load.specs.declared.setup.Setup.{Setup}
 use Rattle.xdp_load.specs.declared.fault.LoadError.{LoadError}
@@ -106,10 +104,34 @@ step_within queues s p e =
 shape_within : (m : MapText) (s : Shape) → limited_shape m ≡ Ok s → IsNarrow s
 shape_within m s e =
     bind_ok (limited key.Entries m.entries) _ s e (λ entries here rest.
-    bind_ok (limited key.Counters m.counters) _ s rest (λ counters there same.
+    bind_ok (limited key.Counters m.counters) _ s rest (λ counters there end.
     let most = limited_within key.Entries m.entries entries here in
     let each = limited_within key.Counters m.counters counters there in
-    subst IsNarrow (same_Ok _ _ same) (record { some_entries = most.0; most_entries = most.1; some_counters = each.0; most_counters = each.1; index = refl })))
+    let (held, same) = cond_ok (are_values (counters * entries) m.values) _ s key.Values end in
+    subst IsNarrow same (record { some_entries = most.0; most_entries = most.1; some_counters = each.0; most_counters = each.1; index = refl; whole = refl })))
+
+-- so many counters can begin with the numbers
+pub values_fit : (n : ℕ) (zs : List ℤ) → are_values n zs ≡ true → length (map unsigned_abs zs) ≤ n
+values_fit n zs held = rw (length-map zs unsigned_abs) (leb-true (length zs) n (and_parts _ _ held).0)
+
+shape_filled : (m : MapText) (s : Shape) → limited_shape m ≡ Ok s → length (values_of m) ≤ room_of s.key (s.counters * s.entries)
+shape_filled m s e =
+    bind_ok (limited key.Entries m.entries) _ s e (λ entries here rest.
+    bind_ok (limited key.Counters m.counters) _ s rest (λ counters there end.
+    let (held, same) = cond_ok (are_values (counters * entries) m.values) _ s key.Values end in
+    subst (λ (x : Shape). length (values_of m) ≤ room_of x.key (x.counters * x.entries)) same (values_fit (counters * entries) m.values held)))
+
+-- each map's counters begin with its numbers
+pub maps_filled : {A : Type 0} (f : A → Result Shape Key) (text : A → MapText) → ((m : A) (s : Shape) → f m ≡ Ok s → length (values_of (text m)) ≤ room_of s.key (s.counters * s.entries))
+    → (n : ℕ) (ms : List A) (ss : List Shape) → each fault.Limit f n ms ≡ Ok ss → AreFilled ss (map values_of (map text ms))
+maps_filled f text h n [] [] e = tt
+maps_filled f text h n [] (s ∷ ss) e = absurd (cc)
+maps_filled f text h n (m ∷ ms) ss e = bind_ok (in_row fault.Limit n (f m)) _ ss e (λ s here rest. bind_ok (each fault.Limit f (suc n) ms) _ ss rest (λ more tail same.
+    subst (λ (x : List Shape). AreFilled x (map values_of (map text (m ∷ ms)))) (same_Ok _ _ same) (h m s (row_ok fault.Limit n (f m) s here), maps_filled f text h (suc n) ms more tail)))
+
+maps_same : (ms : List MapText) → map (λ (m : MapText). m) ms ≡ ms
+maps_same [] = refl
+maps_same (m ∷ ms) = ap (λ (xs : List MapText). m ∷ xs) (maps_same ms)
 
 -- a packet's numbers, its bytes still being hex
 pub record IsHexPacket (queues : ℕ) (p : HexPacket) : Type 0 where
@@ -164,13 +186,14 @@ pub record IsLimited (most : ℕ) (IsMap : Shape → Type 0) (w : WrittenText) (
   pub few_maps : length w.maps ≤ most
   pub counted : length l.shapes ≡ length w.maps
   pub shapes : AllByRecursion IsMap l.shapes
+  pub values : AreFilled l.shapes (map values_of w.maps)
   pub script : AllByRecursion (λ p. p.0 < l.numbers.queues) l.script
   pub packets : AllByRecursion (IsHexPacket l.numbers.queues) l.packets
 
 pub with_limited : (most : ℕ) (IsMap : Shape → Type 0) (w : WrittenText) (n : Limits) (shapes : List Shape) (l : LimitedText) → length w.maps ≤ most → (1 ≤ n.queues) × (n.queues ≤ 8)
-    → length shapes ≡ length w.maps → AllByRecursion IsMap shapes → limited_with w n shapes ≡ Ok l → IsLimited most IsMap w l × (l.shapes ≡ shapes)
+    → length shapes ≡ length w.maps → AllByRecursion IsMap shapes → AreFilled shapes (map values_of w.maps) → limited_with w n shapes ≡ Ok l → IsLimited most IsMap w l × (l.shapes ≡ shapes)
 unfolding limited_with
-with_limited most IsMap w n shapes l few q counted all e =
+with_limited most IsMap w n shapes l few q counted all filled e =
     bind_ok (each fault.Limit (limited_step n.queues) 0 w.script) _ l e (λ script e2 more.
     bind_ok (each fault.Limit (limited_packet n.queues) 0 w.packets) _ l more (λ packets e3 last.
     let made : ◌≡◌ {A = LimitedText} (record { numbers = n; shapes = shapes; script = script; packets = packets }) l = same_Ok _ _ last in
@@ -181,6 +204,7 @@ with_limited most IsMap w n shapes l few q counted all e =
         few_maps = few;
         counted = counted;
         shapes = all;
+        values = filled;
         script = each_all fault.Limit (limited_step n.queues) _ (step_within n.queues) 0 w.script script e2;
         packets = each_all fault.Limit (limited_packet n.queues) _ (packet_within n.queues) 0 w.packets packets e3;
       },
@@ -191,7 +215,8 @@ rows_limited : (w : WrittenText) (n : Limits) (l : LimitedText) → length w.map
 unfolding limited_rows
 rows_limited w n l few q e =
     bind_ok (each fault.Limit limited_shape 0 w.maps) (limited_with w n) l e (λ shapes e1 rest.
-    (with_limited 4 IsNarrow w n shapes l few q (each_length fault.Limit limited_shape 0 w.maps shapes e1) (each_all fault.Limit limited_shape _ shape_within 0 w.maps shapes e1) rest).0)
+    (with_limited 4 IsNarrow w n shapes l few q (each_length fault.Limit limited_shape 0 w.maps shapes e1) (each_all fault.Limit limited_shape _ shape_within 0 w.maps shapes e1)
+    (subst (λ (ms : List MapText). AreFilled shapes (map values_of ms)) (maps_same w.maps) (maps_filled limited_shape (λ m. m) shape_filled 0 w.maps shapes e1)) rest).0)
 
 lists_limited : (w : WrittenText) (n : Limits) (l : LimitedText) → (1 ≤ n.queues) × (n.queues ≤ 8) → limited_lists w n ≡ Ok l → IsLimited 4 IsNarrow w l
 unfolding limited_lists
@@ -233,6 +258,7 @@ pub record IsGiven (most : ℕ) (IsMap : Shape → Type 0) (s : SetupView) : Typ
   pub few_queues : s.queues ≤ 8
   pub few_maps : length s.shapes ≤ most
   pub shapes : AllByRecursion IsMap s.shapes
+  pub values : AreFilled s.shapes s.values
   pub named : length s.names ≡ length s.shapes
   pub names : are_names s.names ≡ true
   pub script : AllByRecursion (λ p. p.0 < s.queues) s.script
@@ -246,6 +272,7 @@ of_relocated most IsMap w l d s held names bytes e =
     let made : ◌≡◌ {A = SetupView} (record {
       program = program;
       shapes = l.shapes;
+      values = map values_of w.maps;
       names = names_of w.maps;
       queues = l.numbers.queues;
       ifindex = l.numbers.ifindex;
@@ -259,6 +286,7 @@ of_relocated most IsMap w l d s held names bytes e =
         few_queues = held.few_queues;
         few_maps = rw held.counted held.few_maps;
         shapes = held.shapes;
+        values = held.values;
         named = names_length w.maps ∙ sym held.counted;
         names = names;
         script = held.script;
@@ -277,6 +305,7 @@ sound_of s g = record {
   few_queues = g.few_queues;
   few_maps = g.few_maps;
   shapes = g.shapes;
+  values = g.values;
   named = g.named;
   names = g.names;
   script = g.script;
@@ -302,20 +331,3 @@ setup_sound bytes s e =
 pub given_sound : (bytes : List ℕ) (r : Result Setup LoadError) → Gives setup_view r (setup_of bytes) → IfOk r (λ s. IsSound (setup_view s))
 given_sound bytes (Ok s) h = setup_sound bytes (setup_view s) h
 given_sound bytes (Err e) h = tt
-
-rewritten_setup_sound : (bytes : List ℕ) (r : RewrittenView) → rewritten_of bytes ≡ Ok r → IsSound r.setup
-unfolding rewritten_of rewritten_of_table
-rewritten_setup_sound bytes r e =
-    bind_ok (or_refused fault.Text whole (text_of bytes)) _ r e (λ text e1 rest.
-    bind_ok (document_of text) rewritten_of_table r rest (λ document e2 more.
-    bind_ok (original_of document) _ r more (λ o e3 next.
-    bind_ok (written_beside document) _ r next (λ w e4 then.
-    bind_ok (in_original (each fault.Limit limited_place 0 o.places)) _ r then (λ places e5 after.
-    bind_ok (limited_of w) _ r after (λ l e6 last.
-    bind_ok (setup_of_limited w l) _ r last (λ setup e7 end.
-    bind_ok (original_program (names_of w.maps) o) _ r end (λ original e8 whole.
-    subst (λ (v : RewrittenView). IsSound v.setup) (same_Ok _ _ whole) (of_setup w l setup (of_limited w l e6) e7)))))))))
-
-pub rewritten_is_sound : (bytes : List ℕ) (r : Result Rewritten LoadError) → Gives rewritten_view r (rewritten_of bytes) → IfOk r (λ x. IsSound (setup_view x.setup))
-rewritten_is_sound bytes (Ok x) h = rewritten_setup_sound bytes (rewritten_view x) h
-rewritten_is_sound bytes (Err e) h = tt

@@ -1,6 +1,7 @@
 -- Stated: claims rest on this file.
 -- The rows of a document as they are written, before any limit is looked at.
-use Rattle.std.specs.Prelude.{ℕ, ℤ, Bool, List, [], ◌∷◌, Option, Some, None, Result, Ok, Err, is_none, option_and_then, option_map}
+use Rattle.std.specs.Prelude.{ℕ, ℤ, pos, Bool, List, [], ◌∷◌, Option, Some, None, Result, Ok, Err, is_none, map, option_and_then, option_map}
+use Rattle.std.specs.Prelude.{unwrap_or}
 use Rattle.std.specs.Prelude.{if◌then◌else◌}
 use Rattle.std.specs.List.{list_any}
 use Rattle.std.specs.Str.{bytes_eq}
@@ -62,6 +63,23 @@ abbrev pub rows : {A : Type 0} → (Data → Result A Key) → Key → Option (L
 rows f k None = or_refused fault.Key (at k) None
 rows f k (Some ds) = each fault.Key f 0 ds
 
+-- ---- numbers
+
+-- the whole number that a value is
+abbrev pub number_in : Data → ℤ
+number_in d = unwrap_or (as_integer d) (pos 0)
+
+abbrev pub is_no_number : Data → Bool
+is_no_number d = is_none (as_integer d)
+
+-- the values as whole numbers, where each is one
+abbrev pub numbers_in : List Data → Option (List ℤ)
+numbers_in ds = if list_any is_no_number ds then None else Some (map number_in ds)
+
+-- the list of whole numbers at a key, none where it is left out
+abbrev pub numbers_at : Key → Members → Result (List ℤ) Key
+numbers_at k ms = or_else k (option_and_then numbers_in (values_at k ms))
+
 -- ---- maps
 
 -- a map as it is written
@@ -69,16 +87,18 @@ pub record MapText : Type 0 where
   pub name : Text
   pub entries : ℤ
   pub counters : ℤ
+  pub values : List ℤ
 
 abbrev pub map_keys : List Key
-map_keys = key.Name ∷ key.Entries ∷ key.Counters ∷ []
+map_keys = key.Name ∷ key.Entries ∷ key.Counters ∷ key.Values ∷ []
 
 abbrev pub map_of_fields : Members → Result MapText Key
 map_of_fields ms = do
   name ← text_at key.Name ms
   entries ← number_at key.Entries ms
   counters ← number_at key.Counters ms
-  Ok (record { name = name; entries = entries; counters = counters })
+  values ← numbers_at key.Values ms
+  Ok (record { name = name; entries = entries; counters = counters; values = values })
 
 abbrev pub map_of_table : Members → Result MapText Key
 map_of_table ms = if has_only map_keys ms then map_of_fields ms else Err key.Map
@@ -99,8 +119,8 @@ reloc_keys = key.Slot ∷ key.OfMap ∷ []
 abbrev pub reloc_of_fields : Members → Result RelocText Key
 reloc_of_fields ms = do
   slot ← number_at key.Slot ms
-  map ← text_at key.OfMap ms
-  Ok (record { slot = slot; map = map })
+  of_map ← text_at key.OfMap ms
+  Ok (record { slot = slot; map = of_map })
 
 abbrev pub reloc_of_table : Members → Result RelocText Key
 reloc_of_table ms = if has_only reloc_keys ms then reloc_of_fields ms else Err key.Reloc

@@ -4,7 +4,7 @@ use Rattle.std.specs.Prelude.{ℕ, ℤ, pos, List, [], ◌∷◌, Option, Some, 
 use Rattle.xdp_load.specs.declared.key.Key.{Key}
 use Rattle.xdp_load.specs.declared.key.Key.TheVariants.{Program, Queues, IfIndex, Start, Map, Name, Entries, Counters, Reloc, Slot}
 use Rattle.xdp_load.specs.declared.key.Key.TheVariants.{OfMap, Step, StepQueue, Answer, Packet, PacketQueue, Bytes, Times, Original}
-use Rattle.xdp_load.specs.declared.key.Key.TheVariants.{Place, Wide, WideMap, WideEntries, KeyKind, KeySize, ConstantSize, Rows}
+use Rattle.xdp_load.specs.declared.key.Key.TheVariants.{Place, Wide, WideMap, WideEntries, KeyKind, KeySize, ConstantSize, Rows, Values, Parts}
 
 -- the key of the document that it is, or that holds the rows in which it is
 abbrev pub list_name : Key → List ℕ
@@ -35,6 +35,8 @@ list_name KeyKind = codes "map"
 list_name KeySize = codes "map"
 list_name ConstantSize = codes "map"
 list_name Rows = codes "map"
+list_name Parts = codes "map"
+list_name Values = codes "map"
 
 -- the key within a row, or the part of a step
 abbrev pub part_name : Key → Option (List ℕ)
@@ -53,6 +55,8 @@ part_name KeyKind = Some (codes "key")
 part_name KeySize = Some (codes "size")
 part_name ConstantSize = Some (codes "size")
 part_name Rows = Some (codes "rows")
+part_name Parts = Some (codes "parts")
+part_name Values = Some (codes "values")
 part_name _ = None
 
 -- the key as it is written in its table
@@ -104,7 +108,7 @@ allowed Queues = codes "a whole number, 1 to 8"
 allowed IfIndex = codes "a whole number, 0 to 4294967295"
 allowed Start = codes "a whole number, 0 to 4294967295"
 allowed Answer = codes "a whole number, 0 to 4294967295"
-allowed Map = codes "at most four tables, each with name, entries and, optionally, counters"
+allowed Map = codes "at most four tables, each with name, entries and, optionally, counters and values"
 allowed Name = codes "a text of 1 to 32 bytes, no other map's (required)"
 allowed Entries = codes "a whole number, 1 to 1024 (required)"
 allowed Counters = codes "a whole number, 1 to 8"
@@ -120,9 +124,11 @@ allowed Times = codes "a whole number, 1 to 100000"
 allowed Original = codes "a table with program, places and, optionally, reloc (required)"
 allowed Place = codes "places, each of a whole number, 0 to 4294967295, and true or false"
 allowed Wide = codes "true or false"
-allowed WideMap = codes "at most 16 tables, each with name, entries and, optionally, counters, key, size and rows"
+allowed Parts = codes "true or false"
+allowed WideMap = codes "at most 16 tables, each with name, entries and, optionally, counters, values, key, size, rows and parts"
 allowed WideEntries = codes "a whole number, 1 to 65536 (required)"
 allowed KeyKind = codes "index, exact, prefix or constants"
 allowed KeySize = codes "a whole number, 1 to 64; of an index 4"
 allowed ConstantSize = codes "a whole number, 1 to 65536"
 allowed Rows = codes "hex texts, each a key of the map, none twice, at most as many as entries; of an index none; of constants one, their bytes"
+allowed Values = codes "whole numbers, each 0 to 9223372036854775807, at most as many as the map has counters; of constants none"

@@ -17,6 +17,7 @@ pub mod Sound
 pub mod Spot
 pub mod SpotSeen
 pub mod Spots
+pub mod Values
 pub mod Written
 pub mod MapKeys
 pub mod Listed

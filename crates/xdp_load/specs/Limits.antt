@@ -1,6 +1,6 @@
 -- Stated: claims rest on this file.
 -- The limits of the numbers and the lengths.
-use Rattle.std.specs.Prelude.{Result, Ok, Err, ◌&&◌, ◌||◌, ◌/◌, ℕ, suc, Bool, true, false, not, List, [], ◌∷◌, length}
+use Rattle.std.specs.Prelude.{Result, Ok, Err, ◌&&◌, ◌||◌, ◌/◌, ◌*◌, ℕ, suc, Bool, true, false, not, List, [], ◌∷◌, length}
 use Rattle.std.specs.Prelude.{Option, Some, None, nat_le, if◌then◌else◌}
 use Rattle.std.specs.List.{list_any}
 use Rattle.std.specs.Str.{bytes_eq}
@@ -14,13 +14,14 @@ use Rattle.xdp_load.specs.declared.numbers.Limits.{Limits}
 use Rattle.xdp_load.specs.Gives.{each, in_key, ◌>>=◌}
 use Rattle.xdp_load.specs.Numbers.{below, limited, limited_numbers}
 use Rattle.xdp_load.specs.Spot.{Refused, at, refused}
+use Rattle.xdp_load.specs.Values.{are_values}
 use Rattle.xdp_load.specs.Written.{WrittenText}
 
 abbrev pub limited_shape : MapText → Result Shape Key
 limited_shape m = do
   entries ← limited key.Entries m.entries
   counters ← limited key.Counters m.counters
-  Ok (record { entries = entries; counters = counters; key = Index })
+  if are_values (counters * entries) m.values then Ok (record { entries = entries; counters = counters; key = Index; parts = false }) else Err key.Values
 
 abbrev pub limited_step : ℕ → StepText → Result (ℕ × ℕ) Key
 limited_step queues s = do

@@ -1,7 +1,7 @@
 -- Stated: claims rest on this file.
 -- Settings whose maps may have lists of keys and wider limits: the setup and the lists, or the first fault and where it is. What
 -- has none of the keys for it is read as ever.
-use Rattle.std.specs.Prelude.{ℕ, suc, ◌≡◌, ◌<◌, Bool, List, [], ◌∷◌, ◌++◌, length, map, nat_le, slice_get, Option, Some, None}
+use Rattle.std.specs.Prelude.{ℕ, ℤ, ◌*◌, suc, ◌≡◌, ◌<◌, Bool, List, [], ◌∷◌, ◌++◌, length, map, nat_le, slice_get, Option, Some, None}
 use Rattle.std.specs.Prelude.{Result, Ok, Err, if◌then◌else◌}
 use Rattle.std.specs.Option.{option_map_or}
 use Rattle.bpf_lists.specs.Keys.{Keyed}
@@ -20,6 +20,7 @@ use Rattle.xdp_load.specs.MapKeys.{ListedText, are_rows, limited_key, listed_row
 use Rattle.xdp_load.specs.Numbers.{limited, limited_numbers}
 use Rattle.xdp_load.specs.Setup.{Packet, SetupView, bytes_in, decoded_of, document_of, names_of, relocated_setup, text_of}
 use Rattle.xdp_load.specs.Spot.{Refused, at, refused, row, unknown, whole}
+use Rattle.xdp_load.specs.Values.{are_values, room_of}
 use Rattle.xdp_load.specs.Written.{WrittenText, program_of, rows_of, written_with}
 use Rattle.xdp_load.specs.declared.fault.Fault.TheVariants as fault
 use Rattle.xdp_load.specs.declared.key.Key.{Key}
@@ -47,8 +48,12 @@ listed_rows_of ms = do
 abbrev pub known_keys : List Key
 known_keys = top_keys ++ (key.Wide ∷ [])
 
+-- what a document says that knows these keys
+abbrev pub listed_by : List Key → Members → Result ListedWritten Refused
+listed_by known ms = option_map_or (λ k. Err (refused fault.Key (unknown k))) (unknown_key known ms) (listed_rows_of ms)
+
 unfoldable pub listed_written : Members → Result ListedWritten Refused
-listed_written ms = option_map_or (λ k. Err (refused fault.Key (unknown k))) (unknown_key known_keys ms) (listed_rows_of ms)
+listed_written ms = listed_by known_keys ms
 
 -- ---- limits
 
@@ -62,13 +67,18 @@ map_key wide = if wide then key.WideMap else key.Map
 abbrev pub most_of : Bool → ℕ
 most_of wide = if wide then most_maps else 4
 
+-- the shape, where its counters can begin with these numbers
+abbrev pub filled_shape : ℕ → ℕ → MapKey → Bool → List ℤ → Result Shape Key
+filled_shape entries counters k parts values =
+    if are_values (room_of k (counters * entries)) values then Ok (record { entries = entries; counters = counters; key = k; parts = parts }) else Err key.Values
+
 -- the shape of a map within its limits
 abbrev pub listed_shape : Bool → ListedText → Result Shape Key
 listed_shape wide m = do
   entries ← limited (entries_key wide) m.map.entries
   counters ← limited key.Counters m.map.counters
   k ← limited_key m.key
-  if are_rows k entries m.key.rows then Ok (record { entries = entries; counters = counters; key = k }) else Err key.Rows
+  if are_rows k entries m.key.rows then filled_shape entries counters k m.key.parts m.map.values else Err key.Rows
 
 unfoldable pub listed_limits_with : ListedWritten → Limits → Result LimitedText Refused
 listed_limits_with x n = each fault.Limit (listed_shape x.wide) 0 x.maps >>= limited_with x.written n

@@ -21,7 +21,7 @@ abbrev pub row_texts : List Value → List Text
 row_texts vs = map text_in (map view vs)
 
 abbrev pub key_seen : KeyRow → KeyText
-key_seen k = record { kind = k.kind.now; size = k.size; rows = row_texts k.rows.now }
+key_seen k = record { kind = k.kind.now; size = k.size; rows = row_texts k.rows.now; parts = k.parts }
 
 abbrev pub listed_seen : ListedRow → ListedText
 listed_seen r = record { map = map_seen r.map; key = key_seen r.key }

@@ -11,6 +11,7 @@ use Rattle.bpf_note.specs.declared.key.MapKey.TheVariants.{Index, Listed, Consta
 use Rattle.xdp_load.specs.Limits.{are_names}
 use Rattle.xdp_load.specs.Listed.{ListedView}
 use Rattle.xdp_load.specs.Sound.{IsPacket}
+use Rattle.xdp_load.specs.Values.{AreFilled}
 
 -- an array has no list; another map's is of its kind of keys, and each row has a value; constants are as many as the map has
 abbrev pub Fits : Shape → Option MapList → Type 0
@@ -31,6 +32,7 @@ pub record IsListedSound (x : ListedView) : Type 0 where
   pub few_queues : x.setup.queues ≤ 8
   pub few_maps : length x.setup.shapes ≤ most_maps
   pub shapes : AllByRecursion IsShape x.setup.shapes
+  pub values : AreFilled x.setup.shapes x.setup.values
   pub named : length x.setup.names ≡ length x.setup.shapes
   pub names : are_names x.setup.names ≡ true
   pub script : AllByRecursion (λ p. p.0 < x.setup.queues) x.setup.script

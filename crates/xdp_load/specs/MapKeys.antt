@@ -42,11 +42,13 @@ texts_of ds = if list_any is_no_text ds then None else Some (map text_in ds)
 abbrev pub texts_at : Key → Members → Result (List Text) Key
 texts_at k ms = or_else k (option_and_then texts_of (values_at k ms))
 
--- the kind of a map's keys, their bytes of data, and its list of keys; or how many constants, and their bytes
+-- the kind of a map's keys, their bytes of data, and its list of keys; or how many constants, and their bytes; and whether a load may
+-- take a part of a counter
 pub record KeyText : Type 0 where
   pub kind : Text
   pub size : ℤ
   pub rows : List Text
+  pub parts : Bool
 
 -- a map whose values may be looked up by keys
 pub record ListedText : Type 0 where
@@ -54,14 +56,15 @@ pub record ListedText : Type 0 where
   pub key : KeyText
 
 abbrev pub listed_keys : List Key
-listed_keys = map_keys ++ (key.KeyKind ∷ key.KeySize ∷ key.Rows ∷ [])
+listed_keys = map_keys ++ (key.KeyKind ∷ key.KeySize ∷ key.Rows ∷ key.Parts ∷ [])
 
 abbrev pub key_of_fields : Members → Result KeyText Key
 key_of_fields ms = do
   kind ← text_or key.KeyKind (codes "index") ms
   size ← number_at key.KeySize ms
   rows ← texts_at key.Rows ms
-  Ok (record { kind = kind; size = size; rows = rows })
+  parts ← truth_at key.Parts ms
+  Ok (record { kind = kind; size = size; rows = rows; parts = parts })
 
 abbrev pub listed_of_fields : Members → Result ListedText Key
 listed_of_fields ms = do

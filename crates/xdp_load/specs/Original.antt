@@ -1,18 +1,18 @@
 -- Stated: claims rest on this file.
--- Settings that say, in a table `original`, of which program theirs was made, or a fault and where it is.
-use Rattle.std.specs.Prelude.{ℕ, Bool, List, [], ◌∷◌, option_and_then, Result, Ok, Err, if◌then◌else◌}
+-- Settings that say, in a table `original`, of which program theirs was made, or a fault and where it is. Their maps may have lists.
+use Rattle.std.specs.Prelude.{ℕ, ◌≡◌, ◌⊎◌, Bool, List, [], ◌∷◌, length, Option, option_and_then, Result, Ok, Err, if◌then◌else◌}
+use Rattle.bpf_lists.specs.declared.list.MapList.{MapList}
 use Rattle.toml.specs.Data.{Members, as_table}
 use Rattle.xdp_load.specs.declared.fault.Fault.TheVariants as fault
 use Rattle.xdp_load.specs.declared.key.Key.{Key}
 use Rattle.xdp_load.specs.declared.key.Key.TheVariants as key
 use Rattle.xdp_load.specs.Document.{Text, PlaceText, RelocText, found, has_only, place_row, reloc_row}
 use Rattle.xdp_load.specs.Gives.{each, in_original, or_refused, ◌>>=◌}
-use Rattle.xdp_load.specs.Limits.{limited_of}
+use Rattle.xdp_load.specs.Listed.{AreListedBelow, IsRowsFault, ListedView, ListedWritten, known_keys, listed_by, listed_limits, listed_setup_of}
 use Rattle.xdp_load.specs.Numbers.{limited}
-use Rattle.xdp_load.specs.Setup.{SetupView, document_of, joined, loaded_program, names_of, setup_of_limited, text_of}
+use Rattle.xdp_load.specs.Setup.{SetupView, document_of, joined, loaded_program, names_of, text_of}
 use Rattle.xdp_load.specs.Spot.{Refused, at, refused, whole}
-use Rattle.xdp_load.specs.Keys.{top_keys}
-use Rattle.xdp_load.specs.Written.{WrittenText, program_of, rows_of, written_by}
+use Rattle.xdp_load.specs.Written.{program_of, rows_of}
 
 -- the original as it is written
 pub record OriginalText : Type 0 where
@@ -25,9 +25,10 @@ pub record Place : Type 0 where
   pub at : ℕ
   pub own : Bool
 
--- a setup, the bytes of the original, and a place for each slot
+-- a setup with the lists of its maps, the bytes of the original, which has the same maps, and a place for each slot
 pub record RewrittenView : Type 0 where
   pub setup : SetupView
+  pub lists : List (Option MapList)
   pub original : List ℕ
   pub places : List Place
 
@@ -48,8 +49,8 @@ unfoldable pub original_of : Members → Result OriginalText Refused
 original_of ms = or_refused fault.Key (at key.Original) (option_and_then as_table (found key.Original ms)) >>= original_of_table
 
 -- what the document says beside its original
-unfoldable pub written_beside : Members → Result WrittenText Refused
-written_beside ms = written_by (key.Original ∷ top_keys) ms
+unfoldable pub listed_beside : Members → Result ListedWritten Refused
+listed_beside ms = listed_by (key.Original ∷ known_keys) ms
 
 abbrev pub limited_place : PlaceText → Result Place Key
 limited_place p = limited key.Place p.at >>= (λ at. Ok (record { at = at; own = p.own }))
@@ -64,16 +65,28 @@ original_program names o = in_original (relocated_program names o)
 unfoldable pub rewritten_of_table : Members → Result RewrittenView Refused
 rewritten_of_table ms = do
   o ← original_of ms
-  w ← written_beside ms
+  x ← listed_beside ms
   places ← in_original (each fault.Limit limited_place 0 o.places)
-  l ← limited_of w
-  setup ← setup_of_limited w l
-  original ← original_program (names_of w.maps) o
-  Ok (record { setup = setup; original = original; places = places })
+  l ← listed_limits x
+  listed ← listed_setup_of x l
+  original ← original_program (names_of x.written.maps) o
+  Ok (record { setup = listed.setup; lists = listed.lists; original = original; places = places })
 
--- what a text says, or its first fault
+-- what a text says, or its first fault but those of the rows of lists
 unfoldable pub rewritten_of : List ℕ → Result RewrittenView Refused
 rewritten_of bytes = do
   text ← or_refused fault.Text whole (text_of bytes)
   document ← document_of text
   rewritten_of_table document
+
+-- its setup with the lists
+abbrev pub listed_in : RewrittenView → ListedView
+listed_in r = record { setup = r.setup; lists = r.lists }
+
+-- the text says this, with lists of which each is one that a map can have
+abbrev pub IsRewritingOf : List ℕ → RewrittenView → Type 0
+IsRewritingOf text r = (rewritten_of text ≡ Ok r) × AreListedBelow r.lists (length r.lists)
+
+-- the text has this first fault, at this spot: it says nothing; or it does, and this is its first list that no map can have
+abbrev pub IsRewritingFault : List ℕ → Refused → Type 0
+IsRewritingFault text f = (rewritten_of text ≡ Err f) ⊎ IsRowsFault (rewritten_of text >>= (λ r. Ok (listed_in r))) f

@@ -1,13 +1,26 @@
 -- Stated: claims rest on this file.
 -- What settings with an original stand for.
-use Rattle.std.specs.Prelude.{map}
+use Rattle.std.specs.Prelude.{map, List, ℕ}
 use Rattle.xdp_load.specs.declared.original.Place.{Place as CodePlace}
 use Rattle.xdp_load.specs.declared.rewritten.Rewritten.{Rewritten}
-use Rattle.xdp_load.specs.Original.{Place, RewrittenView}
+use Rattle.xdp_load.specs.declared.fault.LoadError.{LoadError}
+use Rattle.xdp_load.specs.declared.fault.LoadError.TheVariants as error
+use Rattle.xdp_load.specs.Original.{IsRewritingFault, Place, RewrittenView}
 use Rattle.xdp_load.specs.SetupSeen.{setup_view}
+use Rattle.xdp_load.specs.SpotSeen.{refused_seen}
 
 abbrev pub place_view : CodePlace → Place
 place_view p = record { at = p.at; own = p.own }
 
 abbrev pub rewritten_view : Rewritten → RewrittenView
-rewritten_view r = record { setup = setup_view r.setup; original = r.original.items; places = map place_view r.places.items }
+rewritten_view r = record {
+  setup = setup_view r.listed.setup;
+  lists = r.listed.lists.items;
+  original = r.original.items;
+  places = map place_view r.places.items;
+}
+
+-- memory ran out, or this is the text's first fault and its spot
+abbrev pub IsRewritingError : List ℕ → LoadError → Type 0
+IsRewritingError text error.Memory = Unit {0}
+IsRewritingError text (error.Refused r) = IsRewritingFault text (refused_seen r)

@@ -14,6 +14,7 @@ pub record IsPlainMap (ms : Members) : Type 0 where
   pub kind : found key.KeyKind ms ≡ None
   pub size : found key.KeySize ms ≡ None
   pub rows : found key.Rows ms ≡ None
+  pub parts : found key.Parts ms ≡ None
 
 abbrev pub IsPlainRow : Data → Type 0
 IsPlainRow (table ms) = IsPlainMap ms

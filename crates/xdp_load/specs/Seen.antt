@@ -1,6 +1,8 @@
 -- For proofs: no claim rests on this file.
 -- What the rows of the code stand for.
-use Rattle.std.specs.Prelude.{map}
+use Rattle.std.specs.Prelude.{ℤ, List, map}
+use Rattle.toml.specs.View.{view}
+use Rattle.toml.specs.declared.value.Value.{Value}
 use Rattle.xdp_load.specs.declared.kinds.MapRow.{MapRow}
 use Rattle.xdp_load.specs.declared.kinds.RelocRow.{RelocRow}
 use Rattle.xdp_load.specs.declared.kinds.PacketRow.{PacketRow}
@@ -8,11 +10,14 @@ use Rattle.xdp_load.specs.declared.kinds.StepRow.{StepRow}
 use Rattle.xdp_load.specs.declared.kinds.PlaceRow.{PlaceRow}
 use Rattle.xdp_load.specs.declared.kinds.HexRow.{HexRow}
 use Rattle.xdp_load.specs.declared.document.Written.{Written}
-use Rattle.xdp_load.specs.Document.{MapText, RelocText, PacketText, PlaceText, StepText, Text}
+use Rattle.xdp_load.specs.Document.{MapText, RelocText, PacketText, PlaceText, StepText, Text, number_in}
 use Rattle.xdp_load.specs.Written.{WrittenText}
 
+abbrev pub row_numbers : List Value → List ℤ
+row_numbers vs = map number_in (map view vs)
+
 abbrev pub map_seen : MapRow → MapText
-map_seen m = record { name = m.name.now; entries = m.entries; counters = m.counters }
+map_seen m = record { name = m.name.now; entries = m.entries; counters = m.counters; values = row_numbers m.values.now }
 
 abbrev pub reloc_seen : RelocRow → RelocText
 reloc_seen r = record { slot = r.slot; map = r.map.now }

@@ -19,6 +19,7 @@ use Rattle.xdp_load.specs.declared.key.Key.TheVariants as key
 use Rattle.xdp_load.specs.Document.{Text, MapText, RelocText}
 use Rattle.xdp_load.specs.Written.{WrittenText, written_of}
 use Rattle.xdp_load.specs.Limits.{HexPacket, LimitedText, bad_name, limited_of}
+use Rattle.xdp_load.specs.Values.{values_of}
 use Rattle.xdp_load.specs.Gives.{each, in_row, or_else, or_refused, ◌>>=◌}
 use Rattle.xdp_load.specs.Spot.{Refused, refused, row, stopped, whole}
 
@@ -83,6 +84,7 @@ relocated names n program (r ∷ rs) = in_row fault.Relocation n (relocated_once
 pub record SetupView : Type 0 where
   pub program : List ℕ
   pub shapes : List Shape
+  pub values : List (List ℕ)
   pub names : List Text
   pub queues : ℕ
   pub ifindex : ℕ
@@ -113,6 +115,7 @@ relocated_setup w l d = do
   Ok (record {
     program = program;
     shapes = l.shapes;
+    values = map values_of w.maps;
     names = names_of w.maps;
     queues = l.numbers.queues;
     ifindex = l.numbers.ifindex;

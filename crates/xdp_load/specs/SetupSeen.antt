@@ -12,6 +12,7 @@ abbrev pub setup_view : Setup → SetupView
 setup_view s = record {
   program = s.program.items;
   shapes = s.shapes.items;
+  values = map (λ v. v.items) s.values.items;
   names = map string_bytes s.names.items;
   queues = s.queues;
   ifindex = s.ifindex;

@@ -5,6 +5,7 @@ use Rattle.std.specs.List.{AllByRecursion}
 use Rattle.bpf_note.specs.Shape.{IsNarrow}
 use Rattle.xdp_load.specs.Limits.{are_names}
 use Rattle.xdp_load.specs.Setup.{Packet, SetupView}
+use Rattle.xdp_load.specs.Values.{AreFilled}
 
 -- a packet's numbers and length are within their limits
 pub record IsPacket (queues : ℕ) (p : Packet) : Type 0 where
@@ -20,6 +21,7 @@ pub record IsSound (s : SetupView) : Type 0 where
   pub few_queues : s.queues ≤ 8
   pub few_maps : length s.shapes ≤ 4
   pub shapes : AllByRecursion IsNarrow s.shapes
+  pub values : AreFilled s.shapes s.values
   pub named : length s.names ≡ length s.shapes
   pub names : are_names s.names ≡ true
   pub script : AllByRecursion (λ p. p.0 < s.queues) s.script

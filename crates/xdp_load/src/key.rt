@@ -33,6 +33,8 @@ pub enum Key {
     KeySize,
     ConstantSize,
     Rows,
+    Values,
+    Parts,
 }
 
 impl Key {
@@ -48,6 +50,7 @@ impl Key {
             Key::Map | Key::WideMap | Key::Name | Key::Entries | Key::WideEntries | Key::Counters =>
                 "map",
             Key::KeyKind | Key::KeySize | Key::ConstantSize | Key::Rows => "map",
+            Key::Values | Key::Parts => "map",
             Key::Reloc | Key::Slot | Key::OfMap => "reloc",
             Key::Step | Key::StepQueue | Key::Answer => "script",
             Key::Packet | Key::PacketQueue | Key::Bytes | Key::Times => "packet",
@@ -74,6 +77,8 @@ impl Key {
             Key::KeyKind => Some("key"),
             Key::KeySize | Key::ConstantSize => Some("size"),
             Key::Rows => Some("rows"),
+            Key::Values => Some("values"),
+            Key::Parts => Some("parts"),
             _ => None,
         }
     }
@@ -133,7 +138,8 @@ impl Key {
             Key::Program => "a list of hex texts, each with whole bytes (required)",
             Key::Queues => "a whole number, 1 to 8",
             Key::IfIndex | Key::Start | Key::Answer => "a whole number, 0 to 4294967295",
-            Key::Map => "at most four tables, each with name, entries and, optionally, counters",
+            Key::Map =>
+                "at most four tables, each with name, entries and, optionally, counters and values",
             Key::Name => "a text of 1 to 32 bytes, no other map's (required)",
             Key::Entries => "a whole number, 1 to 1024 (required)",
             Key::Counters => "a whole number, 1 to 8",
@@ -149,15 +155,17 @@ impl Key {
             Key::Times => "a whole number, 1 to 100000",
             Key::Original => "a table with program, places and, optionally, reloc (required)",
             Key::Place => "places, each of a whole number, 0 to 4294967295, and true or false",
-            Key::Wide => "true or false",
+            Key::Wide | Key::Parts => "true or false",
             Key::WideMap =>
-                "at most 16 tables, each with name, entries and, optionally, counters, key, size and rows",
+                "at most 16 tables, each with name, entries and, optionally, counters, values, key, size, rows and parts",
             Key::WideEntries => "a whole number, 1 to 65536 (required)",
             Key::KeyKind => "index, exact, prefix or constants",
             Key::KeySize => "a whole number, 1 to 64; of an index 4",
             Key::ConstantSize => "a whole number, 1 to 65536",
             Key::Rows =>
                 "hex texts, each a key of the map, none twice, at most as many as entries; of an index none; of constants one, their bytes",
+            Key::Values =>
+                "whole numbers, each 0 to 9223372036854775807, at most as many as the map has counters; of constants none",
         }
     }
 }
@@ -188,7 +196,7 @@ pub const LISTED_KEYS: [Key; 9] = [
 ];
 
 /// The keys of a document that has its original beside them.
-pub const REWRITTEN_KEYS: [Key; 9] = [
+pub const REWRITTEN_KEYS: [Key; 10] = [
     Key::Original,
     Key::Program,
     Key::Queues,
@@ -198,4 +206,5 @@ pub const REWRITTEN_KEYS: [Key; 9] = [
     Key::Reloc,
     Key::Step,
     Key::Packet,
+    Key::Wide,
 ];

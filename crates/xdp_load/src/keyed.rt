@@ -63,12 +63,13 @@ fn texts_at(table: &Table, key: Key) -> Result<&[Value], Key>
     }
 }
 
-/// The kind of a map's keys, their bytes of data, and its list of keys, which are texts.
+/// The kind of a map's keys, their bytes of data, its list of keys, which are texts, and whether a load may take a part of a counter.
 #[derive(Clone, Copy)]
 pub struct KeyRow<'a> {
     pub kind: &'a str,
     pub size: i64,
     pub rows: &'a [Value],
+    pub parts: bool,
 }
 
 /// What a table with known keys says of a map's keys.
@@ -78,7 +79,13 @@ fn key_of_fields<'a>(table: &'a Table) -> Result<KeyRow<'a>, Key>
     let kind = text_or(table, Key::KeyKind, "index")?;
     let size = number_at(table, Key::KeySize)?;
     let rows = texts_at(table, Key::Rows)?;
-    Ok(KeyRow { kind, size, rows })
+    let parts = truth_at(table, Key::Parts)?;
+    Ok(KeyRow {
+        kind,
+        size,
+        rows,
+        parts,
+    })
 }
 
 /// A map whose values may be looked up by keys, as it is written.
@@ -98,13 +105,15 @@ fn listed_of_fields<'a>(table: &'a Table) -> Result<ListedRow<'a>, Key>
 }
 
 /// The keys of a map's table.
-const MAP_KEYS: [Key; 6] = [
+const MAP_KEYS: [Key; 8] = [
     Key::Name,
     Key::Entries,
     Key::Counters,
+    Key::Values,
     Key::KeyKind,
     Key::KeySize,
     Key::Rows,
+    Key::Parts,
 ];
 
 impl<'a> Row<'a> for ListedRow<'a> {

@@ -5,11 +5,13 @@ ghost use Rattle.toml.specs.View.{view};
 ghost use Rattle.bpf_note.specs.Keys.{IsKey};
 ghost use Rattle.bpf_note.specs.Shape.{most_maps};
 ghost use Rattle.xdp_load.specs.Gives.{Gives, each};
-ghost use Rattle.xdp_load.specs.Listed.{entries_key, listed_limits, listed_limits_of, listed_limits_with, listed_shape, map_key, most_of};
+ghost use Rattle.xdp_load.specs.Listed.{entries_key, filled_shape, listed_limits, listed_limits_of, listed_limits_with, listed_shape, map_key, most_of};
 ghost use Rattle.xdp_load.specs.ListedSeen.{key_seen, listed_seen, listed_written_seen, row_texts};
 ghost use Rattle.xdp_load.specs.LimitsSeen.{limited_seen};
 ghost use Rattle.xdp_load.specs.MapKeys.{are_rows, constants_of, exact_of, index_of, is_row_of, limited_key, prefix_of, text_in};
 ghost use Rattle.xdp_load.specs.Numbers.{limited};
+ghost use Rattle.xdp_load.specs.Seen.{row_numbers};
+ghost use Rattle.xdp_load.specs.Values.{room_of};
 ghost use Rattle.xdp_load.specs.declared.fault.Fault.TheVariants.{Limit};
 
 use crate::fault::{Fault, LoadError, in_key, in_row};
@@ -19,6 +21,7 @@ use crate::limits::{WithinLimits, limited_with};
 use crate::listed_document::ListedWritten;
 use crate::numbers::{Limits, limited, limited_numbers};
 use crate::spot::Spot;
+use crate::values::are_values;
 use bpf_note::{Kind, MapKey, MapShape};
 use std::alloc::Global;
 use toml::Value;
@@ -129,6 +132,41 @@ fn limited_entries(wide: bool, entries: i64) -> Result<u32, Key>
     }
 }
 
+/// How many counters of a map can begin with a number.
+fn room_of(key: MapKey, counters: usize) -> usize
+    ensures { result ≡ room_of key counters }
+{
+    match key {
+        MapKey::Index | MapKey::Listed(_) => counters,
+        MapKey::Constants(_) => 0,
+    }
+}
+
+/// The shape, where its counters can begin with these numbers.
+fn filled_shape(
+    entries: u32,
+    counters: u32,
+    key: MapKey,
+    parts: bool,
+    values: &[Value],
+) -> Result<MapShape, Key>
+    requires entries { (1 ≤ entries) × (entries ≤ 65536) }
+    requires counters { (1 ≤ counters) × (counters ≤ 8) }
+    requires key { IsKey key }
+    ensures { result ≡ filled_shape entries counters key parts (row_numbers values.now) }
+{
+    let room = room_of(key, counters as usize * entries as usize);
+    if !are_values(room, values) {
+        return Err(Key::Values);
+    }
+    let shape = MapShape::keyed(key, entries, counters).ok_or(Key::Map)?;
+    if parts {
+        Ok(shape.with_parts())
+    } else {
+        Ok(shape)
+    }
+}
+
 /// The shape of a map within its limits.
 fn listed_shape(wide: bool, row: &ListedRow<'_>) -> Result<MapShape, Key>
     ensures { result ≡ listed_shape wide (listed_seen row.now) }
@@ -139,7 +177,7 @@ fn listed_shape(wide: bool, row: &ListedRow<'_>) -> Result<MapShape, Key>
     if !are_rows(key, entries, row.key.rows) {
         return Err(Key::Rows);
     }
-    MapShape::keyed(key, entries, counters).ok_or(Key::Map)
+    filled_shape(entries, counters, key, row.key.parts, row.map.values)
 }
 
 /// The shapes of the maps, each within its limits.

@@ -8,6 +8,7 @@ ghost use Rattle.xdp_load.specs.Seen.{map_seen, place_seen, step_seen};
 use crate::key::Key;
 use crate::rows::{Row, rows_in};
 use crate::table::{has_only, number_at, text_at};
+use crate::values::numbers_at;
 use toml::{Table, Value};
 
 /// A map as it is written.
@@ -16,6 +17,7 @@ pub struct MapRow<'a> {
     pub name: &'a str,
     pub entries: i64,
     pub counters: i64,
+    pub values: &'a [Value],
 }
 
 /// The map of a table with known keys.
@@ -25,10 +27,12 @@ pub fn map_of_fields<'a>(table: &'a Table) -> Result<MapRow<'a>, Key>
     let name = text_at(table, Key::Name)?;
     let entries = number_at(table, Key::Entries)?;
     let counters = number_at(table, Key::Counters)?;
+    let values = numbers_at(table, Key::Values)?;
     Ok(MapRow {
         name,
         entries,
         counters,
+        values,
     })
 }
 
@@ -44,7 +48,10 @@ impl<'a> Row<'a> for MapRow<'a> {
 
     fn of(value: &'a Value) -> Result<MapRow<'a>, Key> {
         let table = value.as_table().ok_or(Key::Map)?;
-        if !has_only(table, &[Key::Name, Key::Entries, Key::Counters]) {
+        if !has_only(
+            table,
+            &[Key::Name, Key::Entries, Key::Counters, Key::Values],
+        ) {
             return Err(Key::Map);
         }
         map_of_fields(table)

@@ -5,6 +5,7 @@
 //! - `table`, `rows`, `kinds`: a document's keys, and the type of each
 //! - `document`, `numbers`, `limits`, `names`, `packets`, `relocations`: the phases, each of which refuses the first fault of its own
 //!   kind where it comes to it
+//! - `values`: the numbers that counters begin with
 //! - `setup`: all phases in their order, and the setup that they give
 //! - `original`, `rewritten`: settings that have the program too of which theirs was made
 //! - `listed`: settings whose maps may have lists, by `keyed`, `listed_document`, `keyed_limits` and `lists`
@@ -34,6 +35,7 @@ mod rows;
 mod setup;
 mod spot;
 mod table;
+mod values;
 
 pub use fault::{Fault, LoadError, LoadFault, Part, Refused};
 pub use key::Key;

@@ -13,6 +13,7 @@ use crate::key::Key;
 use crate::kinds::{MapRow, PacketRow, StepRow};
 use crate::numbers::{Limits, below, limited, limited_numbers};
 use crate::spot::Spot;
+use crate::values::are_values;
 use bpf_note::MapShape;
 use std::alloc::Global;
 
@@ -22,6 +23,9 @@ fn limited_shape(row: &MapRow<'_>) -> Result<MapShape, Key>
 {
     let entries = limited(Key::Entries, row.entries)?;
     let counters = limited(Key::Counters, row.counters)?;
+    if !are_values(counters as usize * entries as usize, row.values) {
+        return Err(Key::Values);
+    }
     MapShape::of(entries, counters).ok_or(Key::Map)
 }
 

@@ -54,7 +54,7 @@ fn listed_setup_with(
 
 /// The setup of a document within its limits.
 #[tactic(auto, using(crate::proofs::RowLemmas::names_seen), unfolding(crate::specs::Listed::listed_setup_of))]
-fn listed_setup_of(
+pub fn listed_setup_of(
     alloc: Global,
     listed: &ListedWritten<'_>,
     limits: WithinLimits<'_>,

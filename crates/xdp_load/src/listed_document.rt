@@ -2,7 +2,7 @@
 ghost use Rattle.std.specs.Prelude.{◌≡◌, IfOk, map};
 ghost use Rattle.toml.specs.View.{table_view};
 ghost use Rattle.xdp_load.specs.Gives.{Gives};
-ghost use Rattle.xdp_load.specs.Listed.{listed_rows_of, listed_written};
+ghost use Rattle.xdp_load.specs.Listed.{listed_by, listed_rows_of, listed_written};
 ghost use Rattle.xdp_load.specs.ListedSeen.{listed_seen, listed_written_seen};
 ghost use Rattle.xdp_load.specs.Seen.{map_seen};
 
@@ -55,16 +55,27 @@ fn listed_rows_of<'a>(alloc: Global, table: &'a Table) -> Result<ListedWritten<'
     })
 }
 
-/// A document, if each of its keys is known and of the right type.
-#[tactic(auto, unfolding(crate::specs::Listed::listed_written))]
-pub fn read_listed<'a>(alloc: Global, table: &'a Table) -> Result<ListedWritten<'a>, LoadError>
-    ensures { Gives listed_written_seen result (listed_written (table_view table.now)) }
+/// What a document says that knows these keys.
+pub fn listed_by<'a>(
+    alloc: Global,
+    table: &'a Table,
+    known: &[Key],
+) -> Result<ListedWritten<'a>, LoadError>
+    ensures { Gives listed_written_seen result (listed_by known.now (table_view table.now)) }
 {
-    match unknown_key(table, &LISTED_KEYS) {
+    match unknown_key(table, known) {
         Some(name) => {
             let name = String::from_str(alloc, name)?;
             Err(LoadError::at(Fault::Key, Spot::Unknown(name)))
         }
         None => listed_rows_of(alloc, table),
     }
+}
+
+/// A document, if each of its keys is known and of the right type.
+#[tactic(auto, unfolding(crate::specs::Listed::listed_written))]
+pub fn read_listed<'a>(alloc: Global, table: &'a Table) -> Result<ListedWritten<'a>, LoadError>
+    ensures { Gives listed_written_seen result (listed_written (table_view table.now)) }
+{
+    listed_by(alloc, table, &LISTED_KEYS)
 }

@@ -2,7 +2,7 @@
 ghost use Rattle.std.specs.Prelude.{◌≡◌, IfOk, IfErr, OnOk, Some, length, map, option_map};
 ghost use Rattle.bpf_lists.specs.Refusals.{AreListed};
 ghost use Rattle.xdp_load.specs.Gives.{Gives};
-ghost use Rattle.xdp_load.specs.Listed.{list_of, lists_of, row_bytes};
+ghost use Rattle.xdp_load.specs.Listed.{AreListedBelow, list_of, lists_of, row_bytes};
 ghost use Rattle.xdp_load.specs.ListedFault.{IsListError, IsListed, IsUnlistedError};
 ghost use Rattle.xdp_load.specs.ListedSeen.{list_seen, listed_seen, lists_seen, row_texts};
 ghost use Rattle.bpf_lists.specs.declared.list.MapList.TheVariants.{Rows};
@@ -141,6 +141,7 @@ pub fn sorted_lists(
     lists: &[Option<ListBytes>],
 ) -> Result<Vec<Option<MapList>>, LoadError>
     ensures rows { IfOk result (λ v. v.items ≡ lists_seen lists.now) }
+    ensures listed { IfOk result (λ v. AreListedBelow v.items (length v.items)) }
     ensures refused { IfErr result (IsListError (lists_seen lists.now)) }
 {
     let mut sorted = Vec::new(alloc);

@@ -21,17 +21,20 @@ use crate::names::bad_name;
 use crate::packets::{Packet, joined, packets_of};
 use crate::relocations::relocated;
 use crate::spot::Spot;
+use crate::values::values_in;
 use bpf_note::MapShape;
 use std::alloc::{AllocError, Global};
 use toml::Table;
 
-/// The settings of a run: the bytes of the program, its relocations applied; the maps' shapes and names, by number; 1 to 8
+/// The settings of a run: the bytes of the program, its relocations applied; the maps' shapes, the numbers that their
+/// counters begin with, and their names, by number; 1 to 8
 /// queues; the number of the interface; the index at which each ring begins; the script, each step a queue and an answer;
 /// the packets.
 #[derive(Drop)]
 pub struct Setup {
     pub program: Vec<u8>,
     pub shapes: Vec<MapShape>,
+    pub values: Vec<Vec<u64>>,
     pub names: Vec<String>,
     pub queues: usize,
     pub ifindex: u32,
@@ -81,9 +84,11 @@ pub fn relocated_setup(
     let (program, packets) = decoded;
     let program = relocated(program, written.maps.as_slice(), written.relocs.as_slice())?;
     let names = names_of(alloc, written.maps.as_slice())?;
+    let values = values_in(alloc, written.maps.as_slice())?;
     Ok(Setup {
         program,
         shapes: limited.shapes,
+        values,
         names,
         queues: limited.numbers.queues as usize,
         ifindex: limited.numbers.ifindex,

@@ -159,7 +159,7 @@ pub fn gives_original(
 ) -> bool {
     match load_rewritten(alloc, text.as_bytes()) {
         Ok(rewritten) => {
-            is_hex_of(alloc, program, rewritten.setup.program.as_slice())
+            is_hex_of(alloc, program, rewritten.listed.setup.program.as_slice())
                 && is_hex_of(alloc, original, rewritten.original.as_slice())
                 && has_places(rewritten.places.as_slice(), places)
         }
@@ -211,10 +211,51 @@ pub fn constant_at(alloc: Global, text: &str, number: usize, place: usize) -> Op
     }
 }
 
+/// Whether loads may take parts of the counters of a map of settings, if there is one.
+pub fn has_parts(alloc: Global, text: &str, number: usize) -> Option<bool> {
+    let listed = load_listed(alloc, text.as_bytes()).ok()?;
+    Some(listed.setup.shapes.as_slice().get(number)?.has_parts())
+}
+
+fn lists_in(listed: &Listed) -> usize {
+    listed.lists.iter().filter(|list| list.is_some()).count()
+}
+
+/// The number with that place among those of a map, if there is one.
+fn number_in(setup: &Setup, number: usize, place: usize) -> Option<u64> {
+    setup
+        .values
+        .as_slice()
+        .get(number)?
+        .as_slice()
+        .get(place)
+        .copied()
+}
+
+/// The number with that place among those that settings give a map.
+pub fn value_at(alloc: Global, text: &str, number: usize, place: usize) -> Option<u64> {
+    number_in(&load(alloc, text.as_bytes()).ok()?, number, place)
+}
+
+/// The same of settings with lists.
+pub fn listed_value_at(alloc: Global, text: &str, number: usize, place: usize) -> Option<u64> {
+    number_in(
+        &load_listed(alloc, text.as_bytes()).ok()?.setup,
+        number,
+        place,
+    )
+}
+
 /// How many maps of settings have a list.
 pub fn lists_given(alloc: Global, text: &str) -> Option<usize> {
     let listed = load_listed(alloc, text.as_bytes()).ok()?;
-    Some(listed.lists.iter().filter(|list| list.is_some()).count())
+    Some(lists_in(&listed))
+}
+
+/// How many maps of settings with an original have a list.
+pub fn lists_beside_original(alloc: Global, text: &str) -> Option<usize> {
+    let rewritten = load_rewritten(alloc, text.as_bytes()).ok()?;
+    Some(lists_in(&rewritten.listed))
 }
 
 /// The counts of a setup with lists, or why there is none.

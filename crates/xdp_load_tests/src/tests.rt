@@ -4,6 +4,7 @@ mod lists;
 mod originals;
 mod setups;
 mod spots;
+mod values;
 
 /// Settings of forty lines, with every key.
 const EVERY_KEY: &str = "\

@@ -1,7 +1,7 @@
 //! Settings whose maps have lists of keys, and wider limits. What Linux 6.18 does with the same keys by bpf(2) stands beside them.
 use crate::loading::{
-    constant_at, counts, found_row, gives_listed_maps, is_listed_refused_at, is_refused_at,
-    listed_counts, lists_given,
+    constant_at, counts, found_row, gives_listed_maps, has_parts, is_listed_refused_at,
+    is_refused_at, listed_counts, lists_given,
 };
 use crate::tests::EVERY_KEY;
 use std::test::Fail;
@@ -218,6 +218,36 @@ fn constants_are_one_row(rt: HostRuntime) {
         ),
     ] {
         assert!(rt; is_listed_refused_at(alloc, text, Fault::Limit, &spot));
+    }
+}
+
+#[test]
+fn parts_of_counters_are_asked_for(rt: HostRuntime) {
+    let alloc = rt.alloc();
+    let text = "\
+program = []
+map = [
+  { name = \"whole\", entries = 1 },
+  { name = \"also\", entries = 1, parts = false },
+  { name = \"array\", entries = 2, counters = 2, parts = true },
+  { name = \"macs\", entries = 9, key = \"exact\", size = 6, parts = true },
+]
+";
+    for (number, parts) in [(0, false), (1, false), (2, true), (3, true)] {
+        assert_eq!(rt; has_parts(alloc, text, number), Some(parts));
+    }
+    assert_eq!(rt; has_parts(alloc, text, 4), None);
+    for value in ["1", "\"true\""] {
+        let text = format!(in alloc;
+            "program = []\nmap = [{{ name = \"a\", entries = 1, parts = {value} }}]\n"
+        );
+        let is_refused = text.is_ok_and(|text| is_listed_refused_at(
+            alloc,
+            text.as_str(),
+            Fault::Key,
+            &Spot::Row(Key::Parts, 0),
+        ));
+        assert!(rt; is_refused);
     }
 }
 

@@ -1,5 +1,5 @@
 //! Settings that have the program too of which theirs was made.
-use crate::loading::{gives_original, is_rewritten_refused_at};
+use crate::loading::{gives_original, is_rewritten_refused_at, lists_beside_original};
 use xdp_load::{Fault, Key, Part, Spot};
 
 #[test]
@@ -76,4 +76,41 @@ fn faults_of_the_settings_are_their_own(rt: HostRuntime) {
     ] {
         assert!(rt; is_rewritten_refused_at(rt.alloc(), text, fault, Part::Settings, &spot));
     }
+}
+
+/// Lists, constants and wider limits, as without an original; the rows of lists are looked at after the original.
+#[test]
+fn reads_lists_beside_the_original(rt: HostRuntime) {
+    let text = "\
+program = [\"b7000000020000009500000000000000\"]
+wide = true
+map = [
+  { name = \"a\", entries = 2000 },
+  { name = \"b\", entries = 2, key = \"exact\", rows = [\"0a010203\"] },
+  { name = \".rodata\", entries = 1, key = \"constants\", size = 3, rows = [\"010203\"] },
+]
+[original]
+program = [\"b7000000020000009500000000000000\"]
+";
+    assert!(rt; lists_beside_original(rt.alloc(), text) == Some(2));
+}
+
+#[test]
+fn rows_of_lists_are_looked_at_after_the_original(rt: HostRuntime) {
+    let twice = "\
+program = []
+map = [{ name = \"a\", entries = 2, key = \"exact\", rows = [\"0a010203\", \"0a010203\"] }]
+[original]
+program = []
+";
+    let spot = Spot::Row(Key::Rows, 0);
+    assert!(rt; is_rewritten_refused_at(rt.alloc(), twice, Fault::Rows, Part::Settings, &spot));
+    let both = "\
+program = []
+map = [{ name = \"a\", entries = 2, key = \"exact\", rows = [\"0a010203\", \"0a010203\"] }]
+[original]
+program = [\"0\"]
+";
+    let spot = Spot::Row(Key::Program, 0);
+    assert!(rt; is_rewritten_refused_at(rt.alloc(), both, Fault::Hex, Part::Original, &spot));
 }

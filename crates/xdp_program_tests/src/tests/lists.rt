@@ -141,9 +141,47 @@ fn other_maps_have_no_lists_for_it(rt: HostRuntime) {
     assert_eq!(rt; found, Some((Err(RelistFault::Other), [5, 7])));
 }
 
+/// Keys whose counters may be loaded in parts.
+const WITH_PARTS: &str = "[\"01000000\"]\nparts = true";
+
+#[test]
+fn a_map_with_parts_is_another_one(rt: HostRuntime) {
+    let found = relisted(rt.alloc(), COUNTS, WITH_PARTS);
+    assert_eq!(rt; found, Some((Err(RelistFault::Other), [5, 7])));
+}
+
 #[test]
 fn settings_with_a_fault_have_no_lists(rt: HostRuntime) {
     let found = relisted(rt.alloc(), COUNTS, "[\"01000000\", \"01000000\"]");
     let fault = RelistFault::Text(TextFault::Refused(Fault::Rows));
     assert_eq!(rt; found, Some((Err(fault), [5, 7])));
+}
+
+/// Answers with byte 2 of its one counter.
+const LOADS_A_BYTE: &str = "\
+program = [
+  \"620afcff00000000\",
+  \"bfa2000000000000\",
+  \"07020000fcffffff\",
+  \"18010000000000000000000000000000\",
+  \"8500000001000000\",
+  \"1500010000000000\",
+  \"7100020000000000\",
+  \"9500000000000000\",
+]
+[[reloc]]
+slot = 3
+map = \"hits\"
+[[map]]
+name = \"hits\"
+entries = 1
+parts = true
+";
+
+#[test]
+fn a_run_loads_a_part_of_a_counter(rt: HostRuntime) {
+    let mut counters = [0x0807_0605_0403_0201];
+    let end = settings_ended(rt.alloc(), LOADS_A_BYTE, &mut counters);
+    assert_eq!(rt; end, Some((3, 8)));
+    assert_eq!(rt; counters, [0x0807_0605_0403_0201]);
 }

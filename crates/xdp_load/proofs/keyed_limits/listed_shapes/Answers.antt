@@ -1,4 +1,4 @@
-use Rattle.std.proofs.Common.{◌∙◌, ap, arith, length, sym}
+use Rattle.std.proofs.Common.{◌∙◌, ap, arith, sym}
 use Rattle.std.proofs.lemmas.List.{length-append}
 use Rattle.xdp_load.specs.Gives.{in_row}
 use Rattle.xdp_load.specs.Listed.{listed_shape}

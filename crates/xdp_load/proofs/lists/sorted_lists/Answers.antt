@@ -1,8 +1,8 @@
-use Rattle.std.proofs.Common.{◌∙◌, ◌++◌, List, [], ◌∷◌, Option, ap, get_or, option_map, sym, subst}
+use Rattle.std.proofs.Common.{◌∙◌, ◌++◌, List, [], ◌∷◌, Option, ap, arith, get_or, option_map, sym, subst}
 use Rattle.bpf_lists.specs.declared.list.MapList.{MapList}
 use Rattle.xdp_load.specs.ListedFault.{IsListed}
 use Rattle.xdp_load.specs.ListedSeen.{list_seen}
-use Rattle.xdp_load.proofs.ListedLemmas.{below_more, lists_taken}
+use Rattle.xdp_load.proofs.ListedLemmas.{all_listed, below_more, lists_taken}
 use Rattle.xdp_load.proofs.lists.sorted_lists.Goals as goal
 
 pub loop-i-preserved : goal.loop-i-preserved
@@ -17,3 +17,8 @@ loop-i-preserved c =
           ∙ sym (lists_taken c.args.lists.now c.loop-i.i item c.loop-i-test.true),
       below_more c.args.lists.now c.loop-i.i item c.loop-i-test.true below listed,
     )
+
+pub returns-clause-listed : goal.returns-clause-listed
+returns-clause-listed c =
+    let (made, below) = c.loop-i.invariant in
+    all_listed c.args.lists.now c.loop-i.i _ (omega (arith, c.loop-i-test.false)) made below
