@@ -23,6 +23,7 @@ use bpf_vm::Buffer;
 use std::alloc::Global;
 use std::io;
 use xen_back::{Awaited, Delivery, Queue, QueueDesc, Turn};
+use xen_netif::NO_OFFERS;
 use xen_page::{Owners, Rights, Table, map};
 use xen_ring::{Port, Ports};
 
@@ -68,6 +69,7 @@ fn queue<'p, 'b>(
         ifindex: 1,
         queue: 0,
         port: Port::of(1).ok_or(Fault::Refused)?,
+        offers: NO_OFFERS,
         start: 0,
     };
     Ok(Queue::make(program, &[], desc, room))

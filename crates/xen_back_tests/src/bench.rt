@@ -15,6 +15,7 @@ use bpf_verify::{Verified, verify};
 use bpf_vm::Buffer;
 use std::alloc::Global;
 use xen_back::{Queue, QueueDesc, State};
+use xen_netif::{NO_OFFERS, Offers};
 use xen_page::{Mapped, Owners, Rights, ScriptBus, Table, map};
 use xen_ring::Port;
 
@@ -64,6 +65,7 @@ pub struct Bench {
     table: Table,
     program: Verified,
     lists: Vec<Option<MapList>>,
+    offers: Offers,
     ghost granted: { IsTable owners 1 table },
     ghost size: { length owners ≡ 20 },
 }
@@ -81,6 +83,7 @@ impl Bench {
                 table,
                 program,
                 lists: Vec::new(alloc),
+                offers: NO_OFFERS,
             }),
             None => None,
         }
@@ -95,12 +98,34 @@ impl Bench {
             table,
             program,
             lists: _,
+            offers,
         } = self;
         Bench {
             owners,
             table,
             program,
             lists,
+            offers,
+        }
+    }
+
+    /// The same, whose queues make these offers.
+    pub fn with_offers(self, offers: Offers) -> Bench
+        ensures { result.program ≡ self.program }
+    {
+        let Bench {
+            owners,
+            table,
+            program,
+            lists,
+            offers: _,
+        } = self;
+        Bench {
+            owners,
+            table,
+            program,
+            lists,
+            offers,
         }
     }
 
@@ -127,6 +152,7 @@ impl Bench {
             ifindex: IFINDEX,
             queue: QUEUE,
             port: Port::of(1)?,
+            offers: self.offers,
             start,
         };
         Some(Queue::make(&self.program, self.lists.as_slice(), desc, buffer))
@@ -152,6 +178,7 @@ impl Bench {
             ifindex: IFINDEX,
             queue: QUEUE,
             port: Port::of(1)?,
+            offers: self.offers,
             start: 0,
         };
         Some(Queue::resume(&self.program, self.lists.as_slice(), desc, state, buffer))

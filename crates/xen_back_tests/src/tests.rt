@@ -13,6 +13,7 @@ mod later_turns;
 mod lists;
 mod programs;
 mod resumed;
+mod segments;
 mod sending;
 mod slots;
 mod transmits;

@@ -8,6 +8,7 @@ use bpf_note::MapShape;
 use std::alloc::Global;
 use xen_back_tests::bench::{IFINDEX, QUEUE};
 use xen_host::{FrameOwners, Lists, Program, Queue, QueueParts};
+use xen_netif::NO_OFFERS;
 
 /// The queue between two turns, of which both rings are at `start`. It is wired as that of `xen_back_tests`: the backend, domain 0, owns
 /// frame 0, and the frontend the others; frame 1 is its grant table, frame 17 its tx ring and frame 18 its rx ring.
@@ -28,6 +29,7 @@ pub fn shipped(alloc: Global, bytes: &[u8], shapes: &[MapShape], start: u32) -> 
         granter: 1,
         user: 0,
         port: 1,
+        offers: NO_OFFERS,
         ifindex: IFINDEX,
         queue: QUEUE,
         tx_index: start,

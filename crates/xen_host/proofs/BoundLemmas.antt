@@ -106,7 +106,7 @@ abbrev pub TurnsAreRests : Type 0
 TurnsAreRests = (w : Wiring) (s : State) (p : List Event) (new : State) (u : Turned) → Runs (whole_turn w s) p (new, u) → IsTurn w s p new u
 
 abbrev pub TurnsAreShort : Type 0
-TurnsAreShort = (w : Wiring) (s : State) (p : List Event) (new : State) (u : Turned) → IsTurn w s p new u → effects p ≤ 33028
+TurnsAreShort = (w : Wiring) (s : State) (p : List Event) (new : State) (u : Turned) → IsTurn w s p new u → effects p ≤ 33032
 
 abbrev pub DeliveriesAreRests : Type 0
 DeliveriesAreRests = (w : Wiring) (s : State) (packet : List ℕ) (p : List Event) (after : State) (what : Delivery) → Runs (whole_delivery w.vif s packet) p (after, what) → IsDelivery w s packet p after what
@@ -123,12 +123,12 @@ waits_are_short w s pages _ _ _ (overflown p h l a) = omega arith
 waits_are_short w s pages _ _ _ (posted p m h l a k) = omega arith
 waits_are_short w s pages _ _ _ (waiting p m h l a k) = omega arith
 
-turning_few : TurnsAreRests → TurnsAreShort → (q : EngineAt) → Stands q → (s : State) (t : List Event) (a : Ask) → IsTurningAt q s t a → effects t ≤ 33028
+turning_few : TurnsAreRests → TurnsAreShort → (q : EngineAt) → Stands q → (s : State) (t : List Event) (a : Ask) → IsTurningAt q s t a → effects t ≤ 33032
 turning_few rests short q st s t a h =
     let r = some_turn q st s t a h in
-    front_few t r.0 33028 (short q.wires s (t ++ r.0) r.1.0 r.1.1 (rests q.wires s (t ++ r.0) r.1.0 r.1.1 r.2))
+    front_few t r.0 33032 (short q.wires s (t ++ r.0) r.1.0 r.1.1 (rests q.wires s (t ++ r.0) r.1.0 r.1.1 r.2))
 
-pub turn_few : TurnsAreRests → TurnsAreShort → (q : EngineAt) → Stands q → (s : State) (t : List Event) (a : Ask) → TurnGoesAt q a s t → effects t ≤ 33028
+pub turn_few : TurnsAreRests → TurnsAreShort → (q : EngineAt) → Stands q → (s : State) (t : List Event) (a : Ask) → TurnGoesAt q a s t → effects t ≤ 33032
 turn_few rests short q st s t (TurnOver x) h = short q.wires s t q.state (turned x (packet_at q)) h.0
 turn_few rests short q st s t (Read at count) h = turning_few rests short q st s t (Read at count) h
 turn_few rests short q st s t (Entry at reference rights) h = turning_few rests short q st s t (Entry at reference rights) h

@@ -1,7 +1,7 @@
 -- What is left comes to its end, and what is asked lies in the frames.
 use Rattle.std.proofs.Common.{◌≡◌, ℕ, ◌⊎◌, inl, inr, List, [], ◌∷◌, ◌++◌, length, drop, refl, sym, subst, true}
 use Rattle.std.specs.Prelude.{◌/◌}
-use Rattle.xen_netif.specs.declared.flags.TxFlags.{TxFlags}
+use Rattle.xen_host.specs.declared.offload.Offload.{Offload}
 use Rattle.xen_page.specs.declared.place.Place.{Place}
 use Rattle.xen_steps.specs.Drive.{LedBy, IsPageWant}
 use Rattle.xen_steps.specs.Finish.{Finishes}
@@ -226,9 +226,9 @@ pub record EndsWell {A : Type 0} (frames : ℕ) (within : Want → Type 0) (all 
   pub finishes : Finishes within left
 
 pub ends_well : {H A : Type 0} {was : H → Ask → List ℕ → H → Type 0} {full : H → Type 0} {host host_after : H} (frames : ℕ) (within : Want → Type 0) → AreInPages frames within →
-    (ends : Ask → Steps A → Type 0) (flags : TxFlags) (from : Steps A) (new : EngineAt) (h : HostLed was full ends flags from new host host_after) → IsMet frames h.last.ask h.left → Finishes within from →
+    (ends : Ask → Steps A → Type 0) (offload : Offload) (from : Steps A) (new : EngineAt) (h : HostLed was full ends offload from new host host_after) → IsMet frames h.last.ask h.left → Finishes within from →
     EndsWell frames within (h.first ++ h.last ∷ []) h.left
-ends_well {A = A} frames within in_pages ends flags from new h met f = record {
+ends_well {A = A} frames within in_pages ends offload from new h met f = record {
   inside = λ held. all_within frames within in_pages h.first h.last from h.left held h.sized h.take_none h.gone (last_met held met) f;
   finishes = finishes_gone within from h.left (events_of (h.first ++ h.last ∷ [])) f h.gone;
 }
@@ -246,15 +246,15 @@ pub record Ended (frames : ℕ) (e : EngineAt) (all : List Asked) : Type 0 where
 over_met : {A : Type 0} (frames : ℕ) (last over : Ask) (left : Steps A) → last ≡ over → IsInPages frames over → IsMet frames last left
 over_met frames last over left is p = inr (subst (λ (a : Ask). IsInPages frames a) (sym is) p)
 
-pub turn_ended : {H : Type 0} {was : H → Ask → List ℕ → H → Type 0} {full : H → Type 0} {host host_after : H} (w : Wiring) (flags : TxFlags) (from : Steps Ending) (new : EngineAt) →
-    new.wires ≡ w → (h : HostLed was full (TurnEnds new) flags from new host host_after) → Completes w from → Ended (length w.vif.owners.now) new (h.first ++ h.last ∷ [])
-turn_ended w flags from new same h c = by (turn_split new h.last.ask h.left h.is_end)
+pub turn_ended : {H : Type 0} {was : H → Ask → List ℕ → H → Type 0} {full : H → Type 0} {host host_after : H} (w : Wiring) (offload : Offload) (from : Steps Ending) (new : EngineAt) →
+    new.wires ≡ w → (h : HostLed was full (TurnEnds new) offload from new host host_after) → Completes w from → Ended (length w.vif.owners.now) new (h.first ++ h.last ∷ [])
+turn_ended w offload from new same h c = by (turn_split new h.last.ask h.left h.is_end)
   where
     frames : ℕ
     frames = length w.vif.owners.now
 
     well : IsMet frames h.last.ask h.left → EndsWell frames (may_want w) (h.first ++ h.last ∷ []) h.left
-    well met = ends_well frames (may_want w) (turn_pages frames w.program.now.shapes) (TurnEnds new) flags from new h met c
+    well met = ends_well frames (may_want w) (turn_pages frames w.program.now.shapes) (TurnEnds new) offload from new h met c
 
     by : ((k : Kind) × (h.last.ask ≡ ask.TurnOver k) × IsTurnOver new k h.left) ⊎ IsOn (rest_in new.wires new.state new.stage new.work) (reads_in new.stage) (is_turning new.stage) (IsToldAt new.wires.vif.table.now new.stage) h.last.ask h.left → Ended frames new (h.first ++ h.last ∷ [])
     by (inl x) = record { inside = (well (over_met frames h.last.ask (ask.TurnOver x.0) h.left x.1 tt)).inside; task = ready_task new.wires new.state new.stage new.work x.2.ready }
@@ -263,15 +263,15 @@ turn_ended w flags from new same h c = by (turn_split new h.last.ask h.left h.is
         let there = subst (λ (x : Wiring). Completes x h.left) (sym same) r.finishes in
         record { inside = r.inside; task = turn_task new.wires new.state new.stage new.work on.is_here (subst (λ (x : Steps Ending). Completes new.wires x) on.is_rest there) }
 
-pub delivery_ended : {H : Type 0} {was : H → Ask → List ℕ → H → Type 0} {full : H → Type 0} {host host_after : H} (w : Wiring) (flags : TxFlags) (packet : List ℕ) (from : Steps Arrival) (new : EngineAt) →
-    new.wires ≡ w → (h : HostLed was full (DeliveryEnds packet new) flags from new host host_after) → Finishes (IsPageWant (length w.vif.owners.now)) from → Ended (length w.vif.owners.now) new (h.first ++ h.last ∷ [])
-delivery_ended w flags packet from new same h c = by (delivery_split packet new h.last.ask h.left h.is_end)
+pub delivery_ended : {H : Type 0} {was : H → Ask → List ℕ → H → Type 0} {full : H → Type 0} {host host_after : H} (w : Wiring) (offload : Offload) (packet : List ℕ) (from : Steps Arrival) (new : EngineAt) →
+    new.wires ≡ w → (h : HostLed was full (DeliveryEnds packet new) offload from new host host_after) → Finishes (IsPageWant (length w.vif.owners.now)) from → Ended (length w.vif.owners.now) new (h.first ++ h.last ∷ [])
+delivery_ended w offload packet from new same h c = by (delivery_split packet new h.last.ask h.left h.is_end)
   where
     frames : ℕ
     frames = length w.vif.owners.now
 
     well : IsMet frames h.last.ask h.left → EndsWell frames (IsPageWant frames) (h.first ++ h.last ∷ []) h.left
-    well met = ends_well frames (IsPageWant frames) (page_pages frames) (DeliveryEnds packet new) flags from new h met c
+    well met = ends_well frames (IsPageWant frames) (page_pages frames) (DeliveryEnds packet new) offload from new h met c
 
     by : ((what : Delivery) × (h.last.ask ≡ ask.DeliveryOver what) × (new.stage ≡ stage.Ready)) ⊎ IsOn (rest_of_delivery new.wires.vif new.state new.stage new.work) (reads_in new.stage) (is_delivering new.stage) (IsToldAt new.wires.vif.table.now new.stage) h.last.ask h.left → Ended frames new (h.first ++ h.last ∷ [])
     by (inl x) = record { inside = (well (over_met frames h.last.ask (ask.DeliveryOver x.0) h.left x.1 tt)).inside; task = ready_task new.wires new.state new.stage new.work x.2 }
@@ -280,15 +280,15 @@ delivery_ended w flags packet from new same h c = by (delivery_split packet new 
         let there = subst (λ (x : Wiring). Finishes (IsPageWant (length x.vif.owners.now)) h.left) (sym same) r.finishes in
         record { inside = r.inside; task = delivery_task new.wires new.state new.stage new.work on.is_here (subst (λ (x : Steps Arrival). Finishes (IsPageWant (length new.wires.vif.owners.now)) x) on.is_rest there) }
 
-pub wait_ended : {H : Type 0} {was : H → Ask → List ℕ → H → Type 0} {full : H → Type 0} {host host_after : H} (w : Wiring) (flags : TxFlags) (packet : List ℕ) (from : Steps Wait) (new : EngineAt) →
-    new.wires ≡ w → (h : HostLed was full (WaitEnds packet new) flags from new host host_after) → Finishes (IsPageWant (length w.vif.owners.now)) from → Ended (length w.vif.owners.now) new (h.first ++ h.last ∷ [])
-wait_ended w flags packet from new same h c = by (wait_split packet new h.last.ask h.left h.is_end)
+pub wait_ended : {H : Type 0} {was : H → Ask → List ℕ → H → Type 0} {full : H → Type 0} {host host_after : H} (w : Wiring) (offload : Offload) (packet : List ℕ) (from : Steps Wait) (new : EngineAt) →
+    new.wires ≡ w → (h : HostLed was full (WaitEnds packet new) offload from new host host_after) → Finishes (IsPageWant (length w.vif.owners.now)) from → Ended (length w.vif.owners.now) new (h.first ++ h.last ∷ [])
+wait_ended w offload packet from new same h c = by (wait_split packet new h.last.ask h.left h.is_end)
   where
     frames : ℕ
     frames = length w.vif.owners.now
 
     well : IsMet frames h.last.ask h.left → EndsWell frames (IsPageWant frames) (h.first ++ h.last ∷ []) h.left
-    well met = ends_well frames (IsPageWant frames) (page_pages frames) (WaitEnds packet new) flags from new h met c
+    well met = ends_well frames (IsPageWant frames) (page_pages frames) (WaitEnds packet new) offload from new h met c
 
     by : ((what : Awaited) × (h.last.ask ≡ ask.WaitOver what) × (new.stage ≡ stage.Ready)) ⊎ IsOn (rest_of_wait new.wires.vif.rx new.state new.stage) (reads_in new.stage) (is_waiting new.stage) (IsToldAt new.wires.vif.table.now new.stage) h.last.ask h.left → Ended frames new (h.first ++ h.last ∷ [])
     by (inl x) = record { inside = (well (over_met frames h.last.ask (ask.WaitOver x.0) h.left x.1 tt)).inside; task = ready_task new.wires new.state new.stage new.work x.2 }

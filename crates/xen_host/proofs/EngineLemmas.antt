@@ -30,7 +30,7 @@ use Rattle.xen_host.specs.Hosts.{events_of}
 use Rattle.xen_host.specs.Stands.{Stands}
 use Rattle.xen_host.specs.StepsAt.{BeginsAt, StepsAt}
 use Rattle.xen_host.specs.UnderWay.{IsBegunAt, IsWaitBegunAt, between, first_read, resting_at}
-use Rattle.xen_host.specs.Rest.{is_delivering, is_waiting, no_flags, rest_in}
+use Rattle.xen_host.specs.Rest.{is_delivering, is_waiting, no_offload, rest_in}
 use Rattle.xen_host.specs.EngineAt.{EngineAt, WorkAt}
 use Rattle.bpf_note.specs.declared.op.Op.{Op as Operation}
 use Rattle.xen_host.specs.declared.stage.Purpose.TheVariants as purpose
@@ -90,14 +90,14 @@ module _ {H : Type 0} (was : H → Ask → List ℕ → H → Type 0) (full : H 
   delivery_end t =
       let e = old in
       let a = t.led in
-      delivery_ended e.wires e.flags e.work.packet _ engine same a.led (fed_delivery e.wires e.state e.stage e.work a.words (given_words gave _ host a.mid a.words a.given) (given_length gave _ host a.mid a.words a.given)
+      delivery_ended e.wires e.offload e.work.packet _ engine same a.led (fed_delivery e.wires e.state e.stage e.work a.words (given_words gave _ host a.mid a.words a.given) (given_length gave _ host a.mid a.words a.given)
       t.delivering (task_delivery e.wires e.state e.stage e.work t.delivering st.left))
 
   wait_end : (t : AtWait was full gave old.stage old engine went host host_after) → Ended (length old.wires.vif.owners.now) engine (t.led.led.first ++ t.led.led.last ∷ [])
   wait_end t =
       let e = old in
       let a = t.led in
-      wait_ended e.wires e.flags e.work.packet _ engine same a.led (fed_wait e.wires e.state e.stage a.words (given_words gave _ host a.mid a.words a.given) (given_length gave _ host a.mid a.words a.given)
+      wait_ended e.wires e.offload e.work.packet _ engine same a.led (fed_wait e.wires e.state e.stage a.words (given_words gave _ host a.mid a.words a.given) (given_length gave _ host a.mid a.words a.given)
       t.waiting (task_wait e.wires e.state e.stage e.work t.waiting st.left))
 
   pub step_stands : Stands engine
@@ -141,7 +141,7 @@ stepped_at {was = was} {full = full} {gave = gave} {host = host} {host_after = h
           told = turn_told old.wires new l.last.ask l.left same l.is_end;
           within = (turn_end was full gave host host_after old st new went same led t).inside;
           wires = same;
-          flags = l.flags_are;
+          offload = l.offload_is;
           labels = a.led.ran.labels;
           history = a.led.ran.history;
           turn = turn_steps old new _ a.words went (given_words gave _ host a.mid a.words a.given) (given_length gave _ host a.mid a.words a.given) same a.led;
@@ -164,12 +164,12 @@ stepped_at {was = was} {full = full} {gave = gave} {host = host} {host_after = h
           told = delivery_told old.wires old.work.packet new l.last.ask l.left same l.is_end;
           within = (delivery_end was full gave host host_after old st new went same led t).inside;
           wires = same;
-          flags = l.flags_are ∙ sym (t.flags a.words);
+          offload = l.offload_is ∙ sym (t.offload a.words);
           labels = [];
           history = t.counters;
           turn = λ s trace asked token. absurd (cc (token.is_here, t.not_turning));
           delivery = λ s packet trace asked token.
-              (delivery_steps old new old.flags a.words (given_words gave _ host a.mid a.words a.given) (given_length gave _ host a.mid a.words a.given) same l s packet trace asked token, none t.counters);
+              (delivery_steps old new old.offload a.words (given_words gave _ host a.mid a.words a.given) (given_length gave _ host a.mid a.words a.given) same l s packet trace asked token, none t.counters);
           wait = λ s pages packet trace asked token. absurd (cc (token.0.is_here, t.not_waiting));
         }
     by (wait t) =
@@ -188,13 +188,13 @@ stepped_at {was = was} {full = full} {gave = gave} {host = host} {host_after = h
           told = wait_told old.wires old.work.packet new l.last.ask l.left same l.is_end;
           within = (wait_end was full gave host host_after old st new went same led t).inside;
           wires = same;
-          flags = l.flags_are ∙ sym (t.flags a.words);
+          offload = l.offload_is ∙ sym (t.offload a.words);
           labels = [];
           history = t.counters;
           turn = λ s trace asked token. absurd (cc (token.is_here, t.not_turning));
           delivery = λ s packet trace asked token. absurd (cc (token.0.is_here, t.not_delivering));
           wait = λ s pages packet trace asked token.
-              (wait_steps old new old.flags a.words (given_words gave _ host a.mid a.words a.given) (given_length gave _ host a.mid a.words a.given) same l s pages packet trace asked token, none t.counters);
+              (wait_steps old new old.offload a.words (given_words gave _ host a.mid a.words a.given) (given_length gave _ host a.mid a.words a.given) same l s pages packet trace asked token, none t.counters);
         }
 
 -- ---- what begins
@@ -208,7 +208,7 @@ first_led w s producer small o e =
     by (Some cause) = refl
 
 module _ {H : Type 0} {was : H → Ask → List ℕ → H → Type 0} {full : H → Type 0} {host host_after : H} (old : EngineAt) (st : Stands old) (engine : EngineAt) (producer : ℕ) (small : producer < 2 ^ 32) (same : engine.wires ≡ old.wires)
-    (l : TurnLeads was full no_flags (next (whole_turn old.wires old.state) producer) engine host host_after) where
+    (l : TurnLeads was full no_offload (next (whole_turn old.wires old.state) producer) engine host host_after) where
   -- what is left of a turn that begins ends
   begins : Ended (length old.wires.vif.owners.now) engine (l.first ++ l.last ∷ [])
   begins =
@@ -216,7 +216,7 @@ module _ {H : Type 0} {was : H → Ask → List ℕ → H → Type 0} {full : H 
       let s = old.state in
       let whole = whole_turn w s in
       let c = finishes_gone (may_want w) whole (next whole producer) (first_read s.halt (Read (tx_word w.vif 0) producer)) (st.turns s) (first_led w s producer small s.halt refl) in
-      turn_ended old.wires no_flags (next whole producer) engine same l c
+      turn_ended old.wires no_offload (next whole producer) engine same l c
 
   pub begun_stands : Stands engine
   begun_stands =
@@ -224,7 +224,7 @@ module _ {H : Type 0} {was : H → Ask → List ℕ → H → Type 0} {full : H 
       record { fits = l.fits; wired = x.0; turns = x.1; left = begins.task }
 
 pub begun_at : {H : Type 0} {was : H → Ask → List ℕ → H → Type 0} {full : H → Type 0} {host host_after : H} (old new : EngineAt) → Stands old → (producer : ℕ) → producer < 2 ^ 32 → new.wires ≡ old.wires →
-    TurnLeads was full no_flags (next (whole_turn old.wires old.state) producer) new host host_after → BeginsAt was full old new producer host host_after
+    TurnLeads was full no_offload (next (whole_turn old.wires old.state) producer) new host host_after → BeginsAt was full old new producer host host_after
 begun_at old new st producer small same l =
     let w = old.wires in
     let s = old.state in
@@ -242,7 +242,7 @@ begun_at old new st producer small same l =
       told = turn_told old.wires new l.last.ask l.left same l.is_end;
       within = (begins old st new producer small same l).inside;
       wires = same;
-      flags = l.flags_are;
+      offload = l.offload_is;
       turn = turn_goes new s (reads ++ did) l.last.ask l.left (subst (λ (x : Wiring). LedBy (whole_turn x s) (reads ++ did) l.left) (sym same) g) l.is_end;
     }
 
@@ -326,7 +326,7 @@ delivery_begins e producer b packet h small is frame =
         is,
       );
       wires = refl;
-      flags = refl;
+      offload = refl;
     }
 
 pub wait_begins : (e : EngineAt) (pages : ℕ) → IsSome (resting_at e) → IsWaitBegunAt e (record e { stage = stage.Wait pages }) pages
@@ -336,7 +336,7 @@ wait_begins e pages h =
       rested = rests e ready;
       waiting = (record { gone = refl; waits = refl; is_here = refl }, sym (packet_there e ready));
       wires = refl;
-      flags = refl;
+      offload = refl;
     }
 
 -- nothing is under way

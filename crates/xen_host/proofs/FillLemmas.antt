@@ -89,7 +89,7 @@ IsFillOn q ts f a left =
     (left ≡ rest_filling q.wires.vif q.state.rx_index f (with_targets q.work ts)) × IsToldFilling q.wires.vif.table.now f a × WaitsFor a (reads_filling f) left
 
 pub lift_fill : {H : Type 0} (was : H → Ask → List ℕ → H → Type 0) (full : H → Type 0) (p : Purpose) (q : EngineAt) (ts : List Target) (f : Fill) (x : Steps Outcome) (host host_after : H) →
-    HostLed was full (IsFillOn q ts f) q.flags x (filling_at q ts f p) host host_after → FillLeads was full p (beside q) x (filling_at q ts f p) host host_after
+    HostLed was full (IsFillOn q ts f) q.offload x (filling_at q ts f p) host host_after → FillLeads was full p (beside q) x (filling_at q ts f p) host host_after
 lift_fill was full (purpose.Back n) q ts f x host host_after h =
     let then = after_transmit q.wires q.state q.work.chain q.work.packet n in
     record {
@@ -103,7 +103,7 @@ lift_fill was full (purpose.Back n) q ts f x host host_after h =
       gone = gone_bind x h.left (events_of (h.first ++ h.last ∷ [])) then h.gone;
       is_end = turn_of_on (filling_at q ts f (purpose.Back n)) h.last.ask (bind h.left then)
           (record { is_rest = ap (λ (s : Steps Outcome). bind s then) h.is_end.0; waits = waits_bind h.last.ask (reads_filling f) h.left then h.is_end.2; is_here = refl; told = h.is_end.1 });
-      flags_are = refl;
+      offload_is = refl;
       fits = h.fits;
     }
 lift_fill was full purpose.Delivery q ts f x host host_after h =
@@ -119,7 +119,7 @@ lift_fill was full purpose.Delivery q ts f x host host_after h =
       gone = gone_bind x h.left (events_of (h.first ++ h.last ∷ [])) then h.gone;
       is_end = delivery_of_on q.work.packet (filling_at q ts f purpose.Delivery) h.last.ask (bind h.left then)
           (record { is_rest = ap (λ (s : Steps Outcome). bind s then) h.is_end.0; waits = waits_bind h.last.ask (reads_filling f) h.left then h.is_end.2; is_here = refl; told = h.is_end.1 }) refl;
-      flags_are = refl;
+      offload_is = refl;
       fits = h.fits;
     }
 
@@ -133,17 +133,17 @@ pub fill_before : {H : Type 0} (was : H → Ask → List ℕ → H → Type 0) (
     was host a words mid → takes_none a ≡ true → IsSized a → LedBy from (did_by a words) between → FillLeads was full p e between new mid host_after → FillLeads was full p e from new host host_after
 fill_before was full (purpose.Back n) e from between new host mid host_after a words asked none sized g h =
     let then = after_transmit e.wires e.state e.chain e.packet n in
-    asks_before was full _ e.flags (bind from then) (bind between then) new host mid host_after a words asked none sized (gone_bind from between (did_by a words) then g) h
+    asks_before was full _ e.offload (bind from then) (bind between then) new host mid host_after a words asked none sized (gone_bind from between (did_by a words) then g) h
 fill_before was full purpose.Delivery e from between new host mid host_after a words asked none sized g h =
     let then = arrived e.state in
-    asks_before was full _ e.flags (bind from then) (bind between then) new host mid host_after a words asked none sized (gone_bind from between (did_by a words) then g) h
+    asks_before was full _ e.offload (bind from then) (bind between then) new host mid host_after a words asked none sized (gone_bind from between (did_by a words) then g) h
 
 -- Several that take no answer and no words.
 pub fill_all : {H : Type 0} (was : H → Ask → List ℕ → H → Type 0) (full : H → Type 0) (p : Purpose) (e : Beside) (from between : Steps Outcome) (new : EngineAt) (all : List Ask) (host mid host_after : H) →
     WasAskedAll was host (plain_all all) mid → AreChained all → LedBy from (did_all all []) between → FillLeads was full p e between new mid host_after → FillLeads was full p e from new host host_after
 fill_all was full (purpose.Back n) e from between new all host mid host_after asked chained g h =
     let then = after_transmit e.wires e.state e.chain e.packet n in
-    asks_all was full _ e.flags (bind from then) (bind between then) new all host mid host_after asked chained (gone_bind from between (did_all all []) then g) h
+    asks_all was full _ e.offload (bind from then) (bind between then) new all host mid host_after asked chained (gone_bind from between (did_all all []) then g) h
 fill_all was full purpose.Delivery e from between new all host mid host_after asked chained g h =
     let then = arrived e.state in
-    asks_all was full _ e.flags (bind from then) (bind between then) new all host mid host_after asked chained (gone_bind from between (did_all all []) then g) h
+    asks_all was full _ e.offload (bind from then) (bind between then) new all host mid host_after asked chained (gone_bind from between (did_all all []) then g) h

@@ -42,11 +42,11 @@ module _ {B C : Type 0} (log : B → Option (List Access)) (gives : B → Access
   -- ---- how many steps
 
   pub turn_short : TurnsAreRests → TurnsAreShort → (s : State) (w : Wiring) (bus : B) (before : C) (n : ℕ) (q : EngineAt) (after : C) (host : OverBus B) →
-      IsGone log gives size did turn s w bus before n q after host → n ≤ 33028
+      IsGone log gives size did turn s w bus before n q after host → n ≤ 33032
   turn_short rests short s w bus before n q after host c =
       let x = did_by c.last.ask c.last.words in
       let k = c.some in
-      let f = front_few c.earlier x 33028 (turn_few rests short q c.stands s (c.earlier ++ x) c.last.ask c.goes) in
+      let f = front_few c.earlier x 33032 (turn_few rests short q c.stands s (c.earlier ++ x) c.last.ask c.goes) in
       omega (arith, k, f)
 
   pub delivery_short : DeliveriesAreRests → DeliveriesAreShort → (s : State) (packet : List ℕ) (w : Wiring) (bus : B) (before : C) (n : ℕ) (q : EngineAt) (after : C) (host : OverBus B) →

@@ -1,7 +1,8 @@
 -- C's host: what it was asked stands in its ops.
 use Rattle.std.proofs.Common.{◌≡◌, ℕ, zero, suc, ◌+◌, ◌<◌, ◌≤◌, ◌⊎◌, inl, inr, true, false, Option, None, Some, List, [], ◌∷◌, ◌++◌, length, take, drop, map, refl, sym, ap, ◌∙◌, subst, append_assoc, append-nil, length-append, length-drop, arith}
 use Rattle.std.proofs.lemmas.List.{length-take}
-use Rattle.xen_netif.specs.declared.flags.TxFlags.{TxFlags}
+use Rattle.xen_host.specs.declared.offload.Offload.{Offload}
+use Rattle.xen_netif.specs.declared.segments.Offers.{Offers}
 use Rattle.xen_steps.specs.Event.{Event, Read}
 use Rattle.xen_steps.specs.Places.{page_word}
 use Rattle.xen_steps.specs.Steps.{Steps}
@@ -13,9 +14,9 @@ use Rattle.xen_host.specs.Buses.{AllHeld, IsHeld}
 use Rattle.xen_host.specs.Fed.{WaitsFor}
 use Rattle.xen_host.specs.Hosts.{Asked, HasGiven, IsFull, IsLent, IsPut, IsSameLoan, WasAskedAll, WasGiven, asks_of, events_of}
 use Rattle.xen_host.specs.Over.{BeginsOver, SteppedOver}
-use Rattle.xen_host.specs.Queues.{DeliveryGoesOn, HasBegun, Stepped, TurnGoesOn, WaitGoesOn, wiring, seen}
+use Rattle.xen_host.specs.Queues.{DeliveryGoesOn, HasBegun, Stepped, TurnGoesOn, WaitGoesOn, seen, wired_to, wiring}
 use Rattle.xen_host.specs.UnderWay.{WaitsForSome, first_read, read_by_some}
-use Rattle.xen_host.specs.Rest.{flags_after, flags_behind, reads_in}
+use Rattle.xen_host.specs.Rest.{offload_after, offload_behind, reads_in}
 use Rattle.xen_host.specs.Said.{Said}
 use Rattle.xen_host.specs.declared.host.Ops.{Ops}
 use Rattle.bpf_note.specs.declared.op.Op.{Op as Operation}
@@ -254,7 +255,7 @@ begun_of old new producer host host_after none few d lent long =
       within = pages_of d.first d.last (length (seen old).wires.vif.owners.now) (d.within (held_all all host host_after d.asked));
       wires = d.wires;
       share = d.share;
-      flags = d.flags;
+      offload = d.offload;
       turn = subst (λ (t : List Event). TurnGoesOn new d.last.ask s (reads ++ t)) did d.turn;
     }
 
@@ -289,19 +290,19 @@ some_same : {A : Type 0} (a : Option Ask) (n : ℕ) (s : Steps A) (lent : List �
 some_same None n s lent w = refl
 some_same (Some a) n s lent w = read_same a n s lent w
 
-flags_same : (g : Stage) (b : WorkAt) (lent : List ℕ) (f : TxFlags) → flags_after g b (take (reads_in g) lent) f ≡ flags_after g b lent f
-flags_same stage.Ready b lent f = refl
-flags_same stage.Announce b lent f = refl
-flags_same (stage.Slot left) b lent f = ap (λ l. flags_behind b.chain l f) (take_twice 3 lent)
-flags_same (stage.Entry i at) b lent f = refl
-flags_same (stage.Page i here frame) b lent f = refl
-flags_same (stage.Fill here p) b lent f = refl
-flags_same (stage.Respond a i) b lent f = refl
-flags_same (stage.Push at kind) b lent f = refl
-flags_same (stage.Notice at kind) b lent f = refl
-flags_same (stage.Deliver producer) b lent f = refl
-flags_same (stage.Wait pages) b lent f = refl
-flags_same (stage.WaitLook pages) b lent f = refl
+offload_same : (o : Offers) (g : Stage) (b : WorkAt) (lent : List ℕ) (f : Offload) → offload_after o g b (take (reads_in g) lent) f ≡ offload_after o g b lent f
+offload_same o stage.Ready b lent f = refl
+offload_same o stage.Announce b lent f = refl
+offload_same o (stage.Slot left) b lent f = ap (λ l. offload_behind o b.chain l f) (take_twice 3 lent)
+offload_same o (stage.Entry i at) b lent f = refl
+offload_same o (stage.Page i here frame) b lent f = refl
+offload_same o (stage.Fill here p) b lent f = refl
+offload_same o (stage.Respond a i) b lent f = refl
+offload_same o (stage.Push at kind) b lent f = refl
+offload_same o (stage.Notice at kind) b lent f = refl
+offload_same o (stage.Deliver producer) b lent f = refl
+offload_same o (stage.Wait pages) b lent f = refl
+offload_same o (stage.WaitLook pages) b lent f = refl
 
 module _ (went : List (Option Operation) → Type 0) (same : Type 0) (old new : Queue) (host host_after : Ops) (d : SteppedOver IsPut IsFull HasGiven went same old new host host_after) where
   answered : (d.words ≡ take (reads_in old.engine.stage) host.words.now) × (d.mid ≡ host)
@@ -331,7 +332,7 @@ module _ (went : List (Option Operation) → Type 0) (same : Type 0) (old new : 
         told = d.told;
         within = pages_of d.first d.last (length (seen old).wires.vif.owners.now) (d.within (held_all all host host_after put));
         wires = d.wires;
-        flags = d.flags ∙ ap (λ l. flags_after g (seen old).work l old.engine.flags) answered.0 ∙ flags_same g (seen old).work lent old.engine.flags;
+        offload = d.offload ∙ ap (λ l. offload_after (wired_to old).offers g (seen old).work l old.engine.offload) answered.0 ∙ offload_same (wired_to old).offers g (seen old).work lent old.engine.offload;
         labels = d.labels;
         history = d.history;
         turn = λ s trace asked token.

@@ -1,5 +1,5 @@
 -- A host's loop ends: each step makes an access or gives a notice, or is the last.
-use Rattle.std.proofs.Common.{◌≡◌, ℕ, zero, suc, ◌+◌, ◌≤◌, true, List, [], ◌∷◌, ◌++◌, length, map, refl, sym, ap, ◌∙◌, subst, arith}
+use Rattle.std.proofs.Common.{◌≡◌, ℕ, zero, suc, ◌+◌, ◌*◌, ◌≤◌, true, List, [], ◌∷◌, ◌++◌, length, map, refl, sym, ap, ◌∙◌, subst, arith}
 use Rattle.std.specs.Prelude.{Option, None, Some, IsSome, replicate}
 use Rattle.std.proofs.lemmas.List.{length-replicate}
 use Rattle.std.proofs.lemmas.Bool.Decides.{nat_tests}
@@ -32,7 +32,7 @@ use Rattle.xen_turns.specs.declared.state.State.{State}
 use Rattle.xen_turns.specs.declared.turn.Halt.{Halt}
 use Rattle.xen_turns.specs.declared.wiring.Wiring.{Wiring}
 use Rattle.xen_turns.proofs.ArriveLemmas.{arrives, delivery_rows}
-use Rattle.xen_turns.proofs.Figures.{turn_accesses, turn_most}
+use Rattle.xen_turns.proofs.Figures.{FewSlots, turn_accesses, turn_most}
 use Rattle.xen_turns.proofs.TurnParts.{turn_parts}
 use Rattle.xen_turns.proofs.TurnRuns.{runs_turn}
 use Rattle.xen_turns.proofs.WaitLemmas.{wait_ends, wait_rows}
@@ -42,6 +42,7 @@ use Rattle.xen_host.specs.Fed.{WaitsFor}
 use Rattle.xen_host.specs.Loops.{AreSteps, IsStep}
 use Rattle.xen_host.specs.Queues.{BegunBy, DeliveryGoesOn, HasBegun, IsBegun, IsDelivering, IsTurning, IsWaitBegun, IsWaiting, TurnGoesOn, WaitGoesOn, seen}
 use Rattle.xen_host.specs.Queues.{packet_of, resting, wiring}
+use Rattle.xen_host.specs.Wired.{wiring_of}
 use Rattle.xen_host.specs.UnderWay.{first_read, read_by_some}
 use Rattle.xen_host.specs.Rest.{is_waiting, reads_in, rest_in, rest_of_delivery, rest_of_wait}
 use Rattle.xen_host.specs.Told.{IsPush, IsToldAt}
@@ -61,37 +62,38 @@ blank_length = length-replicate {A = ℕ} 1024 0
 
 -- ---- a turn
 
-abbrev pub turn_weighs : Option Halt → ℕ
-turn_weighs None = 33028
-turn_weighs (Some cause) = 0
+-- a turn whose chain has at most k slots more than eighteen
+abbrev pub turn_weighs : ℕ → Option Halt → ℕ
+turn_weighs k None = 33028 + 4 * k
+turn_weighs k (Some cause) = 0
 
 ended_light : {A : Type 0} (x r : A) (p : List Event) → Runs (done x) p r → weight p ≤ 0
 ended_light x r [] h = omega arith
 ended_light x r (e ∷ p) h = absurd h
 
-turn_light : (w : Wiring) (s : State) (p : List Event) (new : State) (u : Turned) → IsTurn w s p new u → weight p ≤ turn_weighs s.halt
-turn_light w s p new u t = by s.halt (runs_turn w s p new u t)
+turn_light : (k : ℕ) (w : Wiring) → FewSlots w.offers k → (s : State) (p : List Event) (new : State) (u : Turned) → IsTurn w s p new u → weight p ≤ turn_weighs k s.halt
+turn_light k w most s p new u t = by s.halt (runs_turn w s p new u t)
   where
-    by : (o : Option Halt) → Runs (turn_by w s o) p (new, u) → weight p ≤ turn_weighs o
-    by None r = omega (arith, turn_accesses w s p new u t, (turn_most w s p new u t).told)
+    by : (o : Option Halt) → Runs (turn_by w s o) p (new, u) → weight p ≤ turn_weighs k o
+    by None r = omega (arith, turn_accesses w k most s p new u t, (turn_most w s p new u t).told)
     by (Some cause) r = ended_light _ _ p r
 
 begins : (t p : List Event) (m : ℕ) → weight (t ++ p) ≤ m → weight t ≤ m
 begins t p m l = omega (arith, weight_append t p, l)
 
-abbrev pub OnTurn : State → Queue → List Event → Option Ask → Type 0
-OnTurn s q t None = ⊥
-OnTurn s q t (Some a) = IsTurning q s t a
+abbrev pub OnTurn : ℕ → State → Queue → List Event → Option Ask → Type 0
+OnTurn k s q t None = ⊥
+OnTurn k s q t (Some a) = FewSlots (wiring q).offers k × IsTurning q s t a
 
-on_turn_light : (s : State) (q : Queue) (t : List Event) (o : Option Ask) → OnTurn s q t o → weight t ≤ turn_weighs s.halt
-on_turn_light s q t None h = absurd h
-on_turn_light s q t (Some a) h =
+on_turn_light : (k : ℕ) (s : State) (q : Queue) (t : List Event) (o : Option Ask) → OnTurn k s q t o → weight t ≤ turn_weighs k s.halt
+on_turn_light k s q t None h = absurd h
+on_turn_light k s q t (Some a) h =
     let w = wiring q in
     let e = seen q in
     let whole = whole_turn w s in
     let rest = rest_in w e.state e.stage e.work in
-    let r = some_run (may_want w) rest (finishes_gone (may_want w) whole rest t (q.turns s) h.gone) in
-    begins t r.0 _ (turn_light w s (t ++ r.0) r.1.0 r.1.1 (turn_parts w s (t ++ r.0) r.1.0 r.1.1 (runs_gone whole rest t r.0 (r.1.0, r.1.1) h.gone r.2)))
+    let r = some_run (may_want w) rest (finishes_gone (may_want w) whole rest t (q.turns s) h.1.gone) in
+    begins t r.0 _ (turn_light k w h.0 s (t ++ r.0) r.1.0 r.1.1 (turn_parts w s (t ++ r.0) r.1.0 r.1.1 (runs_gone whole rest t r.0 (r.1.0, r.1.1) h.1.gone r.2)))
 
 -- the events of a step, behind those before it
 abbrev traced : (q next : Queue) → IsStep q next → List Event → List Event → List Event → List Event
@@ -127,28 +129,29 @@ is_some : {A : Type 0} (o : Option A) (x : A) → o ≡ Some x → IsSome o
 is_some {A = A} o x e = subst (λ (y : Option A). IsSome y) (sym e) refl
 
 -- where a turn has come to, by what was asked last
-on_turn : (s : State) (q : Queue) (a : Ask) (t : List Event) → TurnGoesOn q a s t → (most v : ℕ) → (weight t ≤ turn_weighs s.halt → v ≤ most) →
-    IsSized a → (IsAsked a → v + 1 ≤ weight t + owed a) → After (OnTurn s) most v q
-on_turn s q (ask.TurnOver kind) t h most v l z more = over (is_some (resting q) q.engine.state h.1) (l (turn_light (wiring q) s t _ _ h.0))
-on_turn s q (ask.DeliveryOver what) t h most v l z more = absurd h.waits
-on_turn s q (ask.WaitOver what) t h most v l z more = absurd h.waits
-on_turn s q (ask.Read at count) t h most v l z more = goes t (ask.Read at count) h z (more tt)
-on_turn s q (ask.Entry at reference rights) t h most v l z more = goes t (ask.Entry at reference rights) h z (more tt)
-on_turn s q (ask.Write at count) t h most v l z more = goes t (ask.Write at count) h z (more tt)
-on_turn s q (ask.Store at word) t h most v l z more = goes t (ask.Store at word) h z (more tt)
-on_turn s q (ask.StoreTwo at one two) t h most v l z more = goes t (ask.StoreTwo at one two) h z (more tt)
-on_turn s q (ask.Push at word read) t h most v l z more = goes t (ask.Push at word read) h z (more tt)
-on_turn s q (ask.Notify port) t h most v l z more = goes t (ask.Notify port) h z (more tt)
+on_turn : (k : ℕ) (s : State) (q : Queue) → FewSlots (wiring q).offers k → (a : Ask) (t : List Event) → TurnGoesOn q a s t → (most v : ℕ) → (weight t ≤ turn_weighs k s.halt → v ≤ most) →
+    IsSized a → (IsAsked a → v + 1 ≤ weight t + owed a) → After (OnTurn k s) most v q
+on_turn k s q f (ask.TurnOver kind) t h most v l z more = over (is_some (resting q) q.engine.state h.1) (l (turn_light k (wiring q) f s t _ _ h.0))
+on_turn k s q f (ask.DeliveryOver what) t h most v l z more = absurd h.waits
+on_turn k s q f (ask.WaitOver what) t h most v l z more = absurd h.waits
+on_turn k s q f (ask.Read at count) t h most v l z more = goes t (ask.Read at count) (f, h) z (more tt)
+on_turn k s q f (ask.Entry at reference rights) t h most v l z more = goes t (ask.Entry at reference rights) (f, h) z (more tt)
+on_turn k s q f (ask.Write at count) t h most v l z more = goes t (ask.Write at count) (f, h) z (more tt)
+on_turn k s q f (ask.Store at word) t h most v l z more = goes t (ask.Store at word) (f, h) z (more tt)
+on_turn k s q f (ask.StoreTwo at one two) t h most v l z more = goes t (ask.StoreTwo at one two) (f, h) z (more tt)
+on_turn k s q f (ask.Push at word read) t h most v l z more = goes t (ask.Push at word read) (f, h) z (more tt)
+on_turn k s q f (ask.Notify port) t h most v l z more = goes t (ask.Notify port) (f, h) z (more tt)
 
-pub turn_step : (s : State) (q next : Queue) (c : IsStep q next) (t : List Event) (o : Option Ask) → OnTurn s q t o → IsSizedSome o →
-    After (OnTurn s) (turn_weighs s.halt) (weight t + owed_some o) next
-turn_step s q next c t None p z = absurd p
-turn_step s q next c t (Some a) p z =
+pub turn_step : (k : ℕ) (s : State) (q next : Queue) (c : IsStep q next) (t : List Event) (o : Option Ask) → OnTurn k s q t o → IsSizedSome o →
+    After (OnTurn k s) (turn_weighs k s.halt) (weight t + owed_some o) next
+turn_step k s q next c t None p z = absurd p
+turn_step k s q next c t (Some a) p z =
     let reads = read_by a c.lent in
     let labels = map event_of c.stepped.labels in
     let pays = paid a c.lent (some q next c) z in
+    let few = subst (λ w. FewSlots (wiring_of w).offers k) (sym c.stepped.wires) p.0 in
     let rest = labels ++ (did_all c.stepped.first c.lent_after ++ did_by c.stepped.last c.lent_after) in
-    on_turn s next c.stepped.last (traced q next c t reads labels) (c.stepped.turn s t a p) (turn_weighs s.halt) (weight t + owed a) (ends t reads rest (owed a) (turn_weighs s.halt) pays)
+    on_turn k s next few c.stepped.last (traced q next c t reads labels) (c.stepped.turn s t a p.1) (turn_weighs k s.halt) (weight t + owed a) (ends t reads rest (owed a) (turn_weighs k s.halt) pays)
     (sized q next c) (adds q next c t reads labels (owed a) pays)
 
 -- ---- a delivery
@@ -314,25 +317,25 @@ first_waits table lent rx s after pages (stage.WaitLook left) a t i told waits g
 -- ---- a host's loop
 
 -- After what begins it, what was asked is on its way, or over.
-turn_begun : (old begun : Queue) (producer : ℕ) (lent : List ℕ) (ops ops_after : List Op) (count : ℕ) → 1024 ≤ length lent → (b : BegunBy old begun producer ops ops_after count lent) →
-    After (OnTurn old.engine.state) (turn_weighs old.engine.state.halt) (weight (first_read old.engine.state.halt (Read (tx_word (wiring old).vif 0) producer))) begun
-turn_begun old begun producer lent ops ops_after count long b =
+turn_begun : (k : ℕ) (old begun : Queue) → FewSlots (wiring old).offers k → (producer : ℕ) (lent : List ℕ) (ops ops_after : List Op) (count : ℕ) → 1024 ≤ length lent → (b : BegunBy old begun producer ops ops_after count lent) →
+    After (OnTurn k old.engine.state) (turn_weighs k old.engine.state.halt) (weight (first_read old.engine.state.halt (Read (tx_word (wiring old).vif 0) producer))) begun
+turn_begun k old begun most producer lent ops ops_after count long b =
     let s = old.engine.state in
     let reads = first_read s.halt (Read (tx_word (wiring old).vif 0) producer) in
     let first = did_all b.first lent in
     let last = did_by b.last lent in
     let z = last_sized b.first b.last b.said.sized in
-    on_turn s begun b.last (reads ++ (first ++ last)) b.turn (turn_weighs s.halt) (weight reads) (begins reads (first ++ last) (turn_weighs s.halt)) z
+    on_turn k s begun (subst (λ w. FewSlots (wiring_of w).offers k) (sym b.wires) most) b.last (reads ++ (first ++ last)) b.turn (turn_weighs k s.halt) (weight reads) (begins reads (first ++ last) (turn_weighs k s.halt)) z
     (λ i. omega (arith, weight_append reads (first ++ last), weight_append first last, asked_weighs b.last lent (omega (arith, long)) z i))
 
-pub turns_few : (old begun new : Queue) (producer : ℕ) (ops ops_after : List Op) (count n : ℕ) → HasBegun old begun producer ops ops_after count → AreSteps n begun new → n ≤ 33027
-turns_few old begun new producer ops ops_after count n h steps =
+pub turns_few : (k : ℕ) (old begun new : Queue) → FewSlots (wiring old).offers k → (producer : ℕ) (ops ops_after : List Op) (count n : ℕ) → HasBegun old begun producer ops ops_after count → AreSteps n begun new → n ≤ 33027 + 4 * k
+turns_few k old begun new most producer ops ops_after count n h steps =
     let s = old.engine.state in
     let long : 1024 ≤ length blank = omega (arith, blank_length) in
-    let b = turn_begun old begun producer blank ops ops_after count long (h blank long) in
-    by s.halt (step_few n _ begun new steps (λ t a p z. few (OnTurn s) (turn_weighs s.halt) (on_turn_light s) (turn_step s) n begun new steps t (Some a) p z) b)
+    let b = turn_begun k old begun most producer blank ops ops_after count long (h blank long) in
+    by s.halt (step_few n _ begun new steps (λ t a p z. few (OnTurn k s) (turn_weighs k s.halt) (on_turn_light k s) (turn_step k s) n begun new steps t (Some a) p z) b)
   where
-    by : (o : Option Halt) → suc n + weight (first_read o (Read (tx_word (wiring old).vif 0) producer)) ≤ turn_weighs o + 1 → n ≤ 33027
+    by : (o : Option Halt) → suc n + weight (first_read o (Read (tx_word (wiring old).vif 0) producer)) ≤ turn_weighs k o + 1 → n ≤ 33027 + 4 * k
     by None l = omega (arith, l)
     by (Some cause) l = omega (arith, l)
 

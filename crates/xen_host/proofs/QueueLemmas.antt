@@ -10,7 +10,7 @@ use Rattle.xen_turns.specs.declared.state.State.{State}
 use Rattle.xen_host.specs.HostLed.{GoesOnAt, TurnLeads}
 use Rattle.xen_host.specs.Over.{BeginsOver, SteppedOver}
 use Rattle.xen_host.specs.Queues.{AreFew, AreFewAtSeat, resting, wiring, seen, wired_to}
-use Rattle.xen_host.specs.Rest.{no_flags}
+use Rattle.xen_host.specs.Rest.{no_offload}
 use Rattle.bpf_note.specs.declared.op.Op.{Op as Operation}
 use Rattle.xen_host.specs.declared.op.Op.{Op}
 use Rattle.xen_host.specs.Wired.{wiring_of}
@@ -41,7 +41,7 @@ stepped old new went same none wires led busy =
       told = d.told;
       within = d.within;
       wires = wires;
-      flags = d.flags;
+      offload = d.offload;
       labels = d.labels;
       history = d.history;
       turn = d.turn;
@@ -65,7 +65,7 @@ stepped_also also also_same f h d = record {
   told = d.told;
   within = d.within;
   wires = d.wires;
-  flags = d.flags;
+  offload = d.offload;
   labels = d.labels;
   history = f d.labels d.history;
   turn = d.turn;
@@ -92,7 +92,7 @@ not_few q words counters ops a b c d (inr (inr (inr h))) = let none = subst (λ 
 -- ---- what begins
 
 pub begun : {H : Type 0} {was : H → Ask → List ℕ → H → Type 0} {full : H → Type 0} {host host_after : H} (old new : Queue) (producer : ℕ) → producer < 2 ^ 32 → wired_to new ≡ wired_to old → new.share ≡ old.share →
-    TurnLeads was full no_flags (next (whole_turn (wiring old) old.engine.state) producer) (seen new) host host_after → BeginsOver was full old new producer host host_after
+    TurnLeads was full no_offload (next (whole_turn (wiring old) old.engine.state) producer) (seen new) host host_after → BeginsOver was full old new producer host host_after
 begun old new producer small wires share l =
     let d = begun_at (seen old) (seen new) (stands old) producer small (ap (λ (w : OwnedWiring). wiring_of w) wires) l in
     record {
@@ -106,6 +106,6 @@ begun old new producer small wires share l =
       within = d.within;
       wires = wires;
       share = share;
-      flags = d.flags;
+      offload = d.offload;
       turn = d.turn;
     }

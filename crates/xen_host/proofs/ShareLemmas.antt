@@ -9,7 +9,7 @@ use Rattle.xen_host.specs.declared.wires.OwnedWiring.{OwnedWiring}
 
 -- new seats are of their counters, also those that are left when the last is taken
 pub new_own : (c : CountersView) (n : ℕ) → All (IsSeatOf c) (new_seats c n)
-new_own c n = All-map (IsSeatOf c) (new_seat c) (range_with_len 0 n) (λ k d h. (refl, refl))
+new_own c n = All-map (IsSeatOf c) (new_seat c) (range_with_len 0 n) (λ k d h. (refl, refl, refl))
 
 pub all_popped : (P : SeatView → Type 0) (xs ys : List SeatView) (x : SeatView) → xs ≡ ys ++ x ∷ [] → All P xs → All P ys × P x
 all_popped P xs ys x e all = All-pop P xs ys (Some x) e all

@@ -13,7 +13,7 @@ use Rattle.xen_host.specs.Fed.{AsksReads, fed}
 use Rattle.xen_host.specs.Asks.{Ask}
 use Rattle.xen_host.specs.HostLed.{AfterAnswer, DeliveryLeads, FillGoesOn, GoesOnAt, TurnRanLeads, WaitLeads}
 use Rattle.xen_host.specs.Hosts.{WasGiven}
-use Rattle.xen_host.specs.Rest.{flags_after, is_delivering, is_turning, is_waiting, reads_filling, reads_in, rest_filling, rest_in, rest_of_delivery, rest_of_wait}
+use Rattle.xen_host.specs.Rest.{offload_after, is_delivering, is_turning, is_waiting, reads_filling, reads_in, rest_filling, rest_in, rest_of_delivery, rest_of_wait}
 use Rattle.xen_host.specs.EngineAt.{EngineAt}
 use Rattle.xen_host.specs.declared.stage.Fill.{Fill}
 use Rattle.xen_host.specs.declared.stage.Purpose.{Purpose}
@@ -72,22 +72,22 @@ module _ {H : Type 0} (was : H → Ask → List ℕ → H → Type 0) (full : H 
     pub turning : is_turning g ≡ true
     pub not_delivering : is_delivering g ≡ false
     pub not_waiting : is_waiting g ≡ false
-    pub led : AfterAnswer gave (reads_in g) (λ words mid. TurnRanLeads was full (flags_after g old.work words old.flags) (fed (rest_in old.wires old.state g old.work) words) new went mid host_after) host
+    pub led : AfterAnswer gave (reads_in g) (λ words mid. TurnRanLeads was full (offload_after old.wires.offers g old.work words old.offload) (fed (rest_in old.wires old.state g old.work) words) new went mid host_after) host
 
   pub record AtDelivery : Type 0 where
     pub not_turning : is_turning g ≡ false
     pub delivering : is_delivering g ≡ true
     pub not_waiting : is_waiting g ≡ false
-    pub flags : (words : List ℕ) → flags_after g old.work words old.flags ≡ old.flags
-    pub led : AfterAnswer gave (reads_in g) (λ words mid. DeliveryLeads was full old.flags old.work.packet (fed (rest_of_delivery old.wires.vif old.state g old.work) words) new mid host_after) host
+    pub offload : (words : List ℕ) → offload_after old.wires.offers g old.work words old.offload ≡ old.offload
+    pub led : AfterAnswer gave (reads_in g) (λ words mid. DeliveryLeads was full old.offload old.work.packet (fed (rest_of_delivery old.wires.vif old.state g old.work) words) new mid host_after) host
     pub counters : went []
 
   pub record AtWait : Type 0 where
     pub not_turning : is_turning g ≡ false
     pub not_delivering : is_delivering g ≡ false
     pub waiting : is_waiting g ≡ true
-    pub flags : (words : List ℕ) → flags_after g old.work words old.flags ≡ old.flags
-    pub led : AfterAnswer gave (reads_in g) (λ words mid. WaitLeads was full old.flags old.work.packet (fed (rest_of_wait old.wires.vif.rx old.state g) words) new mid host_after) host
+    pub offload : (words : List ℕ) → offload_after old.wires.offers g old.work words old.offload ≡ old.offload
+    pub led : AfterAnswer gave (reads_in g) (λ words mid. WaitLeads was full old.offload old.work.packet (fed (rest_of_wait old.wires.vif.rx old.state g) words) new mid host_after) host
     pub counters : went []
 
   pub data Under : Type 0 where
@@ -108,10 +108,10 @@ under (stage.Slot left) old new went h = turn (record { turning = refl; not_deli
 under (stage.Entry i at) old new went h = turn (record { turning = refl; not_delivering = refl; not_waiting = refl; led = h })
 under (stage.Page i f frame) old new went h = turn (record { turning = refl; not_delivering = refl; not_waiting = refl; led = h })
 under (stage.Fill f (purpose.Back n)) old new went h = turn (record { turning = refl; not_delivering = refl; not_waiting = refl; led = h })
-under (stage.Fill f purpose.Delivery) old new went h = delivery (record { not_turning = refl; delivering = refl; not_waiting = refl; flags = λ words. refl; led = h.0; counters = h.1 })
+under (stage.Fill f purpose.Delivery) old new went h = delivery (record { not_turning = refl; delivering = refl; not_waiting = refl; offload = λ words. refl; led = h.0; counters = h.1 })
 under (stage.Respond a i) old new went h = turn (record { turning = refl; not_delivering = refl; not_waiting = refl; led = h })
 under (stage.Push at kind) old new went h = turn (record { turning = refl; not_delivering = refl; not_waiting = refl; led = h })
 under (stage.Notice at kind) old new went h = turn (record { turning = refl; not_delivering = refl; not_waiting = refl; led = h })
-under {host = host} (stage.Deliver producer) old new went h = delivery (record { not_turning = refl; delivering = refl; not_waiting = refl; flags = λ words. refl; led = unanswered _ host h.0; counters = h.1 })
-under {host = host} (stage.Wait pages) old new went h = wait (record { not_turning = refl; not_delivering = refl; waiting = refl; flags = λ words. refl; led = unanswered _ host h.0; counters = h.1 })
-under (stage.WaitLook pages) old new went h = wait (record { not_turning = refl; not_delivering = refl; waiting = refl; flags = λ words. refl; led = h.0; counters = h.1 })
+under {host = host} (stage.Deliver producer) old new went h = delivery (record { not_turning = refl; delivering = refl; not_waiting = refl; offload = λ words. refl; led = unanswered _ host h.0; counters = h.1 })
+under {host = host} (stage.Wait pages) old new went h = wait (record { not_turning = refl; not_delivering = refl; waiting = refl; offload = λ words. refl; led = unanswered _ host h.0; counters = h.1 })
+under (stage.WaitLook pages) old new went h = wait (record { not_turning = refl; not_delivering = refl; waiting = refl; offload = λ words. refl; led = h.0; counters = h.1 })

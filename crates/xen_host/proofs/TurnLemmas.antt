@@ -2,7 +2,7 @@
 use Rattle.std.proofs.Common.{◌≡◌, ℕ, List, [], ◌∷◌, ◌++◌, length, map, sym, ap, ◌∙◌, subst, Bool}
 use Rattle.std.specs.Prelude.{Option, Some, None}
 use Rattle.bpf_note.specs.declared.op.Op.{Op as Operation}
-use Rattle.xen_netif.specs.declared.flags.TxFlags.{TxFlags}
+use Rattle.xen_host.specs.declared.offload.Offload.{Offload}
 use Rattle.xen_steps.specs.Drive.{LedBy}
 use Rattle.xen_steps.specs.Event.{Event}
 use Rattle.xen_steps.specs.Pages.{AreWords}
@@ -97,11 +97,11 @@ some_led None n s words b e w = waits_led (ask.Notify 0) n s words b e w
 some_led (Some a) n s words b e w = waits_led a n s words b e w
 
 -- A step of a turn.
-pub turn_steps : {H : Type 0} {was : H → Ask → List ℕ → H → Type 0} {full : H → Type 0} {host host_after : H} (old new : EngineAt) (flags : TxFlags) (words : List ℕ) (went : List (Option Operation) → Type 0) → AreWords words → length words ≡ reads_in old.stage →
-    new.wires ≡ old.wires → (h : TurnRanLeads was full flags (fed (rest_in old.wires old.state old.stage old.work) words) new went host host_after) →
+pub turn_steps : {H : Type 0} {was : H → Ask → List ℕ → H → Type 0} {full : H → Type 0} {host host_after : H} (old new : EngineAt) (offload : Offload) (words : List ℕ) (went : List (Option Operation) → Type 0) → AreWords words → length words ≡ reads_in old.stage →
+    new.wires ≡ old.wires → (h : TurnRanLeads was full offload (fed (rest_in old.wires old.state old.stage old.work) words) new went host host_after) →
     (s : State) (trace : List Event) (asked : Ask) → IsTurningAt old s trace asked →
     TurnGoesAt new h.led.last.ask s (trace ++ (read_by asked words ++ (map event_of h.ran.labels ++ events_of (h.led.first ++ h.led.last ∷ []))))
-turn_steps old new flags words went below n same h s trace asked token =
+turn_steps old new offload words went below n same h s trace asked token =
     let e = old in
     let rest = rest_in old.wires e.state e.stage e.work in
     let did = events_of (h.led.first ++ h.led.last ∷ []) in
@@ -113,11 +113,11 @@ turn_steps old new flags words went below n same h s trace asked token =
     turn_goes new s t h.led.last.ask h.led.left (subst (λ (x : Wiring). LedBy (whole_turn x s) t h.led.left) (sym same) g) h.led.is_end
 
 -- A step of a delivery.
-pub delivery_steps : {H : Type 0} {was : H → Ask → List ℕ → H → Type 0} {full : H → Type 0} {host host_after : H} (old new : EngineAt) (flags : TxFlags) (words : List ℕ) → AreWords words → length words ≡ reads_in old.stage →
-    new.wires ≡ old.wires → (h : DeliveryLeads was full flags old.work.packet (fed (rest_of_delivery old.wires.vif old.state old.stage old.work) words) new host host_after) →
+pub delivery_steps : {H : Type 0} {was : H → Ask → List ℕ → H → Type 0} {full : H → Type 0} {host host_after : H} (old new : EngineAt) (offload : Offload) (words : List ℕ) → AreWords words → length words ≡ reads_in old.stage →
+    new.wires ≡ old.wires → (h : DeliveryLeads was full offload old.work.packet (fed (rest_of_delivery old.wires.vif old.state old.stage old.work) words) new host host_after) →
     (s : State) (packet : List ℕ) (trace : List Event) (asked : Option Ask) → IsDeliveringAt old s packet trace asked →
     DeliveryGoesAt new h.last.ask s packet (trace ++ (read_by_some asked words ++ events_of (h.first ++ h.last ∷ [])))
-delivery_steps old new flags words below n same h s packet trace asked token =
+delivery_steps old new offload words below n same h s packet trace asked token =
     let e = old in
     let rest = rest_of_delivery old.wires.vif e.state e.stage e.work in
     let did = events_of (h.first ++ h.last ∷ []) in
@@ -128,11 +128,11 @@ delivery_steps old new flags words below n same h s packet trace asked token =
     (subst (λ p. DeliveryEnds p new h.last.ask h.left) token.1 h.is_end)
 
 -- A step of a wait.
-pub wait_steps : {H : Type 0} {was : H → Ask → List ℕ → H → Type 0} {full : H → Type 0} {host host_after : H} (old new : EngineAt) (flags : TxFlags) (words : List ℕ) → AreWords words → length words ≡ reads_in old.stage →
-    new.wires ≡ old.wires → (h : WaitLeads was full flags old.work.packet (fed (rest_of_wait old.wires.vif.rx old.state old.stage) words) new host host_after) →
+pub wait_steps : {H : Type 0} {was : H → Ask → List ℕ → H → Type 0} {full : H → Type 0} {host host_after : H} (old new : EngineAt) (offload : Offload) (words : List ℕ) → AreWords words → length words ≡ reads_in old.stage →
+    new.wires ≡ old.wires → (h : WaitLeads was full offload old.work.packet (fed (rest_of_wait old.wires.vif.rx old.state old.stage) words) new host host_after) →
     (s : State) (pages : ℕ) (packet : List ℕ) (trace : List Event) (asked : Option Ask) → IsWaitingAt old s pages packet trace asked →
     WaitGoesAt new h.last.ask s pages packet (trace ++ (read_by_some asked words ++ events_of (h.first ++ h.last ∷ [])))
-wait_steps old new flags words below n same h s pages packet trace asked token =
+wait_steps old new offload words below n same h s pages packet trace asked token =
     let e = old in
     let rest = rest_of_wait e.wires.vif.rx e.state e.stage in
     let did = events_of (h.first ++ h.last ∷ []) in

@@ -2,7 +2,7 @@
 -- An engine with what is lent to its functions: its wiring, and the room of its packet.
 use Rattle.std.specs.Prelude.{ℕ, List}
 use Rattle.xen_netif.specs.Chain.{Slot}
-use Rattle.xen_netif.specs.declared.flags.TxFlags.{TxFlags}
+use Rattle.xen_host.specs.declared.offload.Offload.{Offload}
 use Rattle.xen_netif.specs.declared.fragment.Fragment.{Fragment}
 use Rattle.xen_rx_fill.specs.declared.target.Target.{Target}
 use Rattle.xen_turns.specs.declared.state.State.{State}
@@ -25,8 +25,8 @@ pub record EngineAt : Type 0 where
   pub wires : Wiring
   pub state : State
   pub stage : Stage
-  pub flags : TxFlags
+  pub offload : Offload
   pub work : WorkAt
 
 abbrev pub engine_at : Wiring → List ℕ → Engine → EngineAt
-engine_at w packet e = record { wires = w; state = e.state; stage = e.stage; flags = e.flags; work = work_at packet e.work }
+engine_at w packet e = record { wires = w; state = e.state; stage = e.stage; offload = e.offload; work = work_at packet e.work }

@@ -5,7 +5,7 @@ use Rattle.bpf_note.specs.declared.op.Op.{Op}
 use Rattle.xen_netif.specs.Chain.{Slot}
 use Rattle.xen_netif.specs.Copy.{bytes_from}
 use Rattle.xen_netif.specs.declared.fragment.Fragment.{Fragment}
-use Rattle.xen_netif.specs.declared.flags.TxFlags.{TxFlags}
+use Rattle.xen_host.specs.declared.offload.Offload.{Offload}
 use Rattle.xen_steps.specs.Drive.{LedBy}
 use Rattle.xen_steps.specs.Pages.{AreWords, covered}
 use Rattle.xen_steps.specs.Steps.{Steps, bind}
@@ -23,7 +23,7 @@ use Rattle.xen_host.specs.Fits.{Fits}
 use Rattle.xen_host.specs.Hosts.{Asked, WasAskedAll, WasGiven, asks_of, events_of, plain_all}
 use Rattle.xen_host.specs.Led.{Beside, DeliveryEnds, TurnEnds, WaitEnds, beside}
 use Rattle.xen_host.specs.Ran.{HasRunThrough}
-use Rattle.xen_host.specs.Rest.{flags_after, reads_filling, reads_in, rest_filling, rest_in, rest_of_delivery, rest_of_wait}
+use Rattle.xen_host.specs.Rest.{offload_after, reads_filling, reads_in, rest_filling, rest_in, rest_of_delivery, rest_of_wait}
 use Rattle.xen_host.specs.EngineAt.{EngineAt}
 use Rattle.xen_host.specs.declared.stage.Answer.{Answer}
 use Rattle.xen_host.specs.declared.stage.Fill.{Fill}
@@ -33,9 +33,9 @@ use Rattle.xen_host.specs.declared.stage.Stage.{Stage}
 use Rattle.xen_host.specs.declared.stage.Stage.TheVariants as stage
 
 -- What a host was asked leads from a computation to where it ends. All but the last take no answer, and as much was asked as there was
--- room for, up to an ask that the step can't go on after. The flags are these.
+-- room for, up to an ask that the step can't go on after. The offload are these.
 pub record HostLed {H : Type 0} {A : Type 0} (was : H → Ask → List ℕ → H → Type 0) (full : H → Type 0) (ends : Ask → Steps A → Type 0)
-    (flags : TxFlags) (from : Steps A) (new : EngineAt) (host host_after : H) : Type 0 where
+    (offload : Offload) (from : Steps A) (new : EngineAt) (host host_after : H) : Type 0 where
   pub first : List Asked
   pub last : Asked
   pub asked : WasAskedAll was host (first ++ last ∷ []) host_after
@@ -45,35 +45,35 @@ pub record HostLed {H : Type 0} {A : Type 0} (was : H → Ask → List ℕ → H
   pub left : Steps A
   pub gone : LedBy from (events_of (first ++ last ∷ [])) left
   pub is_end : ends last.ask left
-  pub flags_are : new.flags ≡ flags
+  pub offload_is : new.offload ≡ offload
   pub fits : Fits new.stage new.work
 
-abbrev pub TurnLeads : {H : Type 0} → (H → Ask → List ℕ → H → Type 0) → (H → Type 0) → TxFlags → Steps Ending → EngineAt →
+abbrev pub TurnLeads : {H : Type 0} → (H → Ask → List ℕ → H → Type 0) → (H → Type 0) → Offload → Steps Ending → EngineAt →
     (host host_after : H) → Type 0
-TurnLeads was full flags from new host host_after = HostLed was full (TurnEnds new) flags from new host host_after
+TurnLeads was full offload from new host host_after = HostLed was full (TurnEnds new) offload from new host host_after
 
 -- As TurnLeads, after the program's run.
-pub record TurnRanLeads {H : Type 0} (was : H → Ask → List ℕ → H → Type 0) (full : H → Type 0) (flags : TxFlags)
+pub record TurnRanLeads {H : Type 0} (was : H → Ask → List ℕ → H → Type 0) (full : H → Type 0) (offload : Offload)
     (from : Steps Ending) (new : EngineAt) (went : List (Option Op) → Type 0) (host host_after : H) : Type 0 where
   pub between : Steps Ending
   pub ran : HasRunThrough went from between
-  pub led : TurnLeads was full flags between new host host_after
+  pub led : TurnLeads was full offload between new host host_after
 
-abbrev pub DeliveryLeads : {H : Type 0} → (H → Ask → List ℕ → H → Type 0) → (H → Type 0) → TxFlags → List ℕ →
+abbrev pub DeliveryLeads : {H : Type 0} → (H → Ask → List ℕ → H → Type 0) → (H → Type 0) → Offload → List ℕ →
     Steps Arrival → EngineAt → (host host_after : H) → Type 0
-DeliveryLeads was full flags packet from new host host_after =
-    HostLed was full (DeliveryEnds packet new) flags from new host host_after
+DeliveryLeads was full offload packet from new host host_after =
+    HostLed was full (DeliveryEnds packet new) offload from new host host_after
 
-abbrev pub WaitLeads : {H : Type 0} → (H → Ask → List ℕ → H → Type 0) → (H → Type 0) → TxFlags → List ℕ → Steps Wait →
+abbrev pub WaitLeads : {H : Type 0} → (H → Ask → List ℕ → H → Type 0) → (H → Type 0) → Offload → List ℕ → Steps Wait →
     EngineAt → (host host_after : H) → Type 0
-WaitLeads was full flags packet from new host host_after = HostLed was full (WaitEnds packet new) flags from new host host_after
+WaitLeads was full offload packet from new host host_after = HostLed was full (WaitEnds packet new) offload from new host host_after
 
 abbrev pub FillLeads : {H : Type 0} → (H → Ask → List ℕ → H → Type 0) → (H → Type 0) → Purpose → Beside → Steps Outcome → EngineAt →
     (host host_after : H) → Type 0
 FillLeads was full (purpose.Back n) e from new host host_after =
-    TurnLeads was full e.flags (bind from (after_transmit e.wires e.state e.chain e.packet n)) new host host_after
+    TurnLeads was full e.offload (bind from (after_transmit e.wires e.state e.chain e.packet n)) new host host_after
 FillLeads was full purpose.Delivery e from new host host_after =
-    DeliveryLeads was full e.flags e.packet (bind from (arrived e.state)) new host host_after
+    DeliveryLeads was full e.offload e.packet (bind from (arrived e.state)) new host host_after
 
 -- ---- responses
 
@@ -115,7 +115,7 @@ pub record HasCopied {H : Type 0} (was : H → Ask → List ℕ → H → Type 0
   pub all : length words ≡ covered f
   pub below : AreWords words
   pub given : gave host words mid
-  pub led : TurnRanLeads was full old.flags (bind (copy old.wires (drop i old.work.fragments)
+  pub led : TurnRanLeads was full old.offload (bind (copy old.wires (drop i old.work.fragments)
       (old.work.packet ++ bytes_from f (f.offset / 4) words)) (after_copy old.wires old.state old.work.chain)) new went
       mid host_after
 
@@ -132,18 +132,18 @@ abbrev pub GoesOnAt : {H : Type 0} → (H → Ask → List ℕ → H → Type 0)
     (old new : EngineAt) → (went : List (Option Op) → Type 0) → (host host_after : H) → Type 0
 GoesOnAt was full gave stage.Ready old new went host host_after = (new ≡ old) × (host_after ≡ host) × went []
 GoesOnAt was full gave (stage.Fill f purpose.Delivery) old new went host host_after =
-    AfterAnswer gave (reads_filling f) (λ words mid. DeliveryLeads was full old.flags old.work.packet
+    AfterAnswer gave (reads_filling f) (λ words mid. DeliveryLeads was full old.offload old.work.packet
     (fed (rest_of_delivery old.wires.vif old.state (stage.Fill f purpose.Delivery) old.work) words) new mid host_after) host ×
     went []
 GoesOnAt was full gave (stage.Deliver producer) old new went host host_after =
-    DeliveryLeads was full old.flags old.work.packet (rest_of_delivery old.wires.vif old.state (stage.Deliver producer)
+    DeliveryLeads was full old.offload old.work.packet (rest_of_delivery old.wires.vif old.state (stage.Deliver producer)
     old.work) new host host_after × went []
 GoesOnAt was full gave (stage.Wait pages) old new went host host_after =
-    WaitLeads was full old.flags old.work.packet (rest_of_wait old.wires.vif.rx old.state (stage.Wait pages)) new host host_after ×
+    WaitLeads was full old.offload old.work.packet (rest_of_wait old.wires.vif.rx old.state (stage.Wait pages)) new host host_after ×
     went []
 GoesOnAt was full gave (stage.WaitLook pages) old new went host host_after =
-    AfterAnswer gave 1 (λ words mid. WaitLeads was full old.flags old.work.packet
+    AfterAnswer gave 1 (λ words mid. WaitLeads was full old.offload old.work.packet
     (fed (rest_of_wait old.wires.vif.rx old.state (stage.WaitLook pages)) words) new mid host_after) host × went []
 GoesOnAt was full gave g old new went host host_after =
-    AfterAnswer gave (reads_in g) (λ words mid. TurnRanLeads was full (flags_after g old.work words old.flags)
+    AfterAnswer gave (reads_in g) (λ words mid. TurnRanLeads was full (offload_after old.wires.offers g old.work words old.offload)
     (fed (rest_in old.wires old.state g old.work) words) new went mid host_after) host

@@ -2,7 +2,7 @@
 -- Where what is asked leads to: what is under way goes on at an engine's stage, or is over.
 use Rattle.std.specs.Prelude.{ℕ, ◌≡◌, Bool, true, false, List, []}
 use Rattle.xen_netif.specs.Chain.{Slot}
-use Rattle.xen_netif.specs.declared.flags.TxFlags.{TxFlags}
+use Rattle.xen_host.specs.declared.offload.Offload.{Offload}
 use Rattle.xen_steps.specs.Steps.{Steps, done}
 use Rattle.xen_turns.specs.Deliveries.{Arrival}
 use Rattle.xen_turns.specs.Turned.{Ending, turned}
@@ -64,10 +64,10 @@ WaitEnds packet e last left =
 -- What a transmit leaves as it is.
 pub record Beside : Type 0 where
   pub wires : Wiring
-  pub flags : TxFlags
+  pub offload : Offload
   pub state : State
   pub chain : List Slot
   pub packet : List ℕ
 
 abbrev pub beside : EngineAt → Beside
-beside e = record { wires = e.wires; flags = e.flags; state = e.state; chain = e.work.chain; packet = e.work.packet }
+beside e = record { wires = e.wires; offload = e.offload; state = e.state; chain = e.work.chain; packet = e.work.packet }

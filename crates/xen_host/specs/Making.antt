@@ -3,13 +3,14 @@
 use Rattle.std.specs.Prelude.{ℕ, ◌≡◌, ◌≢◌, ◌<◌, ◌≤◌, List, [], Option, None, Some, Contains, length, slice_get}
 use Rattle.bpf_lists.specs.declared.list.MapList.{MapList}
 use Rattle.bpf_verify.specs.Consistent.{Accepted}
+use Rattle.xen_netif.specs.declared.segments.Offers.{Offers}
 use Rattle.xen_page.specs.Table.{IsTable}
 use Rattle.xen_page.specs.declared.owners.OwnersFault.{OwnersFault}
 use Rattle.xen_page.specs.declared.owners.OwnersFault.TheVariants as owned
 use Rattle.xen_rx_fill.specs.Wired.{IsWired}
 use Rattle.xen_host.specs.Frames.{Limits, limits_of, owners_in}
 use Rattle.xen_host.specs.Queues.{packet_of, resting, wired_to}
-use Rattle.xen_host.specs.Rest.{no_flags}
+use Rattle.xen_host.specs.Rest.{no_offload}
 use Rattle.xen_host.specs.Wired.{wiring_of}
 use Rattle.xen_host.specs.declared.make.MakeFault.{MakeFault}
 use Rattle.xen_host.specs.declared.make.MakeFault.TheVariants as fault
@@ -27,6 +28,7 @@ pub record Given : Type 0 where
   pub granter : ℕ
   pub user : ℕ
   pub port : ℕ
+  pub offers : Offers
   pub ifindex : ℕ
   pub queue : ℕ
   pub tx_index : ℕ
@@ -43,6 +45,7 @@ given_of p =
       granter = p.granter;
       user = p.user;
       port = p.port;
+      offers = p.offers;
       ifindex = p.ifindex;
       queue = p.queue;
       tx_index = p.tx_index;
@@ -75,6 +78,7 @@ pub record IsWiredTo (program : Accepted) (lists : List (Option MapList)) (g : G
   pub granter : w.granter ≡ g.granter
   pub user : w.user ≡ g.user
   pub port : w.port ≡ g.port
+  pub offers : w.offers ≡ g.offers
   pub program_is : w.program ≡ program
   pub lists_are : w.lists ≡ lists
   pub ifindex : w.ifindex ≡ g.ifindex
@@ -90,7 +94,7 @@ pub record IsMadeOf (program : Accepted) (lists : List (Option MapList)) (g : Gi
   pub wires : IsWiredTo program lists g (wired_to q)
   pub state : resting q ≡ Some (record { tx_index = g.tx_index; rx_index = g.rx_index; halt = None })
   pub packet : packet_of q ≡ []
-  pub flags : q.engine.flags ≡ no_flags
+  pub offload : q.engine.offload ≡ no_offload
 
 -- What is reported of the owners' fault.
 abbrev pub made_fault : OwnersFault → MakeFault

@@ -14,7 +14,7 @@ use Rattle.xen_host.specs.Buses.{AllHeld}
 use Rattle.xen_host.specs.Hosts.{Asked, WasAskedAll, WasGiven, asks_of, events_of}
 use Rattle.xen_host.specs.Queues.{DeliveryGoesOn, IsDelivering, IsTurning, IsWaiting, TurnGoesOn, WaitGoesOn, seen, wired_to, wiring}
 use Rattle.xen_host.specs.UnderWay.{first_read, read_by_some}
-use Rattle.xen_host.specs.Rest.{flags_after, no_flags, reads_in}
+use Rattle.xen_host.specs.Rest.{offload_after, no_offload, reads_in}
 use Rattle.xen_host.specs.Told.{IsToldAt}
 use Rattle.xen_host.specs.declared.queue.Queue.{Queue}
 
@@ -31,7 +31,7 @@ pub record BeginsOver {H : Type 0} (was : H → Ask → List ℕ → H → Type 
   pub within : AllHeld (first ++ last ∷ []) → AllInPages (length (wired_to old).owners) (asks_of (first ++ last ∷ []))
   pub wires : wired_to new ≡ wired_to old
   pub share : new.share ≡ old.share
-  pub flags : new.engine.flags ≡ no_flags
+  pub offload : new.engine.offload ≡ no_offload
   pub turn : TurnGoesOn new last.ask old.engine.state
       (first_read old.engine.state.halt (Read (tx_word (wiring old).vif 0) producer) ++ events_of (first ++ last ∷ []))
 
@@ -51,7 +51,7 @@ pub record SteppedOver {H : Type 0} (was : H → Ask → List ℕ → H → Type
   pub told : IsToldAt (wired_to old).table new.engine.stage last.ask
   pub within : AllHeld (first ++ last ∷ []) → AllInPages (length (wired_to old).owners) (asks_of (first ++ last ∷ []))
   pub wires : wired_to new ≡ wired_to old
-  pub flags : new.engine.flags ≡ flags_after old.engine.stage (seen old).work words old.engine.flags
+  pub offload : new.engine.offload ≡ offload_after (wired_to old).offers old.engine.stage (seen old).work words old.engine.offload
   pub labels : List (Option Operation)
   pub history : went labels
   pub turn : (s : State) (trace : List Event) (asked : Ask) → IsTurning old s trace asked →

@@ -2,7 +2,7 @@
 -- What queues that share counters do with them, and their reader.
 use Rattle.std.specs.Prelude.{ℕ, ◌≡◌, ◌⊎◌, ◌+◌, ◌++◌, List, [], ◌∷◌, IsSome, None, Some}
 use Rattle.std.specs.Arc.{arc_value}
-use Rattle.bpf_maps.specs.Seats.{CountersView, SeatView, new_seats}
+use Rattle.bpf_maps.specs.Seats.{CountersView, SeatView, begin_of, new_seats}
 use Rattle.bpf_note.specs.Shape.{IsCounter}
 use Rattle.bpf_note.specs.declared.op.Op.TheVariants.{Load}
 use Rattle.bpf_verify.specs.Consistent.{Accepted}
@@ -22,10 +22,11 @@ counters_of c = arc_value c.counters
 abbrev pub seats_of : SharedCounters → List SeatView
 seats_of c = c.seats.items ++ c.reader ∷ []
 
--- New counters of a program's maps: their seats have done nothing, one is for each of these queues, and the last one reads.
+-- New counters of a program's maps, all 0: their seats have done nothing, one is for each of these queues, and the last one reads.
 pub record AreNewFor (p : Accepted) (queues : ℕ) (c : SharedCounters) : Type 0 where
   pub program : c.program ≡ p
   pub count : (counters_of c).seats ≡ queues + 1
+  pub zeros : (m k j : ℕ) → begin_of (counters_of c) m k j ≡ 0
   pub seats : seats_of c ≡ new_seats (counters_of c) (queues + 1)
 
 -- The counters are the same, with the same program, and nothing was done by their reader.

@@ -10,7 +10,7 @@ use Rattle.xen_host.specs.Asks.{AllInPages, AllSized, Ask, TakeNone, needs_no_an
 use Rattle.xen_host.specs.Buses.{AllHeld}
 use Rattle.xen_host.specs.EngineAt.{EngineAt}
 use Rattle.xen_host.specs.Hosts.{Asked, WasAskedAll, WasGiven, asks_of, events_of}
-use Rattle.xen_host.specs.Rest.{flags_after, no_flags, reads_in}
+use Rattle.xen_host.specs.Rest.{offload_after, no_offload, reads_in}
 use Rattle.xen_host.specs.Told.{IsToldAt}
 use Rattle.xen_host.specs.UnderWay.{DeliveryGoesAt, IsDeliveringAt, IsTurningAt, IsWaitingAt, TurnGoesAt, WaitGoesAt, first_read, read_by_some}
 
@@ -26,7 +26,7 @@ pub record BeginsAt {H : Type 0} (was : H → Ask → List ℕ → H → Type 0)
   pub told : IsToldAt old.wires.vif.table.now new.stage last.ask
   pub within : AllHeld (first ++ last ∷ []) → AllInPages (length old.wires.vif.owners.now) (asks_of (first ++ last ∷ []))
   pub wires : new.wires ≡ old.wires
-  pub flags : new.flags ≡ no_flags
+  pub offload : new.offload ≡ no_offload
   pub turn : TurnGoesAt new last.ask old.state
       (first_read old.state.halt (Read (tx_word old.wires.vif 0) producer) ++ events_of (first ++ last ∷ []))
 
@@ -46,7 +46,7 @@ pub record StepsAt {H : Type 0} (was : H → Ask → List ℕ → H → Type 0) 
   pub told : IsToldAt old.wires.vif.table.now new.stage last.ask
   pub within : AllHeld (first ++ last ∷ []) → AllInPages (length old.wires.vif.owners.now) (asks_of (first ++ last ∷ []))
   pub wires : new.wires ≡ old.wires
-  pub flags : new.flags ≡ flags_after old.stage old.work words old.flags
+  pub offload : new.offload ≡ offload_after old.wires.offers old.stage old.work words old.offload
   pub labels : List (Option Operation)
   pub history : went labels
   pub turn : (s : State) (trace : List Event) (asked : Ask) → IsTurningAt old s trace asked →

@@ -104,11 +104,11 @@ pub record IsBegunAt (old new : EngineAt) (producer : ℕ) (packet : List ℕ) :
   pub rested : resting_at old ≡ Some old.state
   pub delivering : IsDeliveringAt new old.state packet (first_read old.state.halt (Read (rx_word old.wires.vif 0) producer)) None
   pub wires : new.wires ≡ old.wires
-  pub flags : new.flags ≡ old.flags
+  pub offload : new.offload ≡ old.offload
 
 -- A wait for `pages` slots is to begin: all of it is left.
 pub record IsWaitBegunAt (old new : EngineAt) (pages : ℕ) : Type 0 where
   pub rested : resting_at old ≡ Some old.state
   pub waiting : IsWaitingAt new old.state pages (packet_at old) [] None
   pub wires : new.wires ≡ old.wires
-  pub flags : new.flags ≡ old.flags
+  pub offload : new.offload ≡ old.offload

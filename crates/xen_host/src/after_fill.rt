@@ -53,7 +53,7 @@ impl Engine {
         host: &mut H,
     )
         requires free { H.is_free host.old }
-        ensures led { TurnLeads H.was_asked H.is_full self.old.flags (after_transmit (W.wiring wires.now)
+        ensures led { TurnLeads H.was_asked H.is_full self.old.offload (after_transmit (W.wiring wires.now)
             self.old.state
             self.old.work.chain (R.held packet.old) counted outcome) (engine_at (W.wiring wires.now) (R.held packet.new) self.new) host.old host.new }
     {
@@ -78,7 +78,7 @@ impl Engine {
         host: &mut H,
     )
         requires free { H.is_free host.old }
-        ensures led { DeliveryLeads H.was_asked H.is_full self.old.flags (R.held packet.old) (next (unless_halted (W.wiring wires.now).vif
+        ensures led { DeliveryLeads H.was_asked H.is_full self.old.offload (R.held packet.old) (next (unless_halted (W.wiring wires.now).vif
             self.old.state (R.held packet.old) self.old.state.halt) producer) (engine_at (W.wiring wires.now) (R.held packet.new) self.new) host.old
             host.new }
     {
@@ -95,7 +95,7 @@ impl Engine {
     #[inline(always)]
     fn end_delivery<H: Host>(&mut self, after: State, delivery: Delivery, host: &mut H)
         requires free { H.is_free host.old }
-        ensures led { (w : Wiring) (packet : List ℕ) → DeliveryLeads H.was_asked H.is_full self.old.flags packet (done (
+        ensures led { (w : Wiring) (packet : List ℕ) → DeliveryLeads H.was_asked H.is_full self.old.offload packet (done (
           after,
           delivery,
         )) (engine_at w packet self.new) host.old host.new }

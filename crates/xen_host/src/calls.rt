@@ -4,14 +4,14 @@ ghost use Rattle.std.specs.Prelude.{◌≡◌, IsSome, List, None, Some, ℕ};
 ghost use Rattle.xdp_program.specs.Tallies.{Went};
 ghost use Rattle.xen_turns.specs.declared.wiring.Wiring.{Wiring};
 ghost use Rattle.xen_host.specs.EngineAt.{engine_at};
-ghost use Rattle.xen_host.specs.Rest.{no_flags};
+ghost use Rattle.xen_host.specs.Rest.{no_offload};
 ghost use Rattle.xen_host.specs.Stands.{Stands};
 ghost use Rattle.xen_host.specs.StepsAt.{BeginsAt, StepsAt};
 ghost use Rattle.xen_host.specs.UnderWay.{resting_at};
 
 use crate::engine::Engine;
 use crate::host::Host;
-use crate::looking::NO_FLAGS;
+use crate::offload::NO_OFFLOAD;
 use crate::room::Room;
 use crate::stage::Stage;
 use crate::wires::Wires;
@@ -22,13 +22,13 @@ use xen_turns::State;
 impl Engine {
     /// An engine between two turns.
     pub fn new(state: State) -> Engine
-        ensures flags { result.flags ≡ no_flags }
+        ensures offload { result.offload ≡ no_offload }
         ensures rests { (w : Wiring) (packet : List ℕ) → resting_at (engine_at w packet result) ≡ Some state }
     {
         Engine {
             state,
             stage: Stage::Ready,
-            flags: NO_FLAGS,
+            offload: NO_OFFLOAD,
             work: Work::none(),
         }
     }

@@ -10,10 +10,10 @@ ghost use Rattle.xen_host.specs.HostLed.{TurnLeads};
 ghost use Rattle.xen_host.specs.Led.{packet_after};
 
 use crate::host::Host;
+use crate::offload::Offload;
 use crate::room::Room;
 use crate::stage::Stage;
 use crate::work::Work;
-use xen_netif::TxFlags;
 use xen_turns::decisions::halted;
 use xen_turns::{Halt, Kind, State};
 
@@ -23,8 +23,8 @@ use xen_turns::{Halt, Kind, State};
 pub struct Engine {
     pub(crate) state: State,
     pub(crate) stage: Stage,
-    /// The flags of the first slot of the turn that is under way or over.
-    pub(crate) flags: TxFlags,
+    /// What is left undone of the packet of the turn that is under way or over.
+    pub(crate) offload: Offload,
     pub(crate) work: Work,
 }
 
@@ -50,7 +50,7 @@ impl Engine {
         host: &mut H,
     )
         requires { H.is_free host.old }
-        ensures led { (w : Wiring) → TurnLeads H.was_asked H.is_full self.old.flags (done (after, turned kind (R.held packet.old)))
+        ensures led { (w : Wiring) → TurnLeads H.was_asked H.is_full self.old.offload (done (after, turned kind (R.held packet.old)))
             (engine_at w (R.held packet.new) self.new) host.old host.new }
     {
         keep_packet(&kind, packet);
@@ -63,7 +63,7 @@ impl Engine {
     #[inline(never)]
     pub(crate) fn halt<H: Host, R: Room>(&mut self, cause: Halt, packet: &mut R, host: &mut H)
         requires { H.is_free host.old }
-        ensures led { (w : Wiring) → TurnLeads H.was_asked H.is_full self.old.flags (halted_spec self.old.state cause)
+        ensures led { (w : Wiring) → TurnLeads H.was_asked H.is_full self.old.offload (halted_spec self.old.state cause)
             (engine_at w (R.held packet.new) self.new) host.old host.new }
     {
         let after = halted(&self.state, cause);

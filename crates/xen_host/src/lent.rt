@@ -38,9 +38,8 @@ impl<'p, 'r, R: Room> LentPacket<'p, 'r, R> {
         ensures lent { self.new.lent ≡ None }
         ensures held { R.held self.new.room.now ≡ held_in self.old.lent (R.held self.old.room.now) }
     {
-        match self.lent.take() {
-            Some(frame) => hold(frame.bytes(), self.room),
-            None => {}
+        if let Some(frame) = self.lent.take() {
+            hold(frame.bytes(), self.room);
         }
     }
 }

@@ -4,13 +4,15 @@ ghost use Rattle.std.specs.Prelude.{◌≡◌, ◌≤◌, ◌∷◌, [], sum_by,
 ghost use Rattle.std.specs.Prelude.{Err, Some};
 ghost use Rattle.std.specs.List.{list_all};
 ghost use Rattle.xen_netif.specs.Chain.{extra_info, more_data};
-ghost use Rattle.xen_netif.specs.Fragments.{fragment_size, fragments_of, is_in_page};
+ghost use Rattle.xen_netif.specs.Fragments.{fragment_size, is_in_page};
+ghost use Rattle.xen_netif.specs.Segments.{offered_fragments};
 ghost use Rattle.xen_netif.specs.Standing.{standing};
 
 use arrayvec::ArrayVec;
 use std::marker::Model;
 use xen_netif::{
-    Chain, ChainFault, ChainState, Fragment, SizeFault, TxReq, is_alone, only_fragment,
+    Chain, ChainFault, ChainState, Fragment, Offers, Segments, SizeFault, TxReq, is_alone,
+    only_fragment,
 };
 
 /// In which form the slots are held.
@@ -60,8 +62,8 @@ fn put_alone(room: &mut ArrayVec<Fragment, 18>, fragment: Fragment)
 /// Puts the fragment of a slot that is a whole chain into the room for fragments.
 fn place_single(slot: [u32; 3], room: &mut ArrayVec<Fragment, 18>) -> Result<(), SizeFault>
     requires plain { extra_info slot ≡ false }
-    ensures answer { MatchResult result (λ _. fragments_of (slot ∷ []) ≡ Ok room.new.items)
-        (λ fault. fragments_of (slot ∷ []) ≡ Err fault) }
+    ensures answer { (offers : Offers) → MatchResult result (λ _. offered_fragments offers (slot ∷ []) ≡ Ok room.new.items)
+        (λ fault. offered_fragments offers (slot ∷ []) ≡ Err fault) }
     ensures short { IfOk result (λ _. sum_by fragment_size room.new.items ≤ 65535) }
     ensures in_page { IfOk result (λ _. IsTrue (list_all is_in_page room.new.items)) }
 {
@@ -77,14 +79,18 @@ fn place_single(slot: [u32; 3], room: &mut ArrayVec<Fragment, 18>) -> Result<(),
 /// Puts the fragments of a whole chain into the room for fragments. It is out of line, since a function pays at its entry for all
 /// that is inlined into it.
 #[inline(never)]
-fn place_all(chain: &Chain, room: &mut ArrayVec<Fragment, 18>) -> Result<(), SizeFault>
+fn place_all(
+    chain: &Chain,
+    offers: Offers,
+    room: &mut ArrayVec<Fragment, 18>,
+) -> Result<(), SizeFault>
     requires { standing chain.now ≡ Some (Ok ChainState.Complete) }
-    ensures answer { MatchResult result (λ _. fragments_of chain.now ≡ Ok room.new.items)
-        (λ fault. fragments_of chain.now ≡ Err fault) }
+    ensures answer { MatchResult result (λ _. offered_fragments offers chain.now ≡ Ok room.new.items)
+        (λ fault. offered_fragments offers chain.now ≡ Err fault) }
     ensures short { IfOk result (λ _. sum_by fragment_size room.new.items ≤ 65535) }
     ensures in_page { IfOk result (λ _. IsTrue (list_all is_in_page room.new.items)) }
 {
-    match chain.fragments() {
+    match chain.offered_fragments(offers) {
         Err(fault) => Err(fault),
         Ok(fragments) => {
             *room = fragments;
@@ -98,7 +104,8 @@ impl Slots {
     ghost use Rattle.std.specs.Prelude.{IsTrue, MatchResult, Ok, Err, OnErr, OnOk, Some, false};
     ghost use Rattle.xen_netif.specs.Chain.{extra_info, more_data, requests_of};
     ghost use Rattle.std.specs.List.{list_all};
-    ghost use Rattle.xen_netif.specs.Fragments.{fragment_size, fragments_of, is_in_page};
+    ghost use Rattle.xen_netif.specs.Fragments.{fragment_size, is_in_page};
+    ghost use Rattle.xen_netif.specs.Segments.{offered_fragments, segments_of};
     ghost use Rattle.xen_netif.specs.Standing.{standing};
 
     /// None.
@@ -156,6 +163,7 @@ impl Slots {
     }
 
     /// Adds the slot of these three words, and says what is wanted next, as [`Chain::push`] does.
+    #[inline(always)]
     pub fn push(&mut self, words: [u32; 3]) -> Result<ChainState, ChainFault>
         requires { standing self.old ≢ Some (Ok ChainState.Complete) }
         ensures standing { standing (self.old ++ words ∷ []) ≡ Some result }
@@ -177,18 +185,35 @@ impl Slots {
         }
     }
 
-    /// Puts the fragments of a whole chain into their room, as [`Chain::fragments`] gives them.
-    pub fn place_fragments(&self, room: &mut ArrayVec<Fragment, 18>) -> Result<(), SizeFault>
+    /// Puts the fragments of a whole chain into their room, as [`Chain::offered_fragments`] gives them.
+    pub fn place_fragments(
+        &self,
+        offers: Offers,
+        room: &mut ArrayVec<Fragment, 18>,
+    ) -> Result<(), SizeFault>
         requires { standing self.now ≡ Some (Ok ChainState.Complete) }
-        ensures answer { MatchResult result (λ _. fragments_of self.now ≡ Ok room.new.items)
-            (λ fault. fragments_of self.now ≡ Err fault) }
+        ensures answer { MatchResult result (λ _. offered_fragments offers self.now ≡ Ok room.new.items)
+            (λ fault. offered_fragments offers self.now ≡ Err fault) }
         ensures short { IfOk result (λ _. sum_by fragment_size room.new.items ≤ 65535) }
         ensures in_page { IfOk result (λ _. IsTrue (list_all is_in_page room.new.items)) }
     {
         match self.form {
             SlotForm::Empty => unreachable!(),
             SlotForm::Single => place_single(self.single, room),
-            SlotForm::Chained => place_all(&self.chain, room),
+            SlotForm::Chained => place_all(&self.chain, offers, room),
+        }
+    }
+
+    /// How the packet of a chain is to be segmented, as [`Chain::segments`] gives it.
+    #[inline(always)]
+    #[tactic(auto, using(crate::proofs::OffloadLemmas::single_says))]
+    pub fn segments(&self, offers: Offers) -> Option<Segments>
+        ensures { result ≡ segments_of offers self.now }
+    {
+        match self.form {
+            SlotForm::Empty => None,
+            SlotForm::Single => None,
+            SlotForm::Chained => self.chain.segments(offers),
         }
     }
 

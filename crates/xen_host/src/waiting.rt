@@ -22,7 +22,7 @@ impl Engine {
     #[inline(never)]
     pub(crate) fn wait_begun<W: Wires, H: Host>(&mut self, pages: u32, wires: &W, host: &mut H)
         requires free { H.is_free host.old }
-        ensures led { (packet : List ℕ) → WaitLeads H.was_asked H.is_full self.old.flags packet (whole_wait (W.wiring
+        ensures led { (packet : List ℕ) → WaitLeads H.was_asked H.is_full self.old.offload packet (whole_wait (W.wiring
             wires.now).vif.rx self.old.state pages) (engine_at (W.wiring wires.now) packet self.new) host.old host.new }
     {
         if let Some(cause) = self.state.halt {
@@ -38,7 +38,7 @@ impl Engine {
     #[inline(never)]
     pub(crate) fn wait_looked<H: Host>(&mut self, pages: u32, producer: u32, host: &mut H)
         requires free { H.is_free host.old }
-        ensures led { (w : Wiring) (packet : List ℕ) → WaitLeads H.was_asked H.is_full self.old.flags packet (done (wait_end
+        ensures led { (w : Wiring) (packet : List ℕ) → WaitLeads H.was_asked H.is_full self.old.offload packet (done (wait_end
             self.old.state pages (available self.old.state.rx_index producer))) (engine_at w packet self.new) host.old host.new }
     {
         let (after, awaited) = wait_answer(
@@ -53,7 +53,7 @@ impl Engine {
     #[inline(always)]
     fn end_wait<H: Host>(&mut self, after: State, awaited: Awaited, host: &mut H)
         requires free { H.is_free host.old }
-        ensures led { (w : Wiring) (packet : List ℕ) → WaitLeads H.was_asked H.is_full self.old.flags packet (done (after, awaited))
+        ensures led { (w : Wiring) (packet : List ℕ) → WaitLeads H.was_asked H.is_full self.old.offload packet (done (after, awaited))
             (engine_at w packet self.new) host.old host.new }
     {
         self.state = after;

@@ -32,7 +32,7 @@ use xen_turns::laws::{
 use xen_turns::{Awaited, Delivery, Kind};
 
 /// More steps than a turn takes.
-const TURN_STEPS: u32 = 33_029;
+const TURN_STEPS: u32 = 33_033;
 
 /// More steps than a delivery takes.
 const DELIVERY_STEPS: u32 = 16_485;

@@ -1,16 +1,18 @@
 //! The chain of slots that a packet makes on the tx ring.
 
-ghost use Rattle.std.specs.Prelude.{[], ◌∷◌, ◌++◌, ◌≡◌, ◌≢◌, ◌↔◌, ◌≤◌, length, sum_by, Some, Ok, Err, MatchResult, OnOk, OnErr};
-ghost use Rattle.std.specs.Prelude.{IfOk, IsTrue};
+ghost use Rattle.std.specs.Prelude.{[], ◌∷◌, ◌++◌, ◌≡◌, ◌≢◌, ◌↔◌, ◌≤◌, length, sum_by, None, Some, Ok, Err, MatchOption, MatchResult};
+ghost use Rattle.std.specs.Prelude.{IfOk, IsTrue, OnErr, OnOk};
 ghost use Rattle.std.specs.List.{list_all};
-ghost use Rattle.xen_netif.specs.Chain.{Stands, requests_of};
-ghost use Rattle.xen_netif.specs.Fragments.{fragment_size, fragments_of, is_in_page, packet_size};
+ghost use Rattle.xen_netif.specs.Chain.{Stands, extra_info, requests_of};
+ghost use Rattle.xen_netif.specs.Fragments.{fragment_size, fragments_of, is_in_page, packet_size, sized_fragments, slot_size};
+ghost use Rattle.xen_netif.specs.Segments.{data_behind, offered_fragments, segments_of};
 ghost use Rattle.xen_netif.specs.Standing.{standing};
 
 use crate::expected::Expected;
 use crate::extra::asks_extra;
 use crate::fault::{ChainFault, SizeFault};
 use crate::fragment::{Fragment, all_in_page, split, total_size};
+use crate::segments::{NO_OFFERS, Offers, Segments};
 use crate::tx::TxReq;
 use arrayvec::ArrayVec;
 use std::marker::Model;
@@ -116,7 +118,7 @@ impl Chain {
         requests_in(self.slots.as_slice())
     }
 
-    /// The packet's parts in granted pages, one per slot, in order.
+    /// The packet's parts in granted pages, one per slot, in order, as a queue takes it that offers nothing.
     ///
     /// # Errors
     ///
@@ -130,28 +132,90 @@ impl Chain {
         ensures count { IfOk result (λ v. length v.items ≡ length self.now) }
         ensures in_page { IfOk result (λ v. IsTrue (list_all is_in_page v.items)) }
     {
-        fragments_in(self.slots.as_slice())
+        fragments_in(self.slots.as_slice(), NO_OFFERS)
+    }
+
+    /// The packet's parts in granted pages, one per data slot, in order, as a queue takes it that offers this.
+    ///
+    /// # Errors
+    ///
+    /// The first that applies of `ExtraInfo`, `ShortPacket`, `LaterSizes` and `PastPage`.
+    pub fn offered_fragments(&self, offers: Offers) -> Result<ArrayVec<Fragment, 18>, SizeFault>
+        requires { standing self.now ≡ Some (Ok ChainState.Complete) }
+        ensures answer { MatchResult result (λ v. offered_fragments offers self.now ≡ Ok v.items)
+            (λ fault. offered_fragments offers self.now ≡ Err fault) }
+        ensures sizes { IfOk result (λ v. sum_by fragment_size v.items ≡ packet_size self.now) }
+        ensures short { IfOk result (λ v. sum_by fragment_size v.items ≤ 65535) }
+        ensures in_page { IfOk result (λ v. IsTrue (list_all is_in_page v.items)) }
+    {
+        fragments_in(self.slots.as_slice(), offers)
+    }
+
+    /// How the packet is to be segmented. `None` if its chain has no extra, and where a queue that offers this doesn't take it.
+    pub fn segments(&self, offers: Offers) -> Option<Segments>
+        ensures { result ≡ segments_of offers self.now }
+    {
+        segments_in(self.slots.as_slice(), offers)
     }
 }
 
-/// The fragments of a whole chain's slots.
-fn fragments_in(slots: &[[u32; 3]]) -> Result<ArrayVec<Fragment, 18>, SizeFault>
+/// How the packet of these slots is to be segmented.
+fn segments_in(slots: &[[u32; 3]], offers: Offers) -> Option<Segments>
+    ensures { result ≡ segments_of offers slots.now }
+{
+    let (first, later) = slots.split_first()?;
+    if !TxReq::of_words(*first).flags.extra_info {
+        return None;
+    }
+    let extra = later.first()?;
+    offers.segments(*first, *extra)
+}
+
+/// The fragments of a whole chain's slots, as a queue takes them that offers this.
+fn fragments_in(slots: &[[u32; 3]], offers: Offers) -> Result<ArrayVec<Fragment, 18>, SizeFault>
     requires { standing slots.now ≡ Some (Ok ChainState.Complete) }
-    ensures answer { MatchResult result (λ v. fragments_of slots.now ≡ Ok v.items)
-        (λ fault. fragments_of slots.now ≡ Err fault) }
+    ensures answer { MatchResult result (λ v. offered_fragments offers slots.now ≡ Ok v.items)
+        (λ fault. offered_fragments offers slots.now ≡ Err fault) }
     ensures sizes { IfOk result (λ v. sum_by fragment_size v.items ≡ packet_size slots.now) }
     ensures short { IfOk result (λ v. sum_by fragment_size v.items ≤ 65535) }
-    ensures count { IfOk result (λ v. length v.items ≡ length slots.now) }
     ensures in_page { IfOk result (λ v. IsTrue (list_all is_in_page v.items)) }
 {
-    let first = TxReq::of_words(slots[0]);
-    if first.flags.extra_info {
-        return Err(SizeFault::ExtraInfo);
+    let first = slots[0];
+    match data_behind(first, &slots[1..], offers) {
+        Some(later) => sized_fragments(first, later),
+        None => Err(SizeFault::ExtraInfo),
     }
+}
+
+/// The data slots behind a packet's first slot, if it has no extra or one that a queue takes.
+fn data_behind(first: [u32; 3], later: &[[u32; 3]], offers: Offers) -> Option<&[[u32; 3]]>
+    ensures { MatchOption result (data_behind offers (extra_info first) first later.now ≡ None)
+        (λ rest. data_behind offers (extra_info first) first later.now ≡ Some rest.now) }
+{
+    if !TxReq::of_words(first).flags.extra_info {
+        return Some(later);
+    }
+    let (extra, rest) = later.split_first()?;
+    if offers.segments(first, *extra).is_some() {
+        Some(rest)
+    } else {
+        None
+    }
+}
+
+/// The fragments of a packet's data slots.
+fn sized_fragments(first: [u32; 3], later: &[[u32; 3]]) -> Result<ArrayVec<Fragment, 18>, SizeFault>
+    requires { length later.now ≤ 17 }
+    ensures answer { MatchResult result (λ v. sized_fragments first later.now ≡ Ok v.items)
+        (λ fault. sized_fragments first later.now ≡ Err fault) }
+    ensures sizes { IfOk result (λ v. sum_by fragment_size v.items ≡ slot_size first) }
+    ensures short { IfOk result (λ v. sum_by fragment_size v.items ≤ 65535) }
+    ensures in_page { IfOk result (λ v. IsTrue (list_all is_in_page v.items)) }
+{
+    let first = TxReq::of_words(first);
     if first.size < 14 {
         return Err(SizeFault::ShortPacket);
     }
-    let later = &slots[1..];
     let later_size = total_size(later);
     let packet_size = u32::from(first.size);
     if packet_size < later_size {

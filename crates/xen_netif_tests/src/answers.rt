@@ -2,7 +2,7 @@
 
 ghost use Rattle.xen_netif.specs.Copy.{Covers};
 
-use xen_netif::{Chain, ChainFault, ChainState, Fragment, SizeFault, TxReq};
+use xen_netif::{Chain, ChainFault, ChainState, Fragment, Offers, Segments, SizeFault, TxReq};
 
 /// The most groups of slots that are pushed to one chain.
 const MOST_GROUPS: usize = 5;
@@ -68,6 +68,22 @@ pub fn has_fragments(slots: &[[u32; 3]], wanted: &[Fragment]) -> Result<bool, Op
     match chain.state() {
         ChainState::Complete => match chain.fragments() {
             Ok(fragments) => Ok(fragments.as_slice() == wanted),
+            Err(fault) => Err(Some(fault)),
+        },
+        _ => Err(None),
+    }
+}
+
+/// How a packet is segmented and how many fragments it has, or why there are none: its chain isn't complete, or it is refused.
+pub type Taken = Result<(Option<Segments>, usize), Option<SizeFault>>;
+
+/// What a queue that offers this makes of the chain of these slots.
+pub fn taken(slots: &[[u32; 3]], offers: Offers) -> Taken {
+    let mut chain = Chain::new();
+    let _ = push_all(&mut chain, slots);
+    match chain.state() {
+        ChainState::Complete => match chain.offered_fragments(offers) {
+            Ok(fragments) => Ok((chain.segments(offers), fragments.as_slice().len())),
             Err(fault) => Err(Some(fault)),
         },
         _ => Err(None),

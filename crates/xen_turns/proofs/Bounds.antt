@@ -18,7 +18,10 @@ use Rattle.bpf_note.specs.State.{State as Machine}
 use Rattle.bpf_insn.specs.declared.insn.Insn.{Insn}
 use Rattle.xen_netif.specs.Chain.{Slot, more_data, extra_info, is_known_extra, requests_of, requests_after}
 use Rattle.xen_netif.specs.declared.tx.TxReq.{TxReq}
-use Rattle.xen_netif.specs.Fragments.{fragments_of, is_in_page, split, slot_size}
+use Rattle.xen_netif.specs.Fragments.{is_in_page, later_fragment, sized_fragments, slot_size, split}
+use Rattle.xen_netif.specs.Segments.{offered_fragments}
+use Rattle.xen_netif.specs.declared.segments.Offers.{Offers}
+use Rattle.xen_netif.proofs.SegmentLemmas.{taken_of}
 use Rattle.xen_netif.specs.Slots.{asks_extra}
 use Rattle.xen_netif.specs.Standing.{standing, after_data, after_extra}
 use Rattle.xen_netif.specs.declared.chain.ChainState.{ChainState}
@@ -109,21 +112,27 @@ all_in_page (f ∷ fs) h = by (is_in_page f) refl (list_all is_in_page fs) refl 
 -- a chain's fragments
 pub record AreFragments (slots : List Slot) (fs : List Fragment) : Type 0 where
   pub in_page : AllInPage fs
-  pub count : length fs ≡ length slots
+  pub count : length fs ≤ length slots
 
-pub fragments_are : (slots : List Slot) (fs : List Fragment) → fragments_of slots ≡ Ok fs → AreFragments slots fs
-fragments_are [] fs e = let same : [] ≡ fs = cc in subst (AreFragments []) same (record { in_page = tt; count = refl })
-fragments_are (first ∷ later) fs e = by (extra_info first) (nat_lt (slot_size first) 14) (nat_lt (slot_size first) _) (list_all is_in_page (split first later)) refl e
+sized_are : (first : Slot) (later : List Slot) (fs : List Fragment) → sized_fragments first later ≡ Ok fs → AreFragments (first ∷ later) fs
+sized_are first later fs e = by (nat_lt (slot_size first) 14) (nat_lt (slot_size first) _) (list_all is_in_page (split first later)) refl e
   where
-    by : (a b c d : Bool) → list_all is_in_page (split first later) ≡ d →
-        (if a then Err size_fault.ExtraInfo else (if b then Err size_fault.ShortPacket else (if c then Err size_fault.LaterSizes else (if d then Ok (split first later) else Err size_fault.PastPage)))) ≡ Ok fs → AreFragments (first ∷ later) fs
-    by true b c d g e = cc
-    by false true c d g e = cc
-    by false false true d g e = cc
-    by false false false true g e =
+    by : (b c d : Bool) → list_all is_in_page (split first later) ≡ d →
+        (if b then Err size_fault.ShortPacket else (if c then Err size_fault.LaterSizes else (if d then Ok (split first later) else Err size_fault.PastPage))) ≡ Ok fs → AreFragments (first ∷ later) fs
+    by true c d g e = cc
+    by false true d g e = cc
+    by false false true g e =
         let same : split first later ≡ fs = cc in
-        subst (AreFragments (first ∷ later)) same (record { in_page = all_in_page (split first later) g; count = ap suc (length-map later _) })
-    by false false false false g e = cc
+        let n : length (split first later) ≡ length (first ∷ later) = ap suc (length-map later later_fragment) in
+        subst (AreFragments (first ∷ later)) same (record { in_page = all_in_page (split first later) g; count = omega (arith, n) })
+    by false false false g e = cc
+
+pub fragments_are : (o : Offers) (slots : List Slot) (fs : List Fragment) → offered_fragments o slots ≡ Ok fs → AreFragments slots fs
+fragments_are o [] fs e = let same : [] ≡ fs = cc in subst (AreFragments []) same (record { in_page = tt; count = omega arith })
+fragments_are o (first ∷ later) fs e =
+    let t = taken_of o first later fs e in
+    let a = sized_are first t.rest fs t.sized in
+    record { in_page = a.in_page; count = omega (arith, a.count, t.least) }
 
 pub covered_inside : (f : Fragment) → f.offset + f.size ≤ 4096 → f.offset / 4 + covered f ≤ 1024
 covered_inside f h = by (f.size == 0) refl
@@ -262,15 +271,15 @@ module _ (w : Wiring) (shapes : List Shape) (h : IsWired w.vif) where
     bounded_after_copy s slots (Some packet) few =
         bounded_bind within Any Any (program (run_of w packet) 0) (after_run w s slots) steps 263710 (steps + 263710) (bounded_run packet) (λ r u. bounded_ran s slots r (r.number == 3) few) (omega arith)
 
-    bounded_after_chain : (s : State) (slots : List Slot) (o : Result (List Fragment) SizeFault) → fragments_of slots ≡ o → length slots ≤ 23 → Bounded within Any (after_chain w s slots o) (23598 + (steps + 263710))
+    bounded_after_chain : (s : State) (slots : List Slot) (o : Result (List Fragment) SizeFault) → offered_fragments w.offers slots ≡ o → length slots ≤ 23 → Bounded within Any (after_chain w s slots o) (23598 + (steps + 263710))
     bounded_after_chain s slots (Err fault) e few = bounded_le within Any (after_chain w s slots (Err fault)) 26 (23598 + (steps + 263710)) (bounded_respond s slots status.Error (Refused (refusal.Size fault) 0 (length slots)) few) (omega arith)
     bounded_after_chain s slots (Ok fs) e few =
-        let a = fragments_are slots fs e in
+        let a = fragments_are w.offers slots fs e in
         bounded_bind within Any Any (copy w fs []) (after_copy w s slots) (1026 * length fs) (steps + 263710) (23598 + (steps + 263710)) (bounded_copy fs [] a.in_page) (λ o u. bounded_after_copy s slots o few) (omega (arith, a.count))
 
     bounded_after_scan : (s : State) (x : Scan) → IsRead x → Bounded within Any (after_scan w s x) (23598 + (steps + 263710))
     bounded_after_scan s (Err cause) r = tt
-    bounded_after_scan s (Ok slots) r = bounded_after_chain s slots (fragments_of slots) refl (standing_length slots wanted.Complete r)
+    bounded_after_scan s (Ok slots) r = bounded_after_chain s slots (offered_fragments w.offers slots) refl (standing_length slots wanted.Complete r)
 
     bounded_after_look : (s : State) (o : Option ℕ) → Bounded within Any (after_look w s o) (72 + (23598 + (steps + 263710)))
     bounded_after_look s None = tt

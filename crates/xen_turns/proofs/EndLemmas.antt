@@ -13,7 +13,8 @@ use Rattle.xen_steps.specs.Drive.{LedBy}
 use Rattle.bpf_vm.specs.Course.{start_state, Course, Exiting, Stepping, Loading, Adding, Broken, IsWhole}
 use Rattle.xen_netif.specs.Chain.{Slot, more_data, extra_info, is_known_extra}
 use Rattle.xen_netif.specs.Copy.{bytes_of, copy_of}
-use Rattle.xen_netif.specs.Fragments.{fragment_size, fragments_of}
+use Rattle.xen_netif.specs.Fragments.{fragment_size}
+use Rattle.xen_netif.specs.Segments.{offered_fragments}
 use Rattle.xen_netif.specs.Slots.{asks_extra}
 use Rattle.xen_netif.specs.Standing.{standing, after_data, after_extra}
 use Rattle.xen_netif.specs.declared.chain.ChainState.{ChainState}
@@ -208,18 +209,18 @@ module _ (w : Wiring) where
     ends_after_copy s slots (Some packet) p =
         ends_bind Any Any (program (run_of w packet) 0) (after_run w s slots) (ends_program (run_of w packet) 0 (whole packet p.0 p.1)) (λ r u. ends_after_run s slots r)
 
-    ends_after_chain : (s : State) (slots : List Slot) (o : Result (List Fragment) SizeFault) → AllWords slots → standing slots ≡ Some (Ok wanted.Complete) → fragments_of slots ≡ o → Ends Any (after_chain w s slots o)
+    ends_after_chain : (s : State) (slots : List Slot) (o : Result (List Fragment) SizeFault) → AllWords slots → standing slots ≡ Some (Ok wanted.Complete) → offered_fragments w.offers slots ≡ o → Ends Any (after_chain w s slots o)
     ends_after_chain s slots (Err x) ws h e = ends_respond s slots status.Error (Refused (refusal.Size x) 0 (length slots))
     ends_after_chain s slots (Ok fs) ws h e =
-        let few = chain_few slots fs ws h e in
+        let few = chain_few w.offers slots fs ws h e in
         ends_bind IsPacket Any (copy w fs []) (after_copy w s slots)
         (ends_by Any IsPacket (copy w fs []) (ends_copy fs [])
-        (λ t o r. let c = copy_parts w fs t o r in is_packet o (sum_by fragment_size fs) few.0.size (copy_short w fs t o c) (copy_bytes w fs t o c)))
+        (λ t o r. let c = copy_parts w fs t o r in is_packet o (sum_by fragment_size fs) few.size (copy_short w fs t o c) (copy_bytes w fs t o c)))
         (λ o p. ends_after_copy s slots o p)
 
     ends_after_scan : (s : State) (x : Scan) → IsChain x → Ends Any (after_scan w s x)
     ends_after_scan s (Err cause) h = tt
-    ends_after_scan s (Ok slots) h = ends_after_chain s slots (fragments_of slots) h.0 h.1 refl
+    ends_after_scan s (Ok slots) h = ends_after_chain s slots (offered_fragments w.offers slots) h.0 h.1 refl
 
     ends_seen : (t : ℕ) (o : Option ℕ) → Ends Any (seen w t o)
     ends_seen t None = tt

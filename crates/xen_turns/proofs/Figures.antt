@@ -15,9 +15,13 @@ use Rattle.std.proofs.lemmas.List.{length-take}
 use Rattle.std.proofs.lemmas.List.Sums.{sum_by-cons}
 use Rattle.bpf_note.specs.declared.op.Op.{Op}
 use Rattle.bpf_note.specs.declared.op.Op.TheVariants as op
-use Rattle.xen_netif.specs.Chain.{Slot, extra_info, more_data}
+use Rattle.xen_netif.specs.Chain.{Slot}
 use Rattle.xen_netif.specs.Copy.{copy_of}
-use Rattle.xen_netif.specs.Fragments.{fragment_of, fragment_size, fragments_of, is_in_page, later_fragment, slot_size, split}
+use Rattle.xen_netif.specs.Fragments.{fragment_of, fragment_size, is_in_page, later_fragment, sized_fragments, slot_size, split}
+use Rattle.xen_netif.specs.Segments.{no_offers, offered_fragments}
+use Rattle.xen_netif.specs.declared.segments.Offers.{Offers}
+use Rattle.xen_netif.proofs.FragmentLemmas.{few_later}
+use Rattle.xen_netif.proofs.SegmentLemmas.{few_behind, plain_taken, taken_of}
 use Rattle.xen_netif.specs.Standing.{standing}
 use Rattle.xen_netif.specs.declared.chain.ChainState.TheVariants as wanted
 use Rattle.xen_netif.specs.declared.fault.SizeFault.TheVariants as size_fault
@@ -40,7 +44,7 @@ use Rattle.xen_turns.specs.Turned.{Turned}
 use Rattle.xen_turns.specs.Turns.{HasRun, IsTurn, still_halted, idle, overflown, short, broken, refused_sizes, refused_grant, ran, halted_rx, refused_few, refused_rx, ran_tx}
 use Rattle.xen_turns.specs.declared.state.State.{State}
 use Rattle.xen_turns.specs.declared.wiring.Wiring.{Wiring}
-use Rattle.xen_turns.proofs.Bounds.{data_length, standing_length, responses_length}
+use Rattle.xen_turns.proofs.Bounds.{standing_length, responses_length}
 use Rattle.xen_turns.proofs.WalkLemmas.{walk_length}
 use Rattle.xen_page.specs.declared.entry.Rights.TheVariants.{ReadOnly}
 
@@ -123,25 +127,40 @@ slot_small (a ∷ b ∷ []) h = absurd h
 slot_small (a ∷ b ∷ c ∷ []) h = omega (arith, h.2)
 slot_small (a ∷ b ∷ c ∷ d ∷ s) h = absurd h
 
-pub chain_few : (slots : List Slot) (fs : List Fragment) → AllWords slots → standing slots ≡ Some (Ok wanted.Complete) → fragments_of slots ≡ Ok fs → AreFew fs × (length slots ≤ 18)
-chain_few [] fs h v e = let same : [] ≡ fs = cc in (subst AreFew same (record { count = omega arith; size = omega arith }), omega arith)
-chain_few (first ∷ later) fs h v e = by (extra_info first) (nat_lt (slot_size first) 14) (nat_lt (slot_size first) (sum_by slot_size later)) (list_all is_in_page (split first later)) refl refl e
+sized_few : (first : Slot) (later : List Slot) (fs : List Fragment) → slot_size first < 2 ^ 16 → length later ≤ 17 → sized_fragments first later ≡ Ok fs → AreFew fs
+sized_few first later fs small l e = by (nat_lt (slot_size first) 14) (nat_lt (slot_size first) (sum_by slot_size later)) (list_all is_in_page (split first later)) refl e
   where
-    by : (a b c d : Bool) → extra_info first ≡ a → nat_lt (slot_size first) (sum_by slot_size later) ≡ c →
-        (if a then Err size_fault.ExtraInfo else (if b then Err size_fault.ShortPacket else (if c then Err size_fault.LaterSizes else (if d then Ok (split first later) else Err size_fault.PastPage)))) ≡ Ok fs →
-        AreFew fs × (length (first ∷ later) ≤ 18)
-    by true b c d x y e = cc
-    by false true c d x y e = cc
-    by false false true d x y e = cc
-    by false false false false x y e = cc
-    by false false false true x y e =
+    by : (b c d : Bool) → nat_lt (slot_size first) (sum_by slot_size later) ≡ c →
+        (if b then Err size_fault.ShortPacket else (if c then Err size_fault.LaterSizes else (if d then Ok (split first later) else Err size_fault.PastPage))) ≡ Ok fs → AreFew fs
+    by true c d y e = cc
+    by false true d y e = cc
+    by false false false y e = cc
+    by false false true y e =
         let same : split first later ≡ fs = cc in
         let some : sum_by slot_size later ≤ slot_size first = grind (arith, nat_tests) in
-        let small : slot_size first < 2 ^ 16 = slot_small first h.0 in
-        let all_data : Rattle.xen_netif.specs.Standing.after_data 17 (more_data first) later ≡ Some (Ok wanted.Complete) = subst (λ b. Rattle.xen_netif.specs.Standing.after_extra 5 b (more_data first) later ≡ Some (Ok wanted.Complete)) x v in
-        let l = data_length 17 (more_data first) later wanted.Complete all_data in
         let total : sum_by fragment_size (split first later) ≡ slot_size first - sum_by slot_size later + sum_by slot_size later = sum_by-cons fragment_size (fragment_of first (slot_size first - sum_by slot_size later)) (map later_fragment later) ∙ ap (λ k. slot_size first - sum_by slot_size later + k) (later_sizes later) in
-        (subst AreFew same (record { count = omega (arith, l, later_count later); size = omega (arith, total, some, small) }), omega (arith, l))
+        subst AreFew same (record { count = omega (arith, l, later_count later); size = omega (arith, total, some, small) })
+
+pub chain_few : (o : Offers) (slots : List Slot) (fs : List Fragment) → AllWords slots → standing slots ≡ Some (Ok wanted.Complete) → offered_fragments o slots ≡ Ok fs → AreFew fs
+chain_few o [] fs h v e = let same : [] ≡ fs = cc in subst AreFew same (record { count = omega arith; size = omega arith })
+chain_few o (first ∷ later) fs h v e =
+    let t = taken_of o first later fs e in
+    sized_few first t.rest fs (slot_small first h.0) (few_behind o first later t.rest v t.behind) t.sized
+
+-- a chain whose packet is taken has at most so many slots more than eighteen
+abbrev pub FewSlots : Offers → ℕ → Type 0
+FewSlots o k = (slots : List Slot) (fs : List Fragment) → standing slots ≡ Some (Ok wanted.Complete) → offered_fragments o slots ≡ Ok fs → length slots ≤ 18 + k
+
+-- an extra at most, and none where nothing is offered
+pub one_more : (o : Offers) → FewSlots o 1
+one_more o [] fs v e = omega arith
+one_more o (first ∷ later) fs v e =
+    let t = taken_of o first later fs e in
+    omega (arith, t.most, few_behind o first later t.rest v t.behind)
+
+pub none_more : FewSlots no_offers 0
+none_more [] fs v e = omega arith
+none_more (first ∷ later) fs v e = omega (arith, few_later first later v (plain_taken first later fs e))
 
 -- the slots that were read: at most 24, since all but the last want more
 open_length : (slots : List Slot) → IsTrue (is_open (standing slots)) → length slots ≤ 23
@@ -173,48 +192,50 @@ n_read w s m p1 p2 slots h =
     let l = n_slots w s.tx_index 0 slots in
     (n_look w s.tx_index p1 (Some m) h.look, subst (λ q. n q ≤ 3 * length slots) (sym e) l)
 
--- of what precedes a response: at most 18 slots, and a packet of at most 65,535 bytes
-n_run : (w : Wiring) (s : State) (p : List Event) (slots : List Slot) (out : Left) → HasRun w s p slots out → (n p ≤ 16503) × (length slots ≤ 18) × (length out.packet ≤ 65535)
-n_run w s p slots out h =
-    let few = chain_few slots h.fragments h.read.read.words (standing_chain slots h.whole) h.sizes in
+-- of what precedes a response: few slots, and a packet of at most 65,535 bytes
+n_run : (w : Wiring) (k : ℕ) → FewSlots w.offers k → (s : State) (p : List Event) (slots : List Slot) (out : Left) → HasRun w s p slots out →
+    (n p ≤ 16503 + 3 * k) × (length slots ≤ 18 + k) × (length out.packet ≤ 65535)
+n_run w k most s p slots out h =
+    let few = chain_few w.offers slots h.fragments h.read.read.words (standing_chain slots h.whole) h.sizes in
+    let short_chain = most slots h.fragments (standing_chain slots h.whole) h.sizes in
     let c = n_copy w h.fragments h.copies (Some h.packet) h.copied in
     let r = n_read w s h.n h.looks h.reads slots h.read in
     let none : n h.runs ≡ 0 = ap n h.ran.events ∙ n_program h.ran.labels in
     let same : n p ≡ n (h.looks ++ (h.reads ++ (h.copies ++ h.runs))) = ap n h.joined in
     let short : length h.packet ≤ sum_by fragment_size h.fragments = copy_short w h.fragments h.copies (Some h.packet) h.copied in
     let kept : length out.packet ≡ length h.packet = walk_length w.program.now.code h.ran.r0 out.packet (start_state w.program.now.shapes w.lists.now h.packet w.ifindex w.queue) h.ran.labels h.ran.walk in (
-      omega (arith, few.0.count, few.0.size, few.1, c, r.0, r.1, none, same, n_append h.looks (h.reads ++ (h.copies ++ h.runs)), n_append h.reads (h.copies ++ h.runs), n_append h.copies h.runs),
-      few.1,
-      omega (arith, short, kept, few.0.size),
+      omega (arith, few.count, few.size, short_chain, c, r.0, r.1, none, same, n_append h.looks (h.reads ++ (h.copies ++ h.runs)), n_append h.reads (h.copies ++ h.runs), n_append h.copies h.runs),
+      short_chain,
+      omega (arith, short, kept, few.size),
     )
 
-pub turn_accesses : (w : Wiring) (s : State) (p : List Event) (new : State) (u : Turned) → IsTurn w s p new u → length (accesses p) ≤ 33026
-turn_accesses w s _ _ _ (still_halted cause h) = omega arith
-turn_accesses w s _ _ _ (idle p1 h l) = omega (arith, n_look w s.tx_index p1 (Some 0) l)
-turn_accesses w s _ _ _ (overflown p1 h l) = omega (arith, n_look w s.tx_index p1 None l)
-turn_accesses w s _ _ _ (short p1 p2 m slots a e v) = let r = n_read w s m p1 p2 slots a in omega (arith, n_append p1 p2, r.0, r.1, read_few slots (λ k l. open_beginning (take k slots) (a.read.wanted k l)))
-turn_accesses w s _ _ _ (broken p1 p2 m slots fault a v) = let r = n_read w s m p1 p2 slots a in omega (arith, n_append p1 p2, r.0, r.1, read_few slots (λ k l. open_beginning (take k slots) (a.read.wanted k l)))
-turn_accesses w s _ _ _ (refused_sizes p1 p2 p6 m slots fault a v f g) =
+pub turn_accesses : (w : Wiring) (k : ℕ) → FewSlots w.offers k → (s : State) (p : List Event) (new : State) (u : Turned) → IsTurn w s p new u → length (accesses p) ≤ 33026 + 4 * k
+turn_accesses w k most s _ _ _ (still_halted cause h) = omega arith
+turn_accesses w k most s _ _ _ (idle p1 h l) = omega (arith, n_look w s.tx_index p1 (Some 0) l)
+turn_accesses w k most s _ _ _ (overflown p1 h l) = omega (arith, n_look w s.tx_index p1 None l)
+turn_accesses w k most s _ _ _ (short p1 p2 m slots a e v) = let r = n_read w s m p1 p2 slots a in omega (arith, n_append p1 p2, r.0, r.1, read_few slots (λ k l. open_beginning (take k slots) (a.read.wanted k l)))
+turn_accesses w k most s _ _ _ (broken p1 p2 m slots fault a v) = let r = n_read w s m p1 p2 slots a in omega (arith, n_append p1 p2, r.0, r.1, read_few slots (λ k l. open_beginning (take k slots) (a.read.wanted k l)))
+turn_accesses w k most s _ _ _ (refused_sizes p1 p2 p6 m slots fault a v f g) =
     let r = n_read w s m p1 p2 slots a in
     omega (arith, n_append p1 (p2 ++ p6), n_append p2 p6, r.0, r.1, read_few slots (λ k l. open_beginning (take k slots) (a.read.wanted k l)), n_respond w s.tx_index slots Error p6 g)
-turn_accesses w s _ _ _ (refused_grant p1 p2 p3 p6 m slots fragments a v f c g) =
+turn_accesses w k most s _ _ _ (refused_grant p1 p2 p3 p6 m slots fragments a v f c g) =
     let r = n_read w s m p1 p2 slots a in
-    let few = chain_few slots fragments a.read.words (standing_chain slots v) f in
-    omega (arith, n_append p1 (p2 ++ (p3 ++ p6)), n_append p2 (p3 ++ p6), n_append p3 p6, r.0, r.1, few.0.count, few.0.size, few.1, n_copy w fragments p3 None c, n_respond w s.tx_index slots Error p6 g)
-turn_accesses w s _ _ _ (ran p p6 slots out a e g) =
-    let r = n_run w s p slots out a in
+    let few = chain_few w.offers slots fragments a.read.words (standing_chain slots v) f in
+    omega (arith, n_append p1 (p2 ++ (p3 ++ p6)), n_append p2 (p3 ++ p6), n_append p3 p6, r.0, r.1, few.count, few.size, most slots fragments (standing_chain slots v) f, n_copy w fragments p3 None c, n_respond w s.tx_index slots Error p6 g)
+turn_accesses w k most s _ _ _ (ran p p6 slots out a e g) =
+    let r = n_run w k most s p slots out a in
     omega (arith, n_append p p6, r.0, r.1, n_respond w s.tx_index slots (status_of out.number) p6 g)
-turn_accesses w s _ _ _ (halted_rx p p5 slots out a e t) =
-    let r = n_run w s p slots out a in
+turn_accesses w k most s _ _ _ (halted_rx p p5 slots out a e t) =
+    let r = n_run w k most s p slots out a in
     omega (arith, n_append p p5, r.0, n_transmit w.vif s.rx_index out.packet p5 _ r.2 t)
-turn_accesses w s _ _ _ (refused_few p p5 p6 slots out a e t g) =
-    let r = n_run w s p slots out a in
+turn_accesses w k most s _ _ _ (refused_few p p5 p6 slots out a e t g) =
+    let r = n_run w k most s p slots out a in
     omega (arith, n_append p (p5 ++ p6), n_append p5 p6, r.0, r.1, n_transmit w.vif s.rx_index out.packet p5 _ r.2 t, n_respond w s.tx_index slots Error p6 g)
-turn_accesses w s _ _ _ (refused_rx p p5 p6 used slots out a e t g) =
-    let r = n_run w s p slots out a in
+turn_accesses w k most s _ _ _ (refused_rx p p5 p6 used slots out a e t g) =
+    let r = n_run w k most s p slots out a in
     omega (arith, n_append p (p5 ++ p6), n_append p5 p6, r.0, r.1, n_transmit w.vif s.rx_index out.packet p5 _ r.2 t, n_respond w s.tx_index slots Error p6 g)
-turn_accesses w s _ _ _ (ran_tx p p5 p6 used slots out a e t g) =
-    let r = n_run w s p slots out a in
+turn_accesses w k most s _ _ _ (ran_tx p p5 p6 used slots out a e t g) =
+    let r = n_run w k most s p slots out a in
     omega (arith, n_append p (p5 ++ p6), n_append p5 p6, r.0, r.1, n_transmit w.vif s.rx_index out.packet p5 _ r.2 t, n_respond w s.tx_index slots Okay p6 g)
 
 -- the instructions and the notices

@@ -8,7 +8,7 @@ use Rattle.bpf_note.specs.declared.op.Op.{Op}
 use Rattle.bpf_note.specs.declared.op.Op.TheVariants as op
 use Rattle.xen_netif.specs.Chain.{Slot}
 use Rattle.xen_netif.specs.Copy.{copy_of, covered}
-use Rattle.xen_netif.specs.Fragments.{fragments_of}
+use Rattle.xen_netif.specs.Segments.{offered_fragments}
 use Rattle.xen_netif.specs.declared.fault.SizeFault.{SizeFault}
 use Rattle.xen_netif.specs.declared.fragment.Fragment.{Fragment}
 use Rattle.xen_page.specs.Entry.{entry_of}
@@ -232,7 +232,7 @@ chain_reads w s n p1 p2 q slots rest h e =
     }
 
 -- a packet of wrong sizes
-size_reads : (w : Wiring) (s : State) (n : ℕ) (p1 p2 p6 : List Event) (slots : List Slot) (fault : SizeFault) → HasRead w s n p1 p2 slots → fragments_of slots ≡ Err fault → IsRespond w s.tx_index slots status.Error p6 → SizeReads w s (p1 ++ (p2 ++ p6)) fault (length slots) (notice_reads w)
+size_reads : (w : Wiring) (s : State) (n : ℕ) (p1 p2 p6 : List Event) (slots : List Slot) (fault : SizeFault) → HasRead w s n p1 p2 slots → offered_fragments w.offers slots ≡ Err fault → IsRespond w s.tx_index slots status.Error p6 → SizeReads w s (p1 ++ (p2 ++ p6)) fault (length slots) (notice_reads w)
 size_reads w s n p1 p2 p6 slots fault h e g = record {
   slots = slots;
   counted = refl;
@@ -245,7 +245,7 @@ within_joined : (p1 p2 p3 p6 : List Event) → Within p3 (p1 ++ (p2 ++ (p3 ++ p6
 within_joined p1 p2 p3 p6 e h = Contains-append_right p1 (p2 ++ (p3 ++ p6)) e (Contains-append_right p2 (p3 ++ p6) e (Contains-append_left p3 p6 e h))
 
 -- a packet of which a grant fails
-grant_reads : (w : Wiring) (s : State) (n : ℕ) (p1 p2 p3 p6 : List Event) (slots : List Slot) (fs : List Fragment) → HasRead w s n p1 p2 slots → fragments_of slots ≡ Ok fs → IsCopy w fs p3 None → IsRespond w s.tx_index slots status.Error p6 → GrantReads w s (p1 ++ (p2 ++ (p3 ++ p6))) (length slots) (notice_reads w)
+grant_reads : (w : Wiring) (s : State) (n : ℕ) (p1 p2 p3 p6 : List Event) (slots : List Slot) (fs : List Fragment) → HasRead w s n p1 p2 slots → offered_fragments w.offers slots ≡ Ok fs → IsCopy w fs p3 None → IsRespond w s.tx_index slots status.Error p6 → GrantReads w s (p1 ++ (p2 ++ (p3 ++ p6))) (length slots) (notice_reads w)
 grant_reads w s n p1 p2 p3 p6 slots fs h e k g =
     let copies = fragments_once w fs p3 None k in
     let later : places_read (p3 ++ p6) ≡ copy_places w fs copies.0 ++ notice_reads w =

@@ -82,7 +82,7 @@ of_read w s n p1 p2 slots h = (of_look w s.tx_index p1 (Some n) h.look, subst (�
 of_run : (w : Wiring) (s : State) (p : List Event) (slots : List Slot) (out : Left) → HasRun w s p slots out → AllAllowed w.vif p p
 of_run w s p slots out h =
     let r = of_read w s h.n h.looks h.reads slots h.read in
-    let c = of_copy w h.fragments h.copies (Some h.packet) (fragments_are slots h.fragments h.sizes).in_page h.copied in
+    let c = of_copy w h.fragments h.copies (Some h.packet) (fragments_are w.offers slots h.fragments h.sizes).in_page h.copied in
     let g : AllAllowed w.vif h.runs h.runs = subst (λ l. AllAllowed w.vif h.runs l) (sym h.ran.events) (of_program w h.runs h.ran.labels) in
     subst (λ l. AllAllowed w.vif l l) (sym h.joined) (both w.vif h.looks (h.reads ++ (h.copies ++ h.runs)) r.0 (both w.vif h.reads (h.copies ++ h.runs) r.1 (both w.vif h.copies h.runs c g)))
 
@@ -96,7 +96,7 @@ turn_touches w s _ _ _ (refused_sizes p1 p2 p6 n slots fault a v f g) =
     let r = of_read w s n p1 p2 slots a in both w.vif p1 (p2 ++ p6) r.0 (both w.vif p2 p6 r.1 (of_respond w s.tx_index slots Error p6 g))
 turn_touches w s _ _ _ (refused_grant p1 p2 p3 p6 n slots fragments a v f c g) =
     let r = of_read w s n p1 p2 slots a in
-    both w.vif p1 (p2 ++ (p3 ++ p6)) r.0 (both w.vif p2 (p3 ++ p6) r.1 (both w.vif p3 p6 (of_copy w fragments p3 None (fragments_are slots fragments f).in_page c) (of_respond w s.tx_index slots Error p6 g)))
+    both w.vif p1 (p2 ++ (p3 ++ p6)) r.0 (both w.vif p2 (p3 ++ p6) r.1 (both w.vif p3 p6 (of_copy w fragments p3 None (fragments_are w.offers slots fragments f).in_page c) (of_respond w s.tx_index slots Error p6 g)))
 turn_touches w s _ _ _ (ran p p6 slots out a e g) = both w.vif p p6 (of_run w s p slots out a) (of_respond w s.tx_index slots (status_of out.number) p6 g)
 turn_touches w s _ _ _ (halted_rx p p5 slots out a e t) = both w.vif p p5 (of_run w s p slots out a) (of_transmit w.vif s.rx_index out.packet p5 _ t)
 turn_touches w s _ _ _ (refused_few p p5 p6 slots out a e t g) = both w.vif p (p5 ++ p6) (of_run w s p slots out a) (both w.vif p5 p6 (of_transmit w.vif s.rx_index out.packet p5 _ t) (of_respond w s.tx_index slots Error p6 g))

@@ -5,7 +5,7 @@ use Rattle.std.specs.Prelude.{◌==◌, if◌then◌else◌}
 use Rattle.std.proofs.lemmas.Bool.Decides.{nat_tests}
 use Rattle.std.proofs.lemmas.List.{append-nil}
 use Rattle.xen_netif.specs.Chain.{Slot}
-use Rattle.xen_netif.specs.Fragments.{fragments_of}
+use Rattle.xen_netif.specs.Segments.{offered_fragments}
 use Rattle.xen_netif.specs.Standing.{standing}
 use Rattle.xen_netif.specs.declared.chain.ChainState.{ChainState}
 use Rattle.xen_netif.specs.declared.chain.ChainState.TheVariants as wanted
@@ -40,7 +40,7 @@ use Rattle.xen_steps.proofs.StepsLemmas.{split}
 
 -- a program's run on a packet that was read and copied, from its parts
 abbrev pub run_parts : (w : Wiring) (s : State) (p1 p2 p3 p4 : List Event) (n : ℕ) (slots : List Slot) (fragments : List Fragment) (bytes : List ℕ) (out : Left) →
-    HasRead w s n p1 p2 slots → standing slots ≡ Some (Ok wanted.Complete) → fragments_of slots ≡ Ok fragments → IsCopy w fragments p3 (Some bytes) →
+    HasRead w s n p1 p2 slots → standing slots ≡ Some (Ok wanted.Complete) → offered_fragments w.offers slots ≡ Ok fragments → IsCopy w fragments p3 (Some bytes) →
     Runs (program (run_of w bytes) 0) p4 out → HasRun w s (p1 ++ (p2 ++ (p3 ++ p4))) slots out
 run_parts w s p1 p2 p3 p4 n slots fragments bytes out read whole sizes copied done = record {
   looks = p1;
@@ -215,7 +215,7 @@ module _ (w : Wiring) (s : State) where
       let g = respond_parts w s slots (status_of out.number) (Ran out.number out.packet out.ops (length slots)) q r h in
       ended w s (p ++ q) r _ _ g.1 (ran p q slots out a (grind (arith, nat_tests)) g.0)
 
-  program_rows : (p1 p2 p3 p : List Event) (n : ℕ) (slots : List Slot) (fragments : List Fragment) (r : Ending) → HasRead w s n p1 p2 slots → standing slots ≡ Some (Ok wanted.Complete) → fragments_of slots ≡ Ok fragments →
+  program_rows : (p1 p2 p3 p : List Event) (n : ℕ) (slots : List Slot) (fragments : List Fragment) (r : Ending) → HasRead w s n p1 p2 slots → standing slots ≡ Some (Ok wanted.Complete) → offered_fragments w.offers slots ≡ Ok fragments →
       (o : Option (List ℕ)) → IsCopy w fragments p3 o → Runs (after_copy w s slots o) p r → IsTurn w s (p1 ++ (p2 ++ (p3 ++ p))) r.0 r.1
   program_rows p1 p2 p3 p n slots fragments r a v f None c h =
       let q = respond_parts w s slots Error (Refused refusal.Grant 0 (length slots)) p r h in
@@ -227,7 +227,7 @@ module _ (w : Wiring) (s : State) where
       (run_rows (p1 ++ (p2 ++ (p3 ++ i.front))) i.back slots i.mid r run (i.mid.number == 3) refl i.later)
 
   chain_rows : (p1 p2 p : List Event) (n : ℕ) (slots : List Slot) (r : Ending) → HasRead w s n p1 p2 slots → standing slots ≡ Some (Ok wanted.Complete) →
-      (o : Result (List Fragment) SizeFault) → fragments_of slots ≡ o → Runs (after_chain w s slots o) p r → IsTurn w s (p1 ++ (p2 ++ p)) r.0 r.1
+      (o : Result (List Fragment) SizeFault) → offered_fragments w.offers slots ≡ o → Runs (after_chain w s slots o) p r → IsTurn w s (p1 ++ (p2 ++ p)) r.0 r.1
   chain_rows p1 p2 p n slots r a v (Err fault) f h =
       let q = respond_parts w s slots Error (Refused (refusal.Size fault) 0 (length slots)) p r h in
       ended w s (p1 ++ (p2 ++ p)) r _ _ q.1 (refused_sizes p1 p2 p n slots fault a (chain_by slots v) f q.0)
@@ -236,7 +236,7 @@ module _ (w : Wiring) (s : State) where
       rw i.joined (program_rows p1 p2 i.front i.back n slots fragments r a v f i.mid (copy_parts w fragments i.front i.mid i.first) i.later)
 
   scan_rows : (p1 p2 p : List Event) (n : ℕ) (slots : List Slot) (x : Scan) (r : Ending) → HasRead w s n p1 p2 slots → ScanEnds n [] slots x → Runs (after_scan w s x) p r → IsTurn w s (p1 ++ (p2 ++ p)) r.0 r.1
-  scan_rows p1 p2 p n slots _ r a (is_whole v) h = chain_rows p1 p2 p n slots r a v (fragments_of slots) refl h
+  scan_rows p1 p2 p n slots _ r a (is_whole v) h = chain_rows p1 p2 p n slots r a v (offered_fragments w.offers slots) refl h
   scan_rows p1 p2 [] n slots _ r a (is_faulty fault v) h = ended w s (p1 ++ (p2 ++ [])) r _ _ h (rw append-nil (broken p1 p2 n slots fault a (fault_by slots fault v)))
   scan_rows p1 p2 (y ∷ p) n slots _ r a (is_faulty fault v) h = absurd h
   scan_rows p1 p2 [] n slots _ r a (none_left e v) h = ended w s (p1 ++ (p2 ++ [])) r _ _ h (rw append-nil (short p1 p2 n slots a e (beginning_by slots v)))

@@ -5,7 +5,7 @@ use Rattle.std.specs.Prelude.{◌==◌, if◌then◌else◌}
 use Rattle.std.proofs.lemmas.Bool.Decides.{nat_tests}
 use Rattle.std.proofs.lemmas.List.{append-nil}
 use Rattle.xen_netif.specs.Chain.{Slot}
-use Rattle.xen_netif.specs.Fragments.{fragments_of}
+use Rattle.xen_netif.specs.Segments.{offered_fragments}
 use Rattle.xen_netif.specs.Standing.{standing}
 use Rattle.xen_netif.specs.declared.chain.ChainState.{ChainState}
 use Rattle.xen_netif.specs.declared.chain.ChainState.TheVariants as wanted
@@ -150,7 +150,7 @@ scanned_runs : (w : Wiring) (s : State) (p1 p2 p : List Event) (n : ℕ) (slots 
     Runs (after_scan w s x) p r → Runs (whole_turn w s) (p1 ++ (p2 ++ p)) r
 scanned_runs w s p1 p2 p n slots x r a en g = scanned_by w s p1 p2 p n slots x r a en a.some a.look a.read g
 
-chain_runs : (w : Wiring) (s : State) (p1 p2 p : List Event) (n : ℕ) (slots : List Slot) (o : Result (List Fragment) SizeFault) (r : Ending) → HasRead w s n p1 p2 slots → standing slots ≡ Some (Ok wanted.Complete) → fragments_of slots ≡ o →
+chain_runs : (w : Wiring) (s : State) (p1 p2 p : List Event) (n : ℕ) (slots : List Slot) (o : Result (List Fragment) SizeFault) (r : Ending) → HasRead w s n p1 p2 slots → standing slots ≡ Some (Ok wanted.Complete) → offered_fragments w.offers slots ≡ o →
     Runs (after_chain w s slots o) p r → Runs (whole_turn w s) (p1 ++ (p2 ++ p)) r
 chain_runs w s p1 p2 p n slots o r a v f g = scanned_runs w s p1 p2 p n slots (Ok slots) r a (is_whole v) (subst (λ (o : Result (List Fragment) SizeFault). Runs (after_chain w s slots o) p r) (sym f) g)
 

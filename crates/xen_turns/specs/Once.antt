@@ -5,7 +5,7 @@ use Rattle.std.specs.Prelude.{[], ◌∷◌, ◌++◌, Option, None, Some, Ok, E
 use Rattle.std.specs.List.{Contains}
 use Rattle.xen_netif.specs.Chain.{Slot}
 use Rattle.xen_netif.specs.Copy.{covered}
-use Rattle.xen_netif.specs.Fragments.{fragments_of}
+use Rattle.xen_netif.specs.Segments.{offered_fragments}
 use Rattle.xen_netif.specs.declared.fault.SizeFault.{SizeFault}
 use Rattle.xen_netif.specs.declared.fragment.Fragment.{Fragment}
 use Rattle.xen_page.specs.Mapping.{frame_place}
@@ -135,7 +135,7 @@ pub record SlotsRead (w : Wiring) (s : State) (p : List Event) (slots : List Slo
 pub record SizeReads (w : Wiring) (s : State) (p : List Event) (fault : SizeFault) (count : ℕ) (last : List Place) : Type 0 where
   pub slots : List Slot
   pub counted : length slots ≡ count
-  pub sizes : fragments_of slots ≡ Err fault
+  pub sizes : offered_fragments w.offers slots ≡ Err fault
   pub read : SlotsRead w s p slots last
 
 -- A packet of which a grant fails its check: the fragments up to that one.
@@ -143,7 +143,7 @@ pub record GrantReads (w : Wiring) (s : State) (p : List Event) (count : ℕ) (l
   pub slots : List Slot
   pub counted : length slots ≡ count
   pub fragments : List Fragment
-  pub sizes : fragments_of slots ≡ Ok fragments
+  pub sizes : offered_fragments w.offers slots ≡ Ok fragments
   pub frames : List ℕ
   pub granted : AreGranted w fragments frames p
   pub denied : length frames < length fragments
@@ -154,7 +154,7 @@ pub record TurnReads (w : Wiring) (s : State) (p : List Event) (count : ℕ) (la
   pub slots : List Slot
   pub counted : length slots ≡ count
   pub fragments : List Fragment
-  pub sizes : fragments_of slots ≡ Ok fragments
+  pub sizes : offered_fragments w.offers slots ≡ Ok fragments
   pub frames : List ℕ
   pub granted : AreGranted w fragments frames p
   pub whole : length frames ≡ length fragments

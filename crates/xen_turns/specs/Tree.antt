@@ -6,7 +6,7 @@ use Rattle.bpf_verify.specs.Consistent.{instructions}
 use Rattle.bpf_vm.specs.Course.{Course, Exiting, Stepping, Loading, Adding, Broken, course, start_state}
 use Rattle.xen_netif.specs.Chain.{Slot}
 use Rattle.xen_steps.specs.Pages.{copy_words, covered}
-use Rattle.xen_netif.specs.Fragments.{fragments_of}
+use Rattle.xen_netif.specs.Segments.{offered_fragments}
 use Rattle.xen_netif.specs.Standing.{standing}
 use Rattle.xen_netif.specs.declared.chain.ChainState.{ChainState}
 use Rattle.xen_netif.specs.declared.chain.ChainState.TheVariants as wanted
@@ -144,7 +144,7 @@ after_chain w s slots (Ok fragments) = bind (copy w fragments []) (after_copy w 
 
 abbrev pub after_scan : Wiring → State → Scan → Steps Ending
 after_scan w s (Err cause) = halted s cause
-after_scan w s (Ok slots) = after_chain w s slots (fragments_of slots)
+after_scan w s (Ok slots) = after_chain w s slots (offered_fragments w.offers slots)
 
 abbrev pub after_look : Wiring → State → Option ℕ → Steps Ending
 after_look w s None = halted s halt.TxProducer

@@ -2,7 +2,7 @@
 -- What a turn is: its trace is the joining of parts.
 use Rattle.std.specs.Prelude.{ℕ, ◌≡◌, ◌≢◌, List, [], ◌++◌, Some, None, Ok, Err, length}
 use Rattle.xen_netif.specs.Chain.{HasFault, IsChain, Slot}
-use Rattle.xen_netif.specs.Fragments.{fragments_of}
+use Rattle.xen_netif.specs.Segments.{offered_fragments}
 use Rattle.xen_netif.specs.declared.fault.ChainFault.{ChainFault}
 use Rattle.xen_netif.specs.declared.fault.SizeFault.{SizeFault}
 use Rattle.xen_netif.specs.declared.fragment.Fragment.{Fragment}
@@ -32,7 +32,7 @@ pub record HasRun (w : Wiring) (s : State) (p : List Event) (slots : List Slot) 
   pub packet : List ℕ
   pub read : HasRead w s n looks reads slots
   pub whole : IsChain slots
-  pub sizes : fragments_of slots ≡ Ok fragments
+  pub sizes : offered_fragments w.offers slots ≡ Ok fragments
   pub copied : IsCopy w fragments copies (Some packet)
   pub ran : IsProgram w packet runs out
 
@@ -47,11 +47,11 @@ pub data IsTurn (w : Wiring) (s : State) : List Event → State → Turned → T
   broken : (looks reads : List Event) (n : ℕ) (slots : List Slot) (fault : ChainFault) → HasRead w s n looks reads slots → HasFault fault slots →
       IsTurn w s (looks ++ reads) (record s { halt = Some (halt.Chain fault) }) (Halted (halt.Chain fault))
   refused_sizes : (looks reads answers : List Event) (n : ℕ) (slots : List Slot) (fault : SizeFault) → HasRead w s n looks reads slots → IsChain slots →
-      fragments_of slots ≡ Err fault → IsRespond w s.tx_index slots Error answers →
+      offered_fragments w.offers slots ≡ Err fault → IsRespond w s.tx_index slots Error answers →
       IsTurn w s (looks ++ (reads ++ answers)) (answered s (length slots)) (Refused (refusal.Size fault) 0 (length slots))
   refused_grant : (looks reads copies answers : List Event) (n : ℕ) (slots : List Slot) (fragments : List Fragment) → HasRead w s n looks reads slots →
       IsChain slots →
-      fragments_of slots ≡ Ok fragments → IsCopy w fragments copies None → IsRespond w s.tx_index slots Error answers →
+      offered_fragments w.offers slots ≡ Ok fragments → IsCopy w fragments copies None → IsRespond w s.tx_index slots Error answers →
       IsTurn w s (looks ++ (reads ++ (copies ++ answers))) (answered s (length slots)) (Refused refusal.Grant 0 (length slots))
   ran : (p answers : List Event) (slots : List Slot) (out : Left) → HasRun w s p slots out → out.number ≢ 3 →
       IsRespond w s.tx_index slots (status_of out.number) answers →

@@ -1,6 +1,7 @@
 //! Laws of turns, of deliveries and of waits.
 
 ghost use Rattle.std.specs.Prelude.{ℕ, ◌≡◌, ◌<◌, ◌≤◌, ◌^◌, ◌++◌, List, [], ◌∷◌, Option, length, true, false};
+ghost use Rattle.xen_netif.specs.Segments.{no_offers};
 ghost use Rattle.xen_netif.specs.declared.fragment.Fragment.{Fragment};
 ghost use Rattle.bpf_verify.specs.Consistent.{IsConsistent, instructions};
 ghost use Rattle.xen_steps.specs.Answers.{Fits, counter_in, number, word_in};
@@ -46,10 +47,13 @@ pub fn turns_are_rests()
         Runs (whole_turn w s) p (new, u) }
 {}
 
-/// A turn makes at most 33,026 accesses, has at most as many program events as its program has instructions, and sends at
-/// most two notices. It touches the rings, the table and the frames that were granted to it in that turn, and nothing else.
+/// A turn makes at most 33,030 accesses (33,026 if nothing is offered), has at most as many program events as its program has
+/// instructions, and sends at most two notices. It touches the rings, the table and the frames that were granted to it in that turn,
+/// and nothing else.
 pub fn turns_are_bounded()
     ensures accesses { (w : Wiring) (s : State) (p : List Event) (new : State) (u : Turned) → IsTurn w s p new u →
+        length (accesses p) ≤ 33030 }
+    ensures plain_accesses { (w : Wiring) → w.offers ≡ no_offers → (s : State) (p : List Event) (new : State) (u : Turned) → IsTurn w s p new u →
         length (accesses p) ≤ 33026 }
     ensures instructions { (w : Wiring) (s : State) (p : List Event) (new : State) (u : Turned) → IsTurn w s p new u →
         program_events p ≤ instructions w.program.now.code }

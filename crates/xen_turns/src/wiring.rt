@@ -2,12 +2,14 @@
 
 use bpf_lists::MapList;
 use bpf_verify::Verified;
+use xen_netif::Offers;
 use xen_rx_fill::Vif;
 
-/// What a queue shares with its frontend, and its program with the lists of its maps and the numbers that it sees.
+/// What a queue shares with its frontend and offers it, and its program with the lists of its maps and the numbers that it sees.
 #[derive(Clone, Copy)]
 pub struct Wiring<'p> {
     pub vif: Vif<'p>,
+    pub offers: Offers,
     pub program: &'p Verified,
     /// What is given for the maps that are no arrays, by the maps' numbers. A map without rows finds nothing, and one without
     /// constants reads 0.

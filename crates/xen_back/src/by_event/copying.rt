@@ -2,7 +2,8 @@
 
 ghost use Rattle.std.specs.Prelude.{◌≡◌, ◌<◌, ◌≤◌, ◌+◌, ◌-◌, ◌/◌, ◌++◌, List, ℕ, suc, length, drop, sum_by, Ok, Some};
 ghost use Rattle.xen_netif.specs.Copy.{Covers, bytes_in};
-ghost use Rattle.xen_netif.specs.Fragments.{fragment_size, fragments_of};
+ghost use Rattle.xen_netif.specs.Fragments.{fragment_size};
+ghost use Rattle.xen_netif.specs.Segments.{offered_fragments};
 ghost use Rattle.xen_netif.specs.Standing.{standing};
 ghost use Rattle.xen_netif.specs.declared.chain.ChainState.TheVariants.{Complete};
 ghost use Rattle.xen_netif.specs.declared.status.Status.TheVariants.{Error};
@@ -41,9 +42,9 @@ pub(crate) fn begin_copy<'p, 'b>(
     chain: Chain,
 ) -> Stage<'p, 'b>
     requires { standing chain ≡ Some (Ok Complete) }
-    ensures { rest_in wiring.now state.now result ≡ after_chain wiring.now state.now chain (fragments_of chain) }
+    ensures { rest_in wiring.now state.now result ≡ after_chain wiring.now state.now chain (offered_fragments wiring.now.offers chain) }
 {
-    match chain.fragments() {
+    match chain.offered_fragments(wiring.offers) {
         Err(fault) => Stage::At(packet, refuse(state, &chain, Refusal::Size(fault))),
         Ok(fragments) => {
             let mut packet = packet;

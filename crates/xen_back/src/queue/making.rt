@@ -69,6 +69,7 @@ impl<'p, 'b> Queue<'p, 'b> {
         };
         let wiring = Wiring {
             vif,
+            offers: desc.offers,
             program,
             lists,
             ifindex: desc.ifindex,

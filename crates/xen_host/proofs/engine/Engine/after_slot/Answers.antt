@@ -5,12 +5,13 @@ use Rattle.xdp_program.specs.Tallies.{Went}
 use Rattle.xen_host.specs.HostLed.{TurnRanLeads}
 use Rattle.xen_host.proofs.RanLedLemmas.{ran_from_same, ran_led}
 use Rattle.xen_netif.specs.Chain.{Slot}
-use Rattle.xen_netif.specs.Fragments.{fragments_of}
+use Rattle.xen_netif.specs.Segments.{offered_fragments, segments_of}
+use Rattle.xen_host.proofs.OffloadLemmas.{made, made_behind}
 use Rattle.xen_turns.specs.Tree.{after_chain, after_scan, judged, read_slots}
 use Rattle.xen_netif.specs.Standing.{standing}
 use Rattle.xen_netif.specs.declared.chain.ChainState.{ChainState}
 use Rattle.xen_netif.specs.declared.fault.ChainFault.{ChainFault}
-use Rattle.xen_netif.specs.declared.flags.TxFlags.{TxFlags}
+use Rattle.xen_host.specs.declared.offload.Offload.{Offload}
 use Rattle.xen_netif.specs.declared.chain.ChainState.TheVariants as wanted
 use Rattle.xen_host.specs.EngineAt.{engine_at}
 use Rattle.xen_host.proofs.engine.Engine.after_slot.Goals as goal
@@ -25,8 +26,9 @@ returns-in-Err g c =
     let same = ap (λ (o : Option (Result ChainState ChainFault)). bind (judged l o rest) (after_scan w q.state)) (c.push.ensures.standing ∙ ap (λ (r : Result ChainState ChainFault). Some r) c.in-Err.is) in
     let n = c.args.counters.now in
     let did = g.T.Tallies.did q.wires.program.now.shapes in
+    let st = c.push.ensures.standing ∙ ap (λ (r : Result ChainState ChainFault). Some r) c.in-Err.is in
     record {
-      led = subst (λ (f : TxFlags). TurnRanLeads g.H.Host.was_asked g.H.Host.is_full f from (engine_at q.wires (g.R.Room.held c.halt.new.packet) c.halt.new.self) (Went did n n) c.args.host.now c.halt.new.host) c.flags_behind-flags.ensures
+      led = subst (λ (f : Offload). TurnRanLeads g.H.Host.was_asked g.H.Host.is_full f from (engine_at q.wires (g.R.Room.held c.halt.new.packet) c.halt.new.self) (Went did n n) c.args.host.now c.halt.new.host) (made_behind w.offers q.work.chain c.args.slot q.offload _ _ c.flags_behind-flags.ensures st)
           (ran_led _ _ _ _ _ _ (Went (g.T.Tallies.did q.wires.program.now.shapes) c.args.counters.now c.args.counters.now) _ _ refl (sym same) (c.halt.ensures.led q.wires));
     }
 
@@ -39,9 +41,11 @@ returns-in-Ok-Complete g c =
     let from = bind (judged l (standing l) rest) (after_scan w q.state) in
     let is : standing l ≡ Some (Ok (wanted.Complete)) = c.push.ensures.standing ∙ ap (λ (r : Result ChainState ChainFault). Some r) (c.in-Ok-Complete.is ∙ ap (λ (x : ChainState). Ok x) c.in-Ok-Complete.field-0-is) in
     let same = ap (λ (o : Option (Result ChainState ChainFault)). bind (judged l o rest) (after_scan w q.state)) is in
-    let whole = ap (λ (x : List Slot). after_chain w q.state x (fragments_of x)) c.in-Ok-Complete.ensures.ok in
+    let whole = ap (λ (x : List Slot). after_chain w q.state x (offered_fragments w.offers x)) c.in-Ok-Complete.ensures.ok in
+    let segments : c.segments-self.result ≡ segments_of w.offers l = c.segments-self.ensures ∙ ap (λ o. segments_of o c.push.new.self) c.offers.ensures ∙ ap (segments_of w.offers) c.in-Ok-Complete.ensures.ok in
+    let offload = ap (made c.flags_behind-flags.result) segments ∙ made_behind w.offers q.work.chain c.args.slot q.offload _ (Some (Ok wanted.Complete)) c.flags_behind-flags.ensures is in
     record {
-      led = subst (λ (f : TxFlags). TurnRanLeads g.H.Host.was_asked g.H.Host.is_full f from (engine_at q.wires (g.R.Room.held c.begin_copy.new.packet) c.begin_copy.new.self) (Went (g.T.Tallies.did q.wires.program.now.shapes) c.args.counters.now c.begin_copy.new.counters) c.args.host.now c.begin_copy.new.host) c.flags_behind-flags.ensures
+      led = subst (λ (f : Offload). TurnRanLeads g.H.Host.was_asked g.H.Host.is_full f from (engine_at q.wires (g.R.Room.held c.begin_copy.new.packet) c.begin_copy.new.self) (Went (g.T.Tallies.did q.wires.program.now.shapes) c.args.counters.now c.begin_copy.new.counters) c.args.host.now c.begin_copy.new.host) offload
           (ran_from_same _ _ _ _ _ _ _ _ _ (whole ∙ sym same) c.begin_copy.ensures.led);
     }
 
@@ -58,7 +62,7 @@ returns-in-Ok-Data g c =
     let n = c.args.counters.now in
     let did = g.T.Tallies.did q.wires.program.now.shapes in
     record {
-      led = subst (λ (f : TxFlags). TurnRanLeads g.H.Host.was_asked g.H.Host.is_full f from (engine_at q.wires (g.R.Room.held c.more_slots.new.packet) c.more_slots.new.self) (Went did n n) c.args.host.now c.more_slots.new.host) c.flags_behind-flags.ensures
+      led = subst (λ (f : Offload). TurnRanLeads g.H.Host.was_asked g.H.Host.is_full f from (engine_at q.wires (g.R.Room.held c.more_slots.new.packet) c.more_slots.new.self) (Went did n n) c.args.host.now c.more_slots.new.host) (made_behind w.offers q.work.chain c.args.slot q.offload _ _ c.flags_behind-flags.ensures is)
           (ran_led _ _ _ _ _ _ (Went (g.T.Tallies.did q.wires.program.now.shapes) c.args.counters.now c.args.counters.now) _ _ refl (more ∙ sym same) c.more_slots.ensures.led);
     }
 
@@ -76,6 +80,6 @@ returns-in-Ok-Extra g c =
     let did = g.T.Tallies.did q.wires.program.now.shapes in
     let m = c.more_slots-in-Ok-Extra in
     record {
-      led = subst (λ (f : TxFlags). TurnRanLeads g.H.Host.was_asked g.H.Host.is_full f from (engine_at q.wires (g.R.Room.held m.new.packet) m.new.self) (Went did n n) c.args.host.now m.new.host) c.flags_behind-flags.ensures
+      led = subst (λ (f : Offload). TurnRanLeads g.H.Host.was_asked g.H.Host.is_full f from (engine_at q.wires (g.R.Room.held m.new.packet) m.new.self) (Went did n n) c.args.host.now m.new.host) (made_behind w.offers q.work.chain c.args.slot q.offload _ _ c.flags_behind-flags.ensures is)
           (ran_led _ _ _ _ _ _ (Went (g.T.Tallies.did q.wires.program.now.shapes) c.args.counters.now c.args.counters.now) _ _ refl (more ∙ sym same) m.ensures.led);
     }

@@ -4,6 +4,8 @@ use Rattle.xen_steps.specs.Steps.{bind}
 use Rattle.xdp_program.specs.Tallies.{Went}
 use Rattle.xen_host.proofs.RanLedLemmas.{ran_from_same, ran_led}
 use Rattle.xen_netif.specs.Chain.{Slot}
+use Rattle.xen_netif.specs.Segments.{offered_fragments}
+use Rattle.xen_netif.specs.declared.segments.Offers.{Offers}
 use Rattle.xen_netif.specs.declared.fault.SizeFault.{SizeFault}
 use Rattle.xen_netif.specs.declared.fragment.Fragment.{Fragment}
 use Rattle.xen_netif.specs.declared.status.Status.TheVariants.{Error}
@@ -19,8 +21,9 @@ returns-in-Err g c =
     let w = q.wires in
     let chain = q.work.chain in
     let fault = c.in-Err.fault in
+    let refused = ap (λ (o : Offers). offered_fragments o chain) (sym c.offers.ensures) ∙ c.in-Err.ensures.answer in
     let kept = ap (λ (l : List Slot). respond w q.state l Error (Refused (refusal.Size fault) 0 (length l))) c.place_fragments.ensures.chain in
-    record { led = ran_led _ _ _ _ _ _ (Went (g.T.Tallies.did q.wires.program.now.shapes) c.args.counters.now c.args.counters.now) _ _ refl (kept ∙ sym (ap (λ (r : Result (List Fragment) SizeFault). after_chain w q.state chain r) c.in-Err.ensures.answer)) (c.refuse.ensures.led q.work.packet) }
+    record { led = ran_led _ _ _ _ _ _ (Went (g.T.Tallies.did q.wires.program.now.shapes) c.args.counters.now c.args.counters.now) _ _ refl (kept ∙ sym (ap (λ (r : Result (List Fragment) SizeFault). after_chain w q.state chain r) refused)) (c.refuse.ensures.led q.work.packet) }
 
 pub returns-in-Ok : goal.returns-in-Ok
 returns-in-Ok g c =
@@ -29,6 +32,7 @@ returns-in-Ok g c =
     let chain = q.work.chain in
     let new = c.place_fragments.new.self in
     let fs = new.fragments.items in
+    let taken = ap (λ (o : Offers). offered_fragments o chain) (sym c.offers.ensures) ∙ c.in-Ok.ensures.answer in
     let none = ap (λ (l : List ℕ). bind (copy w fs l) (after_copy w q.state new.chain)) c.clear.ensures in
     let kept = ap (λ (l : List Slot). bind (copy w fs []) (after_copy w q.state l)) c.place_fragments.ensures.chain in
-    record { led = ran_from_same _ _ _ _ _ _ _ _ _ (none ∙ kept ∙ sym (ap (λ (r : Result (List Fragment) SizeFault). after_chain w q.state chain r) c.in-Ok.ensures.answer)) c.next_fragment.ensures.led }
+    record { led = ran_from_same _ _ _ _ _ _ _ _ _ (none ∙ kept ∙ sym (ap (λ (r : Result (List Fragment) SizeFault). after_chain w q.state chain r) taken)) c.next_fragment.ensures.led }

@@ -45,7 +45,7 @@ go_on-requires g c =
     let task = turn in
     let few = c.turns_are_bounded.ensures in
     let short : TurnsAreShort = λ v s p new u t. let a = few.accesses v s p new u t in let k = few.notices v s p new u t in omega (arith, a, k) in
-    record { goes = going log gives size did serves task s w bus before 33029 e after host d (λ n new end host_after x. let k = turn_short log gives size did c.turns_are_rests.ensures.turns short s w bus before n new end host_after x in omega (arith, k)) c.requires.serving }
+    record { goes = going log gives size did serves task s w bus before 33033 e after host d (λ n new end host_after x. let k = turn_short log gives size did c.turns_are_rests.ensures.turns short s w bus before n new end host_after x in omega (arith, k)) c.requires.serving }
 
 pub returns-clause-stands : goal.returns-clause-stands
 returns-clause-stands g c =

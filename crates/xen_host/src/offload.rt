@@ -1,0 +1,23 @@
+//! What a guest leaves undone of its packet.
+
+use xen_netif::{Segments, TxFlags};
+
+/// What a guest leaves undone of its packet.
+#[derive(Clone, Copy, Debug, PartialEq, Eq)]
+pub struct Offload {
+    /// The flags of its first slot.
+    pub flags: TxFlags,
+    /// How it is to be segmented.
+    pub segments: Option<Segments>,
+}
+
+/// That of a turn that has read no slot.
+pub(crate) const NO_OFFLOAD: Offload = Offload {
+    flags: TxFlags {
+        csum_blank: false,
+        data_validated: false,
+        more_data: false,
+        extra_info: false,
+    },
+    segments: None,
+};
