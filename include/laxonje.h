@@ -233,6 +233,27 @@ enum laxonje_relisted {
 	LAXONJE_RELISTED_PROGRAM  /* there is no program */
 };
 
+/* What a guest may leave to its host: a packet that is still to be segmented. */
+enum laxonje_offer {
+	LAXONJE_OFFER_GSO_TCPV4 = 1, /* TCP over IPv4: the backend's feature-gso-tcpv4 */
+	LAXONJE_OFFER_GSO_TCPV6 = 2  /* TCP over IPv6: the backend's feature-gso-tcpv6 */
+};
+
+/* The answer to offers that are to become a queue's. But for the first, the queue makes those that it made. */
+enum laxonje_offering {
+	LAXONJE_OFFERED,        /* the next turn takes what they allow */
+	LAXONJE_OFFERED_NOT,    /* there is no queue */
+	LAXONJE_OFFERED_BUSY,   /* a turn, a delivery or a wait is under way */
+	LAXONJE_OFFERED_UNKNOWN /* a bit has no name */
+};
+
+/* What kind of segments a packet is to make (XEN_NETIF_GSO_TYPE_*). */
+enum laxonje_segments {
+	LAXONJE_SEGMENTS_NONE,
+	LAXONJE_SEGMENTS_TCPV4,
+	LAXONJE_SEGMENTS_TCPV6
+};
+
 /* What a turn, a delivery or a wait came to. */
 enum laxonje_outcome {
 	LAXONJE_TURN_IDLE,             /* the tx ring had no request */
@@ -253,7 +274,7 @@ enum laxonje_flag {
 	LAXONJE_FLAG_CSUM_BLANK = 1,     /* the packet's TCP or UDP checksum is blank: whoever forwards it fills it in */
 	LAXONJE_FLAG_DATA_VALIDATED = 2, /* the packet's data was validated against its checksum */
 	LAXONJE_FLAG_MORE_DATA = 4,      /* the packet goes on in a further slot */
-	LAXONJE_FLAG_EXTRA_INFO = 8      /* an extra info follows the first slot. Such a packet is refused */
+	LAXONJE_FLAG_EXTRA_INFO = 8      /* an extra info follows the first slot. Such a packet is refused, unless the queue offers what it asks for */
 };
 
 /* The causes of LAXONJE_TURN_REFUSED. */
@@ -462,6 +483,17 @@ uint32_t laxonje_queue_await(struct laxonje_queue *queue, uint32_t pages);
 /* The flags of the first slot of the turn that is under way or over (enum laxonje_flag). 0 before a turn has read a slot, as for a turn
  * that was idle, and with no queue. A delivery and a wait leave them. */
 uint32_t laxonje_queue_flags(struct laxonje_queue *queue);
+
+/* Has a queue make these offers (enum laxonje_offer) in place of its own, between two turns: a new queue makes none. The answer is of enum
+ * laxonje_offering. */
+uint32_t laxonje_queue_offer(struct laxonje_queue *queue, uint32_t offers);
+
+/* What kind of segments the packet of the turn that is under way or over is to make (enum laxonje_segments). 0 before the packet's slots are
+ * read, of a packet that isn't to be segmented or isn't taken so, and with no queue. A delivery and a wait leave it. */
+uint32_t laxonje_queue_segment_type(struct laxonje_queue *queue);
+
+/* The most bytes of payload in each of these segments: 0 where the type is 0. */
+uint32_t laxonje_queue_segment_size(struct laxonje_queue *queue);
 
 /* Copies the packet of the turn that ran or of the delivery that is over, as far as there is room, and answers how long it is, which may be
  * more than `out_bytes`. It is there until the next turn or delivery begins. No bytes before the first, inside a turn, a delivery or a wait,

@@ -27,6 +27,9 @@ HELD(laxonje_queue_counters);
 HELD(laxonje_queue_deliver);
 HELD(laxonje_queue_await);
 HELD(laxonje_queue_flags);
+HELD(laxonje_queue_offer);
+HELD(laxonje_queue_segment_type);
+HELD(laxonje_queue_segment_size);
 HELD(laxonje_queue_packet);
 HELD(laxonje_queue_state);
 HELD(laxonje_queue_free);
@@ -161,6 +164,21 @@ uint32_t laxonje_queue_await(struct laxonje_queue *queue, uint32_t pages)
 uint32_t laxonje_queue_flags(struct laxonje_queue *queue)
 {
 	return queue ? held_laxonje_queue_flags(queue) : 0;
+}
+
+uint32_t laxonje_queue_offer(struct laxonje_queue *queue, uint32_t offers)
+{
+	return queue ? held_laxonje_queue_offer(queue, offers) : LAXONJE_OFFERED_NOT;
+}
+
+uint32_t laxonje_queue_segment_type(struct laxonje_queue *queue)
+{
+	return queue ? held_laxonje_queue_segment_type(queue) : LAXONJE_SEGMENTS_NONE;
+}
+
+uint32_t laxonje_queue_segment_size(struct laxonje_queue *queue)
+{
+	return queue ? held_laxonje_queue_segment_size(queue) : 0;
 }
 
 size_t laxonje_queue_packet(struct laxonje_queue *queue, uint8_t *out, size_t out_bytes)

@@ -83,6 +83,10 @@ static void null_queues(struct laxonje_program *program, struct laxonje_queue *q
 	is("deliver", laxonje_queue_deliver(NULL, 0, packet, BYTES), LAXONJE_TAKEN_NOT);
 	is("await", laxonje_queue_await(NULL, 1), LAXONJE_TAKEN_NOT);
 	is("flags", laxonje_queue_flags(NULL), 0);
+	is("offer", laxonje_queue_offer(NULL, 0), LAXONJE_OFFERED_NOT);
+	is("offer of no queue", laxonje_queue_offer(queue, 0), LAXONJE_OFFERED_NOT);
+	is("segment type", laxonje_queue_segment_type(NULL), LAXONJE_SEGMENTS_NONE);
+	is("segment size", laxonje_queue_segment_size(NULL), 0);
 	is("packet", laxonje_queue_packet(NULL, packet, sizeof packet), 0);
 	is("state", laxonje_queue_state(NULL).kind, LAXONJE_STANDS_NOT);
 	is("queue relist", laxonje_queue_relist(NULL, program), LAXONJE_RELISTED_NOT);

@@ -38,6 +38,17 @@ static const struct row refused[] = { TURN(4),
 	                              NOTICE,
 	                              ENDS(LAXONJE_TURN_REFUSED, LAXONJE_REFUSAL_GRANT, 1) };
 
+/* A packet of 600 bytes that is to be segmented: its slot, its extra, and NULL for the extra's slot. */
+static const struct row segmented[] = { TURN(6),
+	                                READ(TX, 28, 3, 0, HALF(LAXONJE_FLAG_EXTRA_INFO), 13 | HALF(600)),
+	                                READ(TX, 31, 3, 1 | HALF(536), LAXONJE_SEGMENTS_TCPV4, 0),
+	                                ENTRY(LAXONJE_ENTRY_READ, TABLE, 0, PERMIT, DATA),
+	                                READ(DATA, 0, 150, 0x04030201, 0x08070605, 0x0c0b0a09, 0xffff0e0d),
+	                                STORE(TX, 28, 1, 13),
+	                                STORE(TX, 31, 1, HALF(1)),
+	                                PUSH(TX, 2, 6, 3, 4),
+	                                ENDS(LAXONJE_TURN_RAN, LAXONJE_PASS, 2) };
+
 /* A packet that the program sends back: its page, then the rx response, and then the tx response. */
 static const struct row sent_back[] = { TURN(1),
 	                                READ(TX, 16, 3, 0, 0, 9 | HALF(HEADER)),
@@ -186,7 +197,14 @@ static void exchanges(struct laxonje_queue *queue, size_t room)
 	GOES(queue, room, two_slots);
 	GOES(queue, room, refused);
 	is("the tx index", laxonje_queue_state(queue).tx_index, 4);
+	is("no segments", laxonje_queue_segment_type(queue), LAXONJE_SEGMENTS_NONE);
+	is("an offer without a name", laxonje_queue_offer(queue, 4), LAXONJE_OFFERED_UNKNOWN);
+	is("an offer", laxonje_queue_offer(queue, LAXONJE_OFFER_GSO_TCPV4), LAXONJE_OFFERED);
+	GOES(queue, room, segmented);
+	is("segments", laxonje_queue_segment_type(queue), LAXONJE_SEGMENTS_TCPV4);
+	is("a segment's size", laxonje_queue_segment_size(queue), 536);
 	is("a wait", laxonje_queue_await(queue, 1), LAXONJE_TAKEN);
+	is("an offer inside a wait", laxonje_queue_offer(queue, 0), LAXONJE_OFFERED_BUSY);
 	GOES(queue, room, overflown);
 	is("a halt", laxonje_queue_state(queue).kind, LAXONJE_STANDS_HALTED);
 	is("a wait", laxonje_queue_await(queue, 1), LAXONJE_TAKEN);

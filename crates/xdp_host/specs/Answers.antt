@@ -1,6 +1,6 @@
 -- Stated: claims rest on this file.
 -- What C is answered when it asks for a program.
-use Rattle.std.specs.Prelude.{ℕ, ◌≡◌, ◌<◌, ◌≤◌, ◌⊎◌, List, All, length, map, take}
+use Rattle.std.specs.Prelude.{ℕ, ◌≡◌, ◌<◌, ◌≤◌, ◌⊎◌, List, All, length, map, take, false}
 use Rattle.std.specs.List.{HoldsAt}
 use Rattle.bpf_insn.specs.Code.{Spells}
 use Rattle.bpf_insn.specs.declared.refusal.Cause.TheVariants.{Memory}
@@ -20,7 +20,7 @@ use Rattle.xdp_host.specs.declared.abi.XdpMap.{XdpMap}
 use Rattle.xdp_host.specs.declared.abi.XdpVerdict.{XdpVerdict}
 
 abbrev pub shape_of : XdpMap → Shape
-shape_of m = record { entries = m.entries; counters = m.counters; key = Index }
+shape_of m = record { entries = m.entries; counters = m.counters; key = Index; parts = false }
 
 abbrev pub shapes_of : List XdpMap → List Shape
 shapes_of maps = map shape_of maps

@@ -13,3 +13,4 @@ pub mod Maps
 pub mod Advice
 pub mod CountersHandle
 pub mod Shared
+pub mod Offers

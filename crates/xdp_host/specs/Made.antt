@@ -12,6 +12,7 @@ use Rattle.xen_host.specs.declared.queue.Queue.{Queue}
 use Rattle.xdp_host.specs.declared.queue_extents.XdpExtent.{XdpExtent}
 use Rattle.xdp_host.specs.declared.queue_fault.QueueFault.{QueueFault}
 use Rattle.xdp_host.specs.declared.queue_fault.QueueFault.TheVariants.{Make, Empty}
+use Rattle.xen_netif.specs.Segments.{no_offers}
 use Rattle.xdp_host.specs.declared.queue_abi.XdpQueueDesc.{XdpQueueDesc}
 
 -- The extents that C gives.
@@ -33,6 +34,7 @@ given owners limits table d =
       granter = d.granter;
       user = d.user;
       port = d.port;
+      offers = no_offers;
       ifindex = d.ifindex;
       queue = d.queue;
       tx_index = d.tx_index;

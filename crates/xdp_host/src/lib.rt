@@ -6,7 +6,7 @@
 //!   instead
 //! - `runs`, `batch`, `maps`: runs on one packet and on many in one call, and what C asks of counters and of maps
 //! - `queue_handle`, `queue_extents`, `queue_fault`: a queue that C holds, for a guest of one range of frames or of several
-//! - `queue_calls`, `queue_waits`: a queue's calls
+//! - `queue_calls`, `queue_waits`: a queue's calls; `segment_calls`: what it offers, and how a packet is to be segmented
 //! - `relisting`: lists of maps that become others
 //! - `counters_handle`, `shared_fault`, `shared_calls`: counters that queues share, as C holds them
 #![tactic(auto)]
@@ -45,6 +45,7 @@ mod queue_waits;
 mod raw_box;
 mod relisting;
 mod runs;
+mod segment_calls;
 mod shared_calls;
 mod shared_fault;
 
@@ -65,6 +66,9 @@ pub use queue_handle::{XdpQueue, queues_cross_threads};
 pub use queue_waits::{laxonje_queue_await, laxonje_queue_counters, laxonje_queue_flags};
 pub use relisting::{laxonje_queue_relist, laxonje_relist};
 pub use runs::{laxonje_counters, laxonje_place, laxonje_run, laxonje_run_batch};
+pub use segment_calls::{
+    laxonje_queue_offer, laxonje_queue_segment_size, laxonje_queue_segment_type,
+};
 pub use shared_calls::{
     laxonje_counters_at, laxonje_counters_free, laxonje_counters_make, laxonje_queue_pass,
     laxonje_queue_share,

@@ -10,6 +10,7 @@ ghost use Rattle.xdp_host.specs.Begins.{DeliverAnswers};
 use crate::queue_abi::{XdpQueueDesc, begin_number};
 use std::alloc::Global;
 use xen_host::{FrameOwners, Lists, MakeFault, Op, Program, Queue, QueueParts};
+use xen_netif::NO_OFFERS;
 
 /// A queue of what C gives, in a box.
 pub fn boxed(
@@ -32,6 +33,7 @@ pub fn boxed(
         granter: desc.granter,
         user: desc.user,
         port: desc.port,
+        offers: NO_OFFERS,
         ifindex: desc.ifindex,
         queue: desc.queue,
         tx_index: desc.tx_index,

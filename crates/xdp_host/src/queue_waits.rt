@@ -46,7 +46,7 @@ pub extern "C" fn laxonje_queue_await(alloc: Global, queue: &mut XdpQueue, pages
 #[unsafe(no_mangle)]
 pub extern "C" fn laxonje_queue_flags(alloc: Global, queue: &mut XdpQueue) -> u32
     ensures kept { queue.new.slot.held ≡ queue.old.slot.held }
-    ensures flags { MatchOption queue.old.slot.held (result ≡ 0) (λ q. result ≡ tx_flag_bits q.engine.flags) }
+    ensures flags { MatchOption queue.old.slot.held (result ≡ 0) (λ q. result ≡ tx_flag_bits q.engine.offload.flags) }
 {
     match queue.take(alloc) {
         Some(held) => {

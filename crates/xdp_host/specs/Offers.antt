@@ -1,0 +1,40 @@
+-- Stated: claims rest on this file.
+-- What C is answered when it has a queue make offers, and when it asks how a packet is to be segmented.
+use Rattle.std.specs.Prelude.{ℕ, ◌≡◌, Bool, true, false, ◌==◌, Option, None, Some, if◌then◌else◌}
+use Rattle.xen_netif.specs.Segments.{gso_type_number}
+use Rattle.xen_netif.specs.declared.segments.Offers.{Offers}
+use Rattle.xen_netif.specs.declared.segments.Segments.{Segments}
+use Rattle.xen_host.specs.Offered.{IsOffering}
+use Rattle.xen_host.specs.declared.offering.Offering.{Offering}
+use Rattle.xen_host.specs.declared.offering.Offering.TheVariants.{Offered, Busy}
+use Rattle.xen_host.specs.declared.queue.Queue.{Queue}
+
+-- The bits of include/laxonje.h.
+abbrev pub offers_of : ℕ → Option Offers
+offers_of n =
+    if n == 0 then Some (record { gso_tcpv4 = false; gso_tcpv6 = false })
+    else (if n == 1 then Some (record { gso_tcpv4 = true; gso_tcpv6 = false })
+    else (if n == 2 then Some (record { gso_tcpv4 = false; gso_tcpv6 = true })
+    else (if n == 3 then Some (record { gso_tcpv4 = true; gso_tcpv6 = true }) else None)))
+
+abbrev pub offering_number : Offering → ℕ
+offering_number Offered = 0
+offering_number Busy = 2
+
+abbrev pub unknown_offer : ℕ
+unknown_offer = 3
+
+-- The queue was given the offers, and C gets the number of its answer; or a bit has no name, and nothing has changed.
+pub record OfferAnswers (old new : Queue) (bits told : ℕ) : Type 0 where
+  pub given : (offers : Offers) → offers_of bits ≡ Some offers →
+      (answer : Offering) × (told ≡ offering_number answer) × IsOffering old new offers answer
+  pub refused : offers_of bits ≡ None → (told ≡ unknown_offer) × (new ≡ old)
+
+-- netif.h, XEN_NETIF_GSO_TYPE_*, of which 0 is none
+abbrev pub segment_type : Option Segments → ℕ
+segment_type None = 0
+segment_type (Some s) = gso_type_number s.kind
+
+abbrev pub segment_size : Option Segments → ℕ
+segment_size None = 0
+segment_size (Some s) = s.size
