@@ -9,7 +9,7 @@ use Rattle.bpf_vm.specs.declared.ended.Ended.{Ended}
 use Rattle.xdp_load.specs.Listed.{ListedView}
 use Rattle.xdp_load.specs.Spot.{Refused as RefusedAt}
 use Rattle.xdp_load.specs.Spots.{IsSpotText}
-use Rattle.xdp_load.specs.Original.{RewrittenView, rewritten_of}
+use Rattle.xdp_load.specs.Original.{IsRewritingFault, IsRewritingOf, RewrittenView}
 use Rattle.xdp_load.specs.Setup.{SetupView, setup_of, text_of}
 use Rattle.xdp_load.specs.declared.fault.LoadFault.{LoadFault}
 use Rattle.xdp_load.specs.declared.fault.LoadFault.TheVariants.{Memory, Refused}
@@ -91,7 +91,7 @@ ExplainAnswer s said = (o : Outcome) × IsOutcome s.program s.shapes o × (said 
 abbrev pub compared_answer : Compared → Said
 compared_answer c = (compared_text c, compared_status c)
 
--- the answer to a setup and the program that its own was made of: by a comparison of the two
+-- the answer to a setup and the program that its own was made of: by a comparison of the two with the setup's maps
 abbrev pub SameAnswer : RewrittenView → Said → Type 0
 SameAnswer r said = (c : Compared) × Compares r c × (said ≡ compared_answer c)
 
@@ -156,9 +156,12 @@ ListedAnswer q settings said =
     ⊎ (((r : RefusedAt) × IsFirstFault settings r × RefusedTo q settings r said)
     ⊎ MemoryAnswer settings said)
 
--- the answer to settings with an original
+-- the answer to settings with an original, whose maps may have lists: to both programs, or to their first fault
 abbrev pub RewrittenAnswer : List ℕ → Said → Type 0
-RewrittenAnswer settings said = SpelledAnswer SameAnswer (RefusedAnswer settings) (rewritten_of settings) said ⊎ MemoryAnswer settings said
+RewrittenAnswer settings said =
+    ((r : RewrittenView) × IsRewritingOf settings r × SameAnswer r said)
+    ⊎ (((f : RefusedAt) × IsRewritingFault settings f × RefusedAnswer settings f said)
+    ⊎ MemoryAnswer settings said)
 
 -- the settings are what the reader gave, up to its end or 1,048,577 bytes
 pub record IsSettings (old new : Option (List ℕ)) (settings : List ℕ) : Type 0 where

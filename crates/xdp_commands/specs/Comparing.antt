@@ -1,5 +1,6 @@
 -- Stated: claims rest on this file.
--- What becomes of a setup's program beside the one that it was made of.
+-- What becomes of a setup's program beside the one that it was made of. The runs are those from all starts, so with all lists that the
+-- setup's maps can have, not with the setup's alone.
 use Rattle.std.specs.Prelude.{ℕ, ◌≡◌, ◌<◌, List, ◌++◌, Option, None, Some, IfSome, codes, decimal, length, map}
 use Rattle.bpf_insn.specs.Code.{Spells}
 use Rattle.bpf_insn.specs.Refusal.{IsNoCode}
@@ -26,7 +27,8 @@ pub record IsPair (r : RewrittenView) (program : Program) (original : List Insn)
   pub accepted : IsProgramOf r.setup.program r.setup.shapes program
   pub spelled : Spells original r.original
 
--- a pair in which each has the runs of the other; the program has `slots` slots, and the original has `originals`
+-- a pair in which each has the runs of the other, whatever the rows of the maps' lists and their constants are; the program has
+-- `slots` slots, and the original has `originals`
 pub record IsSamePair (r : RewrittenView) (slots originals : ℕ) : Type 0 where
   pub program : Program
   pub original : List Insn

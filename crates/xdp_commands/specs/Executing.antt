@@ -45,11 +45,12 @@ pub record IsProgramOf (program : List ℕ) (shapes : List Shape) (p : Program) 
   pub faultless : IsFaultless p.code shapes
   pub maps : p.shapes ≡ shapes
 
--- the report is that of the queues of a setup's program through the steps of its script, with its lists
+-- the report is that of the queues of a setup's program through the steps of its script, with its lists, from counters that begin
+-- with its numbers
 pub record IsRunOfSetup (x : ListedView) (r : Report) : Type 0 where
   pub program : Program
   pub accepted : IsProgramOf x.setup.program x.setup.shapes program
-  pub run : IsCoreRun program x.lists x.setup.queues x.setup.ifindex x.setup.start x.setup.script r
+  pub run : IsCoreRun program x.lists x.setup.values x.setup.queues x.setup.ifindex x.setup.start x.setup.script r
 
 -- a run of a setup, or a refusal of its program
 abbrev pub Runs : ListedView → Result Report Refusal → Type 0

@@ -4,8 +4,9 @@ use Rattle.std.specs.Prelude.{ℕ, ◌≡◌, List, [], ◌∷◌, ◌++◌, cod
 use Rattle.hex.specs.Hex.{encode_lower}
 use Rattle.bpf_insn.specs.declared.refusal.Refusal.{Refusal}
 use Rattle.bpf_lists.specs.declared.list.MapList.{MapList}
+use Rattle.bpf_maps.specs.Beginning.{began, given}
 use Rattle.bpf_maps.specs.Layout.{total}
-use Rattle.bpf_note.specs.Shape.{Shape}
+use Rattle.bpf_note.specs.Shape.{IsCounter, Shape}
 use Rattle.bpf_verify.specs.Consistent.{Accepted as Program}
 use Rattle.bpf_vm.specs.Actions.{action_name, action_of}
 use Rattle.xdp_load.specs.Listed.{ListedView}
@@ -50,12 +51,19 @@ pub record Goes (program : Program) (lists : List (Option MapList)) (ifindex : �
   pub ran : AreRuns program lists ifindex packets before runs after
   pub printed : more ≡ lines ++ passed_lines runs
 
--- the runs of a setup's accepted program on its packets, from counters that are all 0
+-- these words are the counters of maps that begin with the numbers of these lists
+pub record AreFirst (shapes : List Shape) (values : List (List ℕ)) (words : List ℕ) : Type 0 where
+  pub count : length words ≡ total shapes
+  pub begin : (m k j : ℕ) → IsCounter shapes m k j → began shapes words m k j ≡ given shapes values m k j
+
+-- the runs of a setup's accepted program on its packets, from counters that begin with its numbers
 pub record IsFilterOfSetup (x : ListedView) (f : Filtered) : Type 0 where
   pub program : Program
   pub accepted : IsProgramOf x.setup.program x.setup.shapes program
   pub width : vec_len f.words ≡ total x.setup.shapes
-  pub goes : Goes program x.lists x.setup.ifindex (inputs_of x.setup.packets) (replicate (total x.setup.shapes) 0) [] f.words.items
+  pub words : List ℕ
+  pub first : AreFirst x.setup.shapes x.setup.values words
+  pub goes : Goes program x.lists x.setup.ifindex (inputs_of x.setup.packets) words [] f.words.items
       (string_bytes f.lines)
 
 -- the runs of a setup's packets, or a refusal of its program

@@ -28,7 +28,7 @@ pub record IsPairOfSetup (s : SetupView) (turns : ℕ) (h : Host) (r : PairRepor
   pub accepted : IsProgramOf s.program s.shapes program
   pub rows : vec_len r.rows ≡ s.queues
   pub maps : r.totals.shapes ≡ s.shapes
-  pub left : AreLeft (task_with s program h) turns r
+  pub left : AreLeft (task_with s program h) s.values turns r
 
 -- the queues of an accepted program ran, at most `turns` turns each, or their rings couldn't be mapped, or a thread couldn't
 -- be started; or the program is refused

@@ -217,7 +217,7 @@ fn filter_answer(alloc: Global, listed: &Listed) -> Result<Answer, AllocError>
 
 /// The answer to a setup whose program is compared with the one that it was made of.
 fn same_answer(alloc: Global, rewritten: &Rewritten) -> Result<Answer, AllocError>
-    requires { IsSound (setup_view rewritten.now.setup) }
+    requires { IsListedSound (listed_view rewritten.now.listed) }
     ensures { IfOk result (λ a. SameAnswer (rewritten_view rewritten.now) (said_of a)) }
 {
     let compared = compare(alloc, rewritten)?;
@@ -298,7 +298,10 @@ fn rewritten_answer(alloc: Global, settings: &[u8]) -> Result<Answer, AllocError
 {
     match load_rewritten(alloc, settings) {
         Ok(rewritten) => same_answer(alloc, &rewritten),
-        Err(error) => settings_refused(alloc, error.fault()),
+        Err(LoadError::Memory) => settings_refused(alloc, LoadFault::Memory),
+        Err(LoadError::Refused(refused)) => {
+            settings_refused(alloc, LoadFault::Refused(refused.fault))
+        }
     }
 }
 

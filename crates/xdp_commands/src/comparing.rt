@@ -2,8 +2,8 @@
 ghost use Rattle.std.specs.Prelude.{◌≡◌, ◌≤◌, IfOk, map, string_bytes};
 ghost use Rattle.bpf_insn.specs.Code.{Spells};
 ghost use Rattle.xdp_load.specs.OriginalSeen.{place_view, rewritten_view};
-ghost use Rattle.xdp_load.specs.SetupSeen.{setup_view};
-ghost use Rattle.xdp_load.specs.Sound.{IsSound};
+ghost use Rattle.xdp_load.specs.ListedGiven.{listed_view};
+ghost use Rattle.xdp_load.specs.ListedSound.{IsListedSound};
 ghost use Rattle.xdp_commands.specs.Comparing.{Compares, IsSamePair, compared_status, compared_text, not_shown_text, obstacle_words, tried_of};
 ghost use Rattle.xdp_commands.specs.Executing.{IsProgramOf};
 
@@ -53,7 +53,7 @@ fn compare_with(
     program: &Verified,
     original: &Code,
 ) -> Result<Compared, AllocError>
-    requires program { IsProgramOf rewritten.now.setup.program.items rewritten.now.setup.shapes.items program.now }
+    requires program { IsProgramOf rewritten.now.listed.setup.program.items rewritten.now.listed.setup.shapes.items program.now }
     requires original { Spells original.now rewritten.now.original.items }
     ensures { IfOk result (Compares (rewritten_view rewritten.now)) }
 {
@@ -85,10 +85,10 @@ fn compare_with(
 
 /// Accepts the program of a setup and compares it with the one that it was made of, or refuses one of them.
 pub fn compare(alloc: Global, rewritten: &Rewritten) -> Result<Compared, AllocError>
-    requires { IsSound (setup_view rewritten.now.setup) }
+    requires { IsListedSound (listed_view rewritten.now.listed) }
     ensures { IfOk result (Compares (rewritten_view rewritten.now)) }
 {
-    let setup = &rewritten.setup;
+    let setup = &rewritten.listed.setup;
     match accept(alloc, setup.program.as_slice(), setup.shapes.as_slice()) {
         Ok(program) => match decode(alloc, rewritten.original.as_slice()) {
             Ok(original) => compare_with(alloc, rewritten, &program, &original),

@@ -53,8 +53,8 @@ pub fn check(alloc: Global, program: &[u8], shapes: &[MapShape]) -> Result<Accep
     })
 }
 
-/// Accepts the program of a setup and runs the setup's queues through the steps of its script, with its lists, or refuses the
-/// program.
+/// Accepts the program of a setup and runs the setup's queues through the steps of its script, with its lists and beginnings, or
+/// refuses the program.
 pub fn run(alloc: Global, listed: &Listed) -> Result<Result<Report, Refusal>, AllocError>
     requires { IsListedSound (listed_view listed.now) }
     ensures { IfOk result (Runs (listed_view listed.now)) }
@@ -66,6 +66,7 @@ pub fn run(alloc: Global, listed: &Listed) -> Result<Result<Report, Refusal>, Al
                 alloc,
                 &program,
                 listed.lists.as_slice(),
+                setup.values.as_slice(),
                 setup.queues,
                 setup.ifindex,
                 setup.start,

@@ -10,7 +10,7 @@ ghost use Rattle.xdp_commands.specs.Filtering.{Filters, Goes, IsFilterOfSetup, i
 use crate::executing::accept;
 use bpf_insn::Refusal;
 use bpf_lists::MapList;
-use bpf_maps::total;
+use bpf_maps::Totals;
 use bpf_verify::Verified;
 use bpf_vm::{Action, Buffer, PacketBuf};
 use std::alloc::{AllocError, Global};
@@ -113,11 +113,11 @@ fn filter_with(alloc: Global, listed: &Listed, program: &Verified) -> Result<Fil
     ensures { IfOk result (IsFilterOfSetup (listed_view listed.now)) }
 {
     let mut buffer = Buffer::make(alloc)?;
-    let count = total(listed.setup.shapes.as_slice());
-    let words = Vec::from_elem(alloc, 0, count)?;
+    let setup = &listed.setup;
+    let first = Totals::begin(alloc, setup.shapes.as_slice(), setup.values.as_slice())?;
     let mut filtered = Filtered {
         lines: String::new(alloc),
-        words,
+        words: first.into_numbers(),
     };
     run_all(alloc, program, listed, &mut buffer, &mut filtered)?;
     Ok(filtered)
