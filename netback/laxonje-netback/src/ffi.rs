@@ -146,6 +146,7 @@ pub struct ifreq {
 pub const TUNSETIFF: c_ulong = 0x4004_54ca;
 pub const TUNSETPERSIST: c_ulong = 0x4004_54cb;
 pub const TUNSETCARRIER: c_ulong = 0x4004_54e2;
+pub const TUNGETFEATURES: c_ulong = 0x8004_54cf;
 pub const SIOCGIFFLAGS: c_ulong = 0x8913;
 pub const SIOCSIFFLAGS: c_ulong = 0x8914;
 pub const SIOCGIFNAME: c_ulong = 0x8910;
@@ -156,8 +157,9 @@ pub const SIOCGIFINDEX: c_ulong = 0x8933;
 pub const SIOCSIFTXQLEN: c_ulong = 0x8943;
 pub const SIOCBRADDIF: c_ulong = 0x89a2;
 pub const IFF_UP: u16 = 1;
+pub const IFF_VNET_HDR: u16 = 0x4000;
 /// `IFF_TAP | IFF_NO_PI | IFF_VNET_HDR`.
-pub const TAP_FLAGS: u16 = 0x0002 | 0x1000 | 0x4000;
+pub const TAP_FLAGS: u16 = 0x0002 | 0x1000 | IFF_VNET_HDR;
 pub const IFF_MULTI_QUEUE: u16 = 0x0100;
 pub const ARPHRD_ETHER: u16 = 1;
 pub const O_NONBLOCK: c_int = 0o4000;

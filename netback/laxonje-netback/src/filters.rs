@@ -1,6 +1,7 @@
 //! Filters: which settings file a device has, and the program of it.
 use crate::ffi::O_NONBLOCK;
-use laxonje::{LoadError, Program};
+use crate::settings::Settings;
+use laxonje::{LoadError, Offers, Program};
 use std::collections::BTreeMap;
 use std::error::Error;
 use std::fmt;
@@ -24,6 +25,8 @@ pub struct Filter {
     pub number: u64,
     /// The number of the filter whose program it has, with lists of its own. 0: it was verified itself.
     pub lists_of: u64,
+    /// What a guest that has it is offered.
+    pub offers: Offers,
 }
 
 /// Why a file gives no filter.
@@ -65,8 +68,8 @@ impl Filter {
     }
 
     fn of(path: &Path, text: Vec<u8>, number: u64) -> Result<Filter, LoadError> {
-        let program = Program::from_settings(&text)?;
-        Ok(Filter { path: path.to_owned(), program, text, number, lists_of: 0 })
+        let (program, offers) = (loaded(&text)?, Settings::of(&text).offers);
+        Ok(Filter { path: path.to_owned(), program, text, number, lists_of: 0, offers })
     }
 
     /// The same program with the lists of another text, which differs in rows alone: it isn't verified again.
@@ -75,7 +78,7 @@ impl Filter {
             return None;
         }
         let program = relisted(&self.program, text)?;
-        Some(Filter { path: self.path.clone(), program, text: text.to_vec(), number, lists_of: self.number })
+        Some(Filter { path: self.path.clone(), program, text: text.to_vec(), number, lists_of: self.number, offers: self.offers })
     }
 
     /// Whether another filter's counters go on as this one's: its maps have the same names and sizes, in the same order.
@@ -84,10 +87,15 @@ impl Filter {
     }
 }
 
+/// The program of a settings text, which may have this program's own key.
+pub fn loaded(text: &[u8]) -> Result<Program, LoadError> {
+    Program::from_settings(&Settings::of(text).text)
+}
+
 /// The same program with the lists of another text.
 pub fn relisted(program: &Program, text: &[u8]) -> Option<Program> {
     let mut own = program.try_clone().ok()?;
-    own.relist(text).ok()?;
+    own.relist(&Settings::of(text).text).ok()?;
     Some(own)
 }
 
@@ -227,6 +235,8 @@ mod tests {
         std::fs::write(at("a.toml"), "program = [\"9500000000000000\"]").unwrap();
         let refused = find(&["a.toml", "b.toml"]).unwrap_err().to_string();
         assert!(refused.contains("a.toml: V7 at slot 0: a register is read that may be unset; "), "{refused}");
+        std::fs::write(at("a.toml"), [b"program = []\n", &b"gso = false\n"[..]].concat()).unwrap();
+        assert!(Filter::load(&at("a.toml")).unwrap_err().to_string().contains("L3"));
         std::fs::write(at("a.toml"), vec![b'#'; (1 << 20) + 1]).unwrap();
         assert!(Filter::load(&at("a.toml")).unwrap_err().to_string().contains("L1"));
         assert!(Filter::load(&folder).is_err());
@@ -247,6 +257,21 @@ mod tests {
         let renamed = String::from_utf8_lossy(COUNT).replace("\"protocols\"", "\"others\"");
         std::fs::write(&path, renamed).unwrap();
         assert!(!changed.counts_as(&filters.find(vec![path]).unwrap()));
+        std::fs::remove_dir_all(&folder).unwrap();
+    }
+
+    #[test]
+    fn a_filter_says_whether_segmentation_is_offered() {
+        let (folder, mut filters) = (folder("gso"), Filters::default());
+        let path = folder.join("a.toml");
+        let mut find = |first: &str| {
+            std::fs::write(&path, [first.as_bytes(), COUNT].concat()).unwrap();
+            filters.find(vec![path.clone()]).unwrap()
+        };
+        let (usual, kept, offered) = (find(""), find("gso = false\n"), find("gso = true\n"));
+        assert_eq!([&usual, &kept, &offered].map(|filter| filter.offers), [Offers::ALL, Offers::default(), Offers::ALL]);
+        assert_eq!(kept.program.instructions(), usual.program.instructions());
+        assert!(kept.counts_as(&usual));
         std::fs::remove_dir_all(&folder).unwrap();
     }
 
@@ -274,6 +299,10 @@ mod tests {
         assert_eq!((first.lists_of, second.lists_of), (0, first.number));
         assert_eq!((action(&first), action(&second)), (laxonje::Action::Pass, laxonje::Action::Drop));
         assert!(first.counts_as(&second));
+        let kept = |rows: &str| format!("gso = false\n{}", listed("one", rows));
+        let (fourth, fifth) = (find(kept("")), find(kept("\"01000000\"")));
+        assert_eq!((fourth.lists_of, fifth.lists_of, fifth.offers), (0, fourth.number, Offers::default()));
+        assert_eq!((action(&fourth), action(&fifth)), (laxonje::Action::Pass, laxonje::Action::Drop));
         let third = find(listed("two", "\"02000000\""));
         assert_eq!((third.lists_of, third.counts_as(&second), action(&third)), (0, false, laxonje::Action::Pass));
         std::fs::remove_dir_all(&folder).unwrap();

@@ -1,5 +1,7 @@
-//! Frames whose TCP or UDP checksum is blank, as the kernel wants them. Each length of a frame is the guest's, and is looked at.
+//! Frames whose TCP or UDP checksum is blank, or that are to be segmented, as the kernel wants them. Each length of a frame is the guest's, and
+//! is looked at: the kernel gets no header that doesn't fit the frame.
 use crate::os::HEADER_BYTES;
+use laxonje::{SegmentKind, Segments};
 
 /// Where a checksum that isn't filled in stands: both from the frame's first byte on.
 #[derive(Debug, Clone, Copy, PartialEq, Eq)]
@@ -8,6 +10,26 @@ pub struct Blank {
     pub start: usize,
     /// The checksum's own place.
     pub place: usize,
+}
+
+/// How the kernel is to segment a frame.
+#[derive(Debug, Clone, Copy, PartialEq, Eq)]
+pub struct Cut {
+    /// VIRTIO_NET_HDR_GSO_*.
+    kind: u8,
+    /// The bytes of the frame's headers, which each segment has.
+    headers: usize,
+    /// The most bytes of payload of a segment.
+    size: u16,
+}
+
+/// What of a frame is left to the kernel.
+#[derive(Debug, Clone, Copy, PartialEq, Eq)]
+pub enum Left {
+    Nothing,
+    Checksum(Blank),
+    /// The checksum too, of each segment.
+    Segments(Blank, Cut),
 }
 
 const ETHERNET: usize = 14;
@@ -22,8 +44,17 @@ const EXTENSIONS: [u8; 3] = [0, 43, 60]; // hop by hop, routing, destination opt
 const MOST_EXTENSIONS: usize = 8;
 /// More fragments, and the offset.
 const FRAGMENT: u16 = 0x3fff;
-/// VIRTIO_NET_HDR_F_NEEDS_CSUM.
+/// VIRTIO_NET_HDR_F_NEEDS_CSUM, VIRTIO_NET_HDR_GSO_TCPV4, VIRTIO_NET_HDR_GSO_TCPV6 and VIRTIO_NET_HDR_GSO_ECN.
 const NEEDS_CHECKSUM: u8 = 1;
+const GSO_TCPV4: u8 = 1;
+const GSO_TCPV6: u8 = 4;
+const GSO_ECN: u8 = 0x80;
+/// The place of TCP's checksum, its shortest header, and the flag that stays with the first segment (RFC 3168).
+const TCP_CHECKSUM: usize = 16;
+const TCP_HEADER: usize = 20;
+const CWR: u8 = 0x80;
+/// The most bytes of headers that each segment may repeat: Ethernet with two tags, 256 of IP, as Linux reads them, and the longest of TCP.
+const MOST_HEADERS: usize = ETHERNET + MOST_TAGS * TAG + 256 + 60;
 
 /// What an IP header says of what it carries.
 struct Carried {
@@ -89,16 +120,54 @@ fn in_ipv6(frame: &[u8], at: usize) -> Option<Carried> {
     None
 }
 
-/// Where a frame's blank checksum is; its field is set to the sum of the pseudo header. `None`: it is no whole TCP or UDP
-/// packet of IP, and nothing can be filled in.
-pub fn prepare(frame: &mut [u8]) -> Option<Blank> {
-    let carried = match network(frame)? {
-        (IPV4, at) => in_ipv4(frame, at)?,
-        (IPV6, at) => in_ipv6(frame, at)?,
+/// The type of a frame's network packet, and what that carries.
+fn carried(frame: &[u8]) -> Option<(u16, Carried)> {
+    Some(match network(frame)? {
+        (IPV4, at) => (IPV4, in_ipv4(frame, at)?),
+        (IPV6, at) => (IPV6, in_ipv6(frame, at)?),
+        _ => return None,
+    })
+}
+
+/// What is left to the kernel of a frame whose checksum is blank, if it is, and of which these segments are to be made, if they are; blank fields are
+/// set to the sum of the pseudo header. `None`: it isn't what its guest says, and nothing can be filled in.
+pub fn left(frame: &mut [u8], is_blank: bool, segments: Option<Segments>) -> Option<Left> {
+    match segments {
+        Some(segments) => segmented(frame, segments),
+        None if is_blank => prepare(frame).map(Left::Checksum),
+        None => Some(Left::Nothing),
+    }
+}
+
+/// A frame that is to be segmented, whose checksum is blank then, whatever its guest says, as Linux's netback has it. If it has no more payload than a
+/// segment, bytes behind its IP packet, or more headers than segments may repeat, it goes as it is. `None`: it is no whole TCP packet of that kind.
+fn segmented(frame: &mut [u8], segments: Segments) -> Option<Left> {
+    let (network, Carried { protocol, start, end, .. }) = carried(frame)?;
+    let kind = match (network, protocol, segments.kind) {
+        (IPV4, TCP, SegmentKind::Tcpv4) => GSO_TCPV4,
+        (IPV6, TCP, SegmentKind::Tcpv6) => GSO_TCPV6,
         _ => return None,
     };
+    let length = usize::from(byte(frame, start + 12)? >> 4) * 4;
+    let ecn = if byte(frame, start + 13)? & CWR == 0 { 0 } else { GSO_ECN };
+    let (headers, size) = (start + length, u16::try_from(segments.size).ok()?);
+    if length < TCP_HEADER || headers > end {
+        return None;
+    }
+    let blank = prepare(frame)?;
+    let is_cut = end == frame.len() && headers <= MOST_HEADERS && end - headers > usize::from(size) && size > 0;
+    Some(match is_cut {
+        true => Left::Segments(blank, Cut { kind: kind | ecn, headers, size }),
+        false => Left::Checksum(blank),
+    })
+}
+
+/// Where a frame's blank checksum is; its field is set to the sum of the pseudo header. `None`: it is no whole TCP or UDP
+/// packet of IP, and nothing can be filled in.
+fn prepare(frame: &mut [u8]) -> Option<Blank> {
+    let (_, carried) = carried(frame)?;
     let (field, shortest) = match carried.protocol {
-        TCP => (16, 20),
+        TCP => (TCP_CHECKSUM, TCP_HEADER),
         UDP => (6, 8),
         _ => return None,
     };
@@ -109,123 +178,25 @@ pub fn prepare(frame: &mut [u8]) -> Option<Blank> {
     Some(Blank { start: carried.start, place })
 }
 
-/// The header of a frame for a TAP device (`struct virtio_net_hdr`): whole, or with a checksum for the kernel to fill in.
-pub fn header(blank: Option<Blank>) -> [u8; HEADER_BYTES] {
+/// The header of a frame for a TAP device (`struct virtio_net_hdr`).
+pub fn header(left: Left) -> [u8; HEADER_BYTES] {
     let mut header = [0; HEADER_BYTES];
-    if let Some(Blank { start, place }) = blank {
-        header[0] = NEEDS_CHECKSUM;
-        header[6..8].copy_from_slice(&(start as u16).to_le_bytes());
-        header[8..10].copy_from_slice(&((place - start) as u16).to_le_bytes());
+    let (blank, cut) = match left {
+        Left::Nothing => return header,
+        Left::Checksum(blank) => (blank, None),
+        Left::Segments(blank, cut) => (blank, Some(cut)),
+    };
+    let mut put = |at: usize, number: usize| header[at..at + 2].copy_from_slice(&(number as u16).to_le_bytes());
+    put(6, blank.start);
+    put(8, blank.place - blank.start);
+    if let Some(Cut { headers, size, .. }) = cut {
+        put(2, headers);
+        put(4, usize::from(size));
     }
+    header[0] = NEEDS_CHECKSUM;
+    header[1] = cut.map_or(0, |cut| cut.kind);
     header
 }
 
 #[cfg(test)]
-mod tests {
-    use super::*;
-
-    /// A frame of IPv4 with `length` bytes after its header.
-    fn ipv4(protocol: u8, length: usize) -> Vec<u8> {
-        let mut frame = vec![0; 34 + length];
-        frame[12..14].copy_from_slice(&[0x08, 0x00]);
-        frame[14] = 0x45;
-        frame[16..18].copy_from_slice(&(20 + length as u16).to_be_bytes());
-        frame[23] = protocol;
-        frame[26..34].copy_from_slice(&[10, 0, 0, 1, 10, 0, 0, 2]);
-        frame
-    }
-
-    fn ipv6(protocol: u8, payload: &[u8]) -> Vec<u8> {
-        let mut frame = vec![0; 54];
-        frame[12..14].copy_from_slice(&[0x86, 0xdd]);
-        frame[14] = 0x60;
-        frame[18..20].copy_from_slice(&(payload.len() as u16).to_be_bytes());
-        frame[20] = protocol;
-        frame[22..54].copy_from_slice(&[0xfe; 32]);
-        frame.extend_from_slice(payload);
-        frame
-    }
-
-    /// RFC 1071, done by what the kernel would do: the sum from `start` on, inverted.
-    fn filled(frame: &[u8], blank: Blank, end: usize) -> u16 {
-        let mut covered = frame[blank.start..end].to_vec();
-        covered.resize((covered.len() + 1) / 2 * 2, 0);
-        !folded(sum(&covered))
-    }
-
-    #[test]
-    fn udp_of_ipv4_has_the_sum_of_its_pseudo_header() {
-        let mut frame = ipv4(UDP, 12);
-        frame[34..46].copy_from_slice(&[0x12, 0x34, 0x00, 0x07, 0x00, 0x0c, 0xab, 0xcd, b'a', b'b', b'c', b'd']);
-        assert_eq!(prepare(&mut frame), Some(Blank { start: 34, place: 40 }));
-        // 0a00 + 0001 + 0a00 + 0002 + 0011 + 000c = 1420
-        assert_eq!(frame[40..42], [0x14, 0x20]);
-        // 1234 + 0007 + 000c + 1420 + 6162 + 6364 = eb2d, inverted
-        assert_eq!(filled(&frame, Blank { start: 34, place: 40 }, 46), 0x14d2);
-    }
-
-    #[test]
-    fn tcp_has_its_place_in_ipv4_ipv6_and_behind_tags() {
-        assert_eq!(prepare(&mut ipv4(TCP, 20)), Some(Blank { start: 34, place: 50 }));
-        assert_eq!(prepare(&mut ipv6(TCP, &[0; 20])), Some(Blank { start: 54, place: 70 }));
-        let mut tagged = ipv4(TCP, 20);
-        tagged.splice(12..12, [0x81, 0, 0, 5]);
-        assert_eq!(prepare(&mut tagged.clone()), Some(Blank { start: 38, place: 54 }));
-        tagged.splice(12..12, [0x88, 0xa8, 0, 5]);
-        assert_eq!(prepare(&mut tagged.clone()), Some(Blank { start: 42, place: 58 }));
-        tagged.splice(12..12, [0x88, 0xa8, 0, 5]);
-        assert_eq!(prepare(&mut tagged), None);
-        let options = [&[UDP, 0, 0, 0, 0, 0, 0, 0][..], &[0; 8]].concat();
-        assert_eq!(prepare(&mut ipv6(60, &options)), Some(Blank { start: 62, place: 68 }));
-        // 16 shorts of fefe, protocol 17, length 8: fefe * 16 + 25 = fefe0 - ..., folded
-        let mut frame = ipv6(UDP, &[0; 8]);
-        prepare(&mut frame);
-        assert_eq!(frame[60..62], [0xf0, 0x08]);
-    }
-
-    #[test]
-    fn options_of_ipv4_come_before() {
-        let mut frame = ipv4(TCP, 28);
-        frame[14] = 0x47;
-        assert_eq!(prepare(&mut frame), Some(Blank { start: 42, place: 58 }));
-    }
-
-    #[test]
-    fn what_is_no_whole_tcp_or_udp_packet_has_no_place() {
-        let changed = |at: usize, value: u8| {
-            let mut frame = ipv4(TCP, 20);
-            frame[at] = value;
-            prepare(&mut frame)
-        };
-        assert!(changed(23, UDP).is_some());
-        for (at, value) in [(13, 6), (14, 0x44), (14, 0x4f), (17, 41), (17, 39), (20, 0x20), (21, 1), (23, 1)] {
-            assert_eq!(changed(at, value), None, "{at} {value}");
-        }
-    }
-
-    #[test]
-    fn a_frame_of_any_length_is_only_looked_at_where_it_is() {
-        for frame in [ipv4(TCP, 20), ipv4(UDP, 8), ipv6(60, &[60; 64]), ipv6(TCP, &[0; 20])] {
-            for length in 0..frame.len() {
-                assert_eq!(prepare(&mut frame[..length].to_vec()), None);
-            }
-        }
-        let mut seed = 1u32;
-        for round in 0..20_000 {
-            let bytes = (0..round % 120).map(|_| {
-                seed = seed.wrapping_mul(1_664_525).wrapping_add(1_013_904_223);
-                [0x08, 0x00, 0x86, 0xdd, 0x45, (seed >> 20) as u8][(seed >> 9) as usize % 6]
-            });
-            let mut frame: Vec<u8> = bytes.collect();
-            if let Some(Blank { start, place }) = prepare(&mut frame) {
-                assert!(start < place && place + 2 <= frame.len());
-            }
-        }
-    }
-
-    #[test]
-    fn the_header_says_where() {
-        assert_eq!(header(None), [0; 10]);
-        assert_eq!(header(Some(Blank { start: 34, place: 50 })), [1, 0, 0, 0, 0, 0, 34, 0, 16, 0]);
-    }
-}
+mod tests;

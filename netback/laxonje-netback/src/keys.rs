@@ -1,5 +1,9 @@
 //! What a guest's frontend wrote into XenStore. Nothing of it is trusted.
+use laxonje::Offers;
 use std::fmt;
+
+const GSO_TCPV4: &str = "feature-gso-tcpv4";
+const GSO_TCPV6: &str = "feature-gso-tcpv6";
 
 /// The states of a device (`xenbus.h`).
 #[derive(Clone, Copy, Debug, PartialEq, Eq)]
@@ -111,6 +115,16 @@ fn queue(read: &impl Fn(&str) -> Option<String>, folder: &str) -> Result<QueueKe
         true => Err(KeyError::OneRing),
         false => Ok(keys),
     }
+}
+
+/// The keys that say what a guest may leave to this domain, and whether it may.
+pub fn offers_said(offers: Offers) -> [(&'static str, &'static str); 2] {
+    [(GSO_TCPV4, offers.tcpv4), (GSO_TCPV6, offers.tcpv6)].map(|(key, is_made)| (key, if is_made { "1" } else { "0" }))
+}
+
+/// The offers that a backend's keys make.
+pub fn offers(read: impl Fn(&str) -> Option<String>) -> Offers {
+    Offers { tcpv4: flag(&read, GSO_TCPV4), tcpv6: flag(&read, GSO_TCPV6) }
 }
 
 /// The keys of a frontend that is offered that many queues.
@@ -234,6 +248,15 @@ mod tests {
         assert_eq!(with("multi-queue-num-queues", "0"), KeyError::Queues(0, 4));
         assert_eq!(with("multi-queue-num-queues", "4294967295"), KeyError::Queues(u32::MAX, 4));
         assert_eq!(front(keys(&[]), 4), Err(KeyError::NoCopy));
+    }
+
+    #[test]
+    fn offers_are_what_was_said() {
+        for offers in [Offers::default(), Offers { tcpv4: true, tcpv6: false }, Offers { tcpv4: false, tcpv6: true }, Offers::ALL] {
+            assert_eq!(super::offers(keys(&offers_said(offers))), offers);
+        }
+        // a process before this may have said nothing
+        assert_eq!(offers(keys(&[("feature-sg", "1")])), Offers::default());
     }
 
     #[test]

@@ -14,12 +14,14 @@ mod options;
 mod os;
 mod panics;
 mod serve;
+mod settings;
 mod stats;
 #[allow(unsafe_code)]
 mod xen;
 
 use backend::Backend;
 use filters::Filter;
+use laxonje::Offers;
 use options::{Command, Options};
 use std::io::{self, Write};
 use std::path::Path;
@@ -73,7 +75,8 @@ fn check(file: &Path) -> Result<(), String> {
         .zip(filter.program.maps())
         .map(|(name, map)| format!(", map {name} {}x{}", map.entries, map.counters))
         .collect();
-    say(&format!("accepted, {} instructions{}\n", filter.program.instructions(), maps.concat()))
+    let gso = if filter.offers == Offers::ALL { "" } else { ", gso = false" };
+    say(&format!("accepted, {} instructions{}{gso}\n", filter.program.instructions(), maps.concat()))
 }
 
 fn serve(options: Options) -> Result<(), String> {

@@ -38,6 +38,9 @@ totals! {
     /// Packets whose checksum was blank, and those of them that are no TCP or UDP packet: they are dropped.
     blank_checksums,
     blank_dropped,
+    /// Packets that the kernel makes TCP segments of, and packets that it was to and that are no whole TCP packet: they are dropped.
+    segmented,
+    unsegmented,
     /// Packets that passed and that the TAP device didn't take.
     lost,
     /// Packets to the guest that were delivered, and their bytes.

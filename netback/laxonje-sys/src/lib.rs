@@ -129,6 +129,21 @@ pub const LAXONJE_RELISTED_MAPS: u32 = 3;
 pub const LAXONJE_RELISTED_MEMORY: u32 = 4;
 pub const LAXONJE_RELISTED_PROGRAM: u32 = 5;
 
+/// What a guest may leave to its host.
+pub const LAXONJE_OFFER_GSO_TCPV4: u32 = 1;
+pub const LAXONJE_OFFER_GSO_TCPV6: u32 = 2;
+
+/// Why a queue makes the offers that it made.
+pub const LAXONJE_OFFERED: u32 = 0;
+pub const LAXONJE_OFFERED_NOT: u32 = 1;
+pub const LAXONJE_OFFERED_BUSY: u32 = 2;
+pub const LAXONJE_OFFERED_UNKNOWN: u32 = 3;
+
+/// What kind of segments a packet is to make.
+pub const LAXONJE_SEGMENTS_NONE: u32 = 0;
+pub const LAXONJE_SEGMENTS_TCPV4: u32 = 1;
+pub const LAXONJE_SEGMENTS_TCPV6: u32 = 2;
+
 /// What a turn, a delivery or a wait came to.
 pub const LAXONJE_TURN_IDLE: u32 = 0;
 pub const LAXONJE_TURN_RAN: u32 = 1;
@@ -319,6 +334,9 @@ extern "C" {
     pub fn laxonje_queue_deliver(queue: *mut laxonje_queue, producer: u32, packet: *const u8, packet_bytes: usize) -> u32;
     pub fn laxonje_queue_await(queue: *mut laxonje_queue, pages: u32) -> u32;
     pub fn laxonje_queue_flags(queue: *mut laxonje_queue) -> u32;
+    pub fn laxonje_queue_offer(queue: *mut laxonje_queue, offers: u32) -> u32;
+    pub fn laxonje_queue_segment_type(queue: *mut laxonje_queue) -> u32;
+    pub fn laxonje_queue_segment_size(queue: *mut laxonje_queue) -> u32;
     pub fn laxonje_queue_packet(queue: *mut laxonje_queue, out: *mut u8, out_bytes: usize) -> usize;
     pub fn laxonje_queue_state(queue: *mut laxonje_queue) -> laxonje_queue_standing;
     pub fn laxonje_queue_free(queue: *mut laxonje_queue);

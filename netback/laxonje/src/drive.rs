@@ -3,6 +3,7 @@ use crate::causes::Halt;
 use crate::guest::{Entry, Guest, Op, PAGE_WORDS};
 use crate::handle::{ProgramHandle, QueueHandle, SharedHandle};
 use crate::queue::{Extent, Grant, Indices, MakeError, ReplaceError, Setup, Stopped};
+use crate::segments::{OfferError, Offers, Segments};
 use crate::shared::ShareError;
 use alloc::boxed::Box;
 use alloc::vec::Vec;
@@ -30,6 +31,7 @@ pub(crate) struct Driver {
     /// From before the first access until all is over. A panic of the guest's leaves it set.
     is_under_way: bool,
     shares: bool,
+    offers: Offers,
 }
 
 impl Driver {
@@ -56,16 +58,21 @@ impl Driver {
             grant: None,
             is_under_way: false,
             shares: false,
+            offers: Offers::default(),
         };
         driver.make(program, setup.at).map(|()| driver)
     }
 
-    /// Makes a queue in place of the one that there is, and gives it that one's share in counters.
+    /// Makes a queue in place of the one that there is, with that one's offers, and gives it that one's share in counters.
     fn make(&mut self, program: &ProgramHandle, at: Indices) -> Result<(), MakeError> {
         let desc = sys::laxonje_queue_desc { tx_index: at.tx, rx_index: at.rx, ..self.desc };
         let mut made = QueueHandle::none();
         if let Some(cause) = MakeError::of(made.make(program, &self.frames, &self.table, &desc)) {
             return Err(cause);
+        }
+        match made.offer(self.offers.bits()) {
+            sys::LAXONJE_OFFERED => {}
+            answer => return Err(MakeError::Unknown(answer)), // the library has taken them before
         }
         self.shares = self.shares && self.handle.pass(&mut made) == sys::LAXONJE_SHARES_NOW;
         self.handle = made;
@@ -85,6 +92,16 @@ impl Driver {
             false => self.handle.relist(program),
             true => sys::LAXONJE_RELISTED_BUSY,
         }
+    }
+
+    /// Makes these offers, also of a queue that comes in this one's place.
+    pub fn offer(&mut self, offers: Offers) -> Result<(), OfferError> {
+        if self.is_under_way {
+            return Err(OfferError::Abandoned);
+        }
+        OfferError::of(self.handle.offer(offers.bits()))?;
+        self.offers = offers;
+        Ok(())
     }
 
     pub fn share(&mut self, counters: &mut SharedHandle) -> Result<(), ShareError> {
@@ -186,6 +203,10 @@ impl Driver {
 
     pub fn flags(&self) -> u32 {
         self.handle.flags()
+    }
+
+    pub fn segments(&self) -> Option<Segments> {
+        Segments::of(self.handle.segment_type(), || self.handle.segment_size())
     }
 
     pub fn indices(&self) -> Result<Indices, Stopped> {

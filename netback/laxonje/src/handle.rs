@@ -171,6 +171,22 @@ impl QueueHandle {
         unsafe { sys::laxonje_queue_flags(self.get()) }
     }
 
+    /// Makes these offers from the next turn on.
+    pub fn offer(&mut self, offers: u32) -> u32 {
+        // SAFETY: the module's reason.
+        unsafe { sys::laxonje_queue_offer(self.get(), offers) }
+    }
+
+    pub fn segment_type(&self) -> u32 {
+        // SAFETY: the module's reason.
+        unsafe { sys::laxonje_queue_segment_type(self.get()) }
+    }
+
+    pub fn segment_size(&self) -> u32 {
+        // SAFETY: the module's reason.
+        unsafe { sys::laxonje_queue_segment_size(self.get()) }
+    }
+
     pub fn packet(&self, out: &mut [u8]) -> usize {
         // SAFETY: the module's reason.
         unsafe { sys::laxonje_queue_packet(self.get(), out.as_mut_ptr(), out.len()) }

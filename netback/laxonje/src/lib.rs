@@ -86,6 +86,7 @@ mod handle;
 mod lists;
 mod program;
 mod queue;
+mod segments;
 mod shared;
 
 pub use causes::{Cause, Fault, Halt, Refusal};
@@ -98,4 +99,5 @@ pub use queue::{
     Awaited, DeliverError, Delivery, Extent, Flags, Grant, Indices, MakeError, Queue, ReplaceError, Setup, Stopped, Turn, TurnRun,
     TABLE_FRAMES,
 };
+pub use segments::{OfferError, Offers, SegmentKind, Segments};
 pub use shared::{Counters, ShareError, MOST_SHARES};

@@ -4,6 +4,7 @@ use crate::drive::{Abandoned, Driver};
 use crate::guest::{Entry, Guest, PAGE_BYTES};
 use crate::handle::SharedHandle;
 use crate::program::{Action, MapSize, Program, MOST_BYTES};
+use crate::segments::{OfferError, Offers, Segments};
 use crate::shared::ShareError;
 use alloc::string::String;
 use alloc::vec::Vec;
@@ -202,6 +203,11 @@ impl Flags {
     pub fn more_data(self) -> bool {
         self.0 & sys::LAXONJE_FLAG_MORE_DATA != 0
     }
+
+    /// An extra info follows the slot.
+    pub fn extra_info(self) -> bool {
+        self.0 & sys::LAXONJE_FLAG_EXTRA_INFO != 0
+    }
 }
 
 /// The program's run of a turn.
@@ -215,6 +221,8 @@ pub struct TurnRun {
     pub slots: u32,
     /// The flags of its first slot.
     pub flags: Flags,
+    /// The segments that it is to make, if its guest leaves that to the host: [`Queue::offer`].
+    pub segments: Option<Segments>,
 }
 
 /// What a turn came to.
@@ -307,7 +315,9 @@ impl Queue {
         match op.outcome {
             sys::LAXONJE_TURN_IDLE => Turn::Idle,
             sys::LAXONJE_TURN_RAN => {
-                Turn::Ran(TurnRun { number: op.number, action: Action::of(op.number), slots: op.slots, flags: self.flags() })
+                let flags = self.flags();
+                let segments = if flags.extra_info() { self.segments() } else { None };
+                Turn::Ran(TurnRun { number: op.number, action: Action::of(op.number), slots: op.slots, flags, segments })
             }
             sys::LAXONJE_TURN_REFUSED => Turn::Refused(Refusal(op.cause)),
             _ => Turn::Halted(Halt(op.cause)),
@@ -360,6 +370,16 @@ impl Queue {
     /// The flags of the first slot of the last turn's packet.
     pub fn flags(&self) -> Flags {
         Flags(self.driver.flags())
+    }
+
+    /// The segments that the last turn's packet is to make. `None`: it is to be sent as it is.
+    pub fn segments(&self) -> Option<Segments> {
+        self.driver.segments()
+    }
+
+    /// Makes these offers from its next turn on, in place of those that it made: a new queue makes none. They stay when its program is replaced.
+    pub fn offer(&mut self, offers: Offers) -> Result<(), OfferError> {
+        self.driver.offer(offers)
     }
 
     /// Where the queue stands: what another queue of the same rings is made with, to go on in its place.

@@ -2,17 +2,19 @@
 mod memory;
 
 use laxonje::{
-    Action, Awaited, Counters, DeliverError, Delivery, Entry, Extent, Guest, GuestMemory, Halt, Indices, MakeError, Op, Program, Queue,
-    Refusal, ReplaceError, Setup, ShareError, Stopped, Turn, TurnRun, MOST_SHARES,
+    Action, Awaited, Counters, DeliverError, Delivery, Entry, Extent, Guest, GuestMemory, Halt, Indices, MakeError, OfferError, Offers, Op,
+    Program, Queue, Refusal, ReplaceError, SegmentKind, Segments, Setup, ShareError, Stopped, Turn, TurnRun, MOST_SHARES,
 };
 use memory::{setup, Memory, DATA, RX, TX};
 use std::thread;
 
 const OKAY: i16 = 0;
 const ERROR: i16 = -1;
+const NULL: i16 = 1;
 const BLANK: u32 = 1;
 const VALIDATED: u32 = 2;
 const MORE: u32 = 4;
+const EXTRA: u32 = 8;
 const COUNT: &str = include_str!("count-protocols.toml");
 
 fn counts() -> Program {
@@ -111,6 +113,62 @@ fn a_packet_goes_back() {
     assert_eq!(guest.get(DATA + 1, 3), guest.get(DATA, 3));
     guest.send(1, from, 0, 60);
     assert_eq!(queue.turn(&mut guest), Turn::Refused(Refusal(6)));
+}
+
+/// A packet of 2,000 bytes in three slots, the second of which is an extra of these words.
+fn send_to_segment(guest: &Memory, index: u32, extra: [u32; 2]) {
+    let (first, second) = (guest.grant(0, false), guest.grant(1, false));
+    guest.send(index, first, BLANK | MORE | EXTRA, 2000);
+    guest.extra(index + 1, extra);
+    guest.send(index + 2, second, 0, 900);
+}
+
+/// The words of a GSO extra (netif.h).
+fn gso(size: u32, kind: u32) -> [u32; 2] {
+    [1 | size << 16, kind]
+}
+
+#[test]
+fn a_packet_is_to_be_segmented_if_that_was_offered() {
+    let (program, mut guest) = (answers(2), Memory::new());
+    let mut queue = guest.queue(&program, Indices::default());
+    let mut index = 0;
+    let mut turn = |queue: &mut Queue, extra| {
+        send_to_segment(&guest, index, extra);
+        index += 3;
+        queue.turn(&mut guest)
+    };
+    let refused = Turn::Refused(Refusal::EXTRA);
+    assert_eq!(turn(&mut queue, gso(1448, 1)), refused);
+    assert_eq!(queue.offer(Offers { tcpv4: true, tcpv6: false }), Ok(()));
+    let run = ran(turn(&mut queue, gso(1448, 1)));
+    let segments = Some(Segments { kind: SegmentKind::Tcpv4, size: 1448 });
+    assert_eq!((run.slots, run.segments, queue.segments()), (3, segments, segments));
+    assert_eq!(turn(&mut queue, gso(1448, 2)), refused);
+    assert_eq!(queue.segments(), None);
+    // another program makes the same offers
+    queue.replace(&answers(1)).unwrap();
+    assert_eq!(ran(turn(&mut queue, gso(536, 1))).segments, Some(Segments { kind: SegmentKind::Tcpv4, size: 536 }));
+    assert_eq!(turn(&mut queue, gso(1448, 2)), refused);
+    assert_eq!(queue.offer(Offers::ALL), Ok(()));
+    assert_eq!(ran(turn(&mut queue, gso(2000, 2))).segments, Some(Segments { kind: SegmentKind::Tcpv6, size: 2000 }));
+    for extra in [gso(535, 1), gso(0, 1), gso(1, 1), gso(2001, 1), gso(1448, 0), gso(1448, 3), gso(1448, 255), [2, 0], [4, 1]] {
+        assert_eq!(turn(&mut queue, extra), refused, "{extra:?}");
+    }
+    assert_eq!(queue.offer(Offers::default()), Ok(()));
+    assert_eq!(turn(&mut queue, gso(1448, 1)), refused);
+}
+
+#[test]
+fn an_extra_is_answered_with_null() {
+    let (program, mut guest) = (answers(2), Memory::new());
+    let mut queue = guest.queue(&program, Indices::default());
+    queue.offer(Offers::ALL).unwrap();
+    send_to_segment(&guest, 0, gso(1448, 1));
+    ran(queue.turn(&mut guest));
+    assert_eq!([0, 1, 2].map(|index| guest.sent(index)), [(100, OKAY), (0, NULL), (102, OKAY)]);
+    let mut packet = vec![0; 2000];
+    assert_eq!(queue.packet(&mut packet), 2000);
 }
 
 #[test]
@@ -323,6 +381,7 @@ fn each_access_panics(program: &Program, call: impl Fn(&mut Queue, &mut Panics))
         assert_eq!(queue.wait_for(60, &mut guest), Ok(Awaited::Abandoned));
         assert_eq!(queue.indices(), Err(Stopped::Abandoned));
         assert_eq!(queue.replace(program), Err(ReplaceError::Abandoned));
+        assert_eq!(queue.offer(Offers::ALL), Err(OfferError::Abandoned));
         assert_eq!((queue.packet(&mut [0; 64]), guest.made), (0, 0));
     }
     count

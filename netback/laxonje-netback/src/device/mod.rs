@@ -200,6 +200,9 @@ impl Device {
         for (name, value) in [("feature-sg", "1"), ("feature-rx-copy", "1"), ("feature-ipv6-csum-offload", "1")] {
             self.put(shared, name, value);
         }
+        for (name, value) in keys::offers_said(self.port.offers(self.filter.offers)) {
+            self.put(shared, name, value);
+        }
         self.put(shared, OFFER, &self.offered(shared).to_string());
         self.enter(shared, State::InitWait);
     }
@@ -278,11 +281,12 @@ impl Device {
         if !filter.counts_as(&self.filter) {
             self.counted = filter.program.new_counters();
         }
-        let lists_alone = filter.lists_of == self.filter.number;
-        self.filter = filter;
-        if lists_alone {
-            return format!("the lists are now those of {}", self.filter.path.display());
+        let before = std::mem::replace(&mut self.filter, filter);
+        let Filter { path, program, lists_of, offers, .. } = &*self.filter;
+        if *lists_of == before.number {
+            return format!("the lists are now those of {}", path.display());
         }
-        format!("the filter is now {}, {} instructions", self.filter.path.display(), self.filter.program.instructions())
+        let later = if *offers == before.offers { "" } else { ", and its key gso counts from the guest's next connection on" };
+        format!("the filter is now {}, {} instructions{later}", path.display(), program.instructions())
     }
 }

@@ -2,6 +2,7 @@
 use super::{node, Id, Shared};
 use crate::keys::{self, State};
 use crate::os::{Interface, TapKind};
+use laxonje::Offers;
 use std::io;
 
 /// The TAP's own address, as that of Linux's vifs: no bridge takes it for its own, and it is never the guest's.
@@ -16,6 +17,8 @@ pub struct Port {
     /// The interface's number, which stays when a script renames it.
     index: u32,
     pub kind: TapKind,
+    /// Its packets have a header that can say how they are to be segmented.
+    takes_headers: bool,
 }
 
 impl Port {
@@ -26,7 +29,7 @@ impl Port {
         let interface = left(id, key("vifname"), key("state")).map_or_else(|| own(id), Ok)?;
         let wanted = if node::queues(&shared.store, id, shared.options.queues) > 1 { TapKind::Several } else { TapKind::One };
         let (tap, kind) = interface.open_as(wanted)?;
-        let mut port = Port { index: interface.index()?, interface, kind };
+        let mut port = Port { index: interface.index()?, interface, kind, takes_headers: tap.takes_headers()? };
         port.prepare(key("mtu"))?;
         if key("script").is_none() {
             port.set_up(key("vifname"), key("bridge").or_else(|| shared.options.bridge.clone()))?;
@@ -68,6 +71,14 @@ impl Port {
 
     pub fn index(&self) -> u32 {
         self.index
+    }
+
+    /// Which of these offers it can keep.
+    pub fn offers(&self, wished: Offers) -> Offers {
+        match self.takes_headers {
+            true => wished,
+            false => Offers::default(),
+        }
     }
 
     /// Takes the TAP device away.

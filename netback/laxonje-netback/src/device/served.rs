@@ -74,6 +74,7 @@ impl Device {
             fresh,
             notifies: front.notifies,
             scatters: front.scatters,
+            offers: keys::offers(|key| self.key(shared, key)),
             queues: keys,
         };
         let descriptors: Vec<RawFd> = open.iter().flat_map(|(tap, events)| [tap.fd(), events.fd()]).collect();

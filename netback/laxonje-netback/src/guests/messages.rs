@@ -2,6 +2,7 @@
 use super::codec::{Reader, Writer};
 use crate::keys::QueueKeys;
 use crate::stats::{Counts, Rings, COUNTS};
+use laxonje::Offers;
 
 /// The most bytes of a message.
 pub const MOST_MESSAGE: usize = 1 << 15;
@@ -43,6 +44,8 @@ pub struct Connect {
     pub notifies: bool,
     /// The guest takes packets of more than a page.
     pub scatters: bool,
+    /// What the guest was offered.
+    pub offers: Offers,
     /// The references of the rings, and the port that is bound.
     pub queues: Vec<QueueKeys>,
 }
@@ -163,9 +166,9 @@ impl Order {
 
 impl Connect {
     fn write(&self, to: Writer) -> Writer {
-        let Connect { device, connection, ifindex, program, fresh, notifies, scatters, queues } = self;
+        let Connect { device, connection, ifindex, program, fresh, notifies, scatters, offers, queues } = self;
         let to = to.number(*device).long(*connection).number(*ifindex).long(*program).flag(*fresh).flag(*notifies);
-        let to = to.flag(*scatters).number(queues.len() as u32);
+        let to = to.flag(*scatters).flag(offers.tcpv4).flag(offers.tcpv6).number(queues.len() as u32);
         queues.iter().fold(to, |to, keys| to.number(keys.tx).number(keys.rx).number(keys.event))
     }
 
@@ -178,6 +181,7 @@ impl Connect {
             fresh: from.flag()?,
             notifies: from.flag()?,
             scatters: from.flag()?,
+            offers: Offers { tcpv4: from.flag()?, tcpv6: from.flag()? },
             queues: Connect::queues(from)?,
         })
     }

@@ -269,6 +269,7 @@ impl Asked {
 mod tests {
     use super::*;
     use crate::stats::COUNTS;
+    use laxonje::Offers;
 
     const ASKED: Asked = Asked { device: 3, queues: 2, counters: 4 };
 
@@ -360,7 +361,7 @@ mod tests {
         let filter = |number| {
             let text = include_bytes!("../../../../examples/count-protocols/settings.toml").to_vec();
             let program = laxonje::Program::from_settings(&text).unwrap();
-            Filter { path: "f.toml".into(), program, text, number, lists_of: 0 }
+            Filter { path: "f.toml".into(), program, text, number, lists_of: 0, offers: Offers::ALL }
         };
         let connect = |device| Connect {
             device,
@@ -370,6 +371,7 @@ mod tests {
             fresh: true,
             notifies: true,
             scatters: true,
+            offers: Offers::ALL,
             queues: Vec::new(),
         };
         let (first, second) = (filter(1), filter(2));

@@ -1,6 +1,6 @@
 //! The process of a guest: it takes the main process's orders, and serves the guest's devices by threads. It has no capability.
 use super::messages::{Cause, Connect, Order, Report, MOST_MESSAGE, WORDS_PART};
-use crate::filters::relisted;
+use crate::filters::{loaded, relisted};
 use crate::keys::QueueKeys;
 use crate::log::{self, Log, Logs};
 use crate::options::Options;
@@ -137,7 +137,7 @@ impl Serving {
     fn verify(&mut self, number: u64, lists_of: u64) {
         let text = std::mem::take(&mut self.text);
         let known = self.programs.get(&lists_of).and_then(|program| relisted(program, &text));
-        match known.map_or_else(|| Program::from_settings(&text), Ok) {
+        match known.map_or_else(|| loaded(&text), Ok) {
             Ok(program) => drop(self.programs.insert(number, program)),
             Err(error) => self.log.line(&format!("a filter isn't accepted: {error}")),
         }
@@ -154,7 +154,8 @@ impl Serving {
             let totals = Arc::new(Totals::default());
             let guest = self.guest(keys, connect.fresh, Arc::clone(&totals), &log)?;
             let events = Events::of(events, keys.event).map_err(|error| format!("its event channel: {error}"))?;
-            let queue = make_queue(program, &guest, self.domain, connect.ifindex, number).map_err(|error| error.to_string())?;
+            let mut queue = make_queue(program, &guest, self.domain, connect.ifindex, number).map_err(|error| error.to_string())?;
+            queue.offer(connect.offers).map_err(|error| error.to_string())?;
             let place = Place { domain: self.domain, device: connect.device, queue: number, connection: connect.connection };
             let (stalled, log) = (Arc::clone(&stalled), log.clone());
             let (notifies, scatters) = (connect.notifies, connect.scatters);

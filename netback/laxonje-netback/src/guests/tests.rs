@@ -4,6 +4,7 @@ use super::*;
 use crate::keys::QueueKeys;
 use crate::os::lock;
 use crate::stats::Counts;
+use laxonje::Offers;
 use std::collections::VecDeque;
 use std::path::PathBuf;
 use std::sync::{Mutex, MutexGuard, PoisonError};
@@ -101,6 +102,7 @@ fn filter(text: &[u8]) -> Filter {
         text: text.to_vec(),
         number: text.len() as u64,
         lists_of: 0,
+        offers: Offers::ALL,
     }
 }
 
@@ -121,8 +123,8 @@ impl Bench {
     fn connect_queues(&mut self, domain: u16, device: u32, filter: &Filter, count: usize) -> u64 {
         let (first, second) = Socket::pair().unwrap();
         let queues = vec![QueueKeys { tx: 8, rx: 9, event: 3 }; count];
-        let connect =
-            Connect { device, connection: 1, ifindex: 1, program: filter.number, fresh: true, notifies: true, scatters: true, queues };
+        let (program, offers) = (filter.number, filter.offers);
+        let connect = Connect { device, connection: 1, ifindex: 1, program, fresh: true, notifies: true, scatters: true, offers, queues };
         self.guests().connect(domain, filter, connect, &[first.fd(), second.fd()]).unwrap()
     }
 

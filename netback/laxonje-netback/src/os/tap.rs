@@ -1,13 +1,13 @@
 //! TAP devices, and what is set of an interface.
 //!
 //! What makes each `unsafe` block sound: the requests of `netdevice(7)` and of `if_tun.h` read and write one `struct ifreq`, which is
-//! the caller's own; SIOCBRADDIF reads it, and TUNSETPERSIST takes a number.
+//! the caller's own; SIOCBRADDIF reads it, TUNSETPERSIST takes a number, and TUNGETFEATURES writes one.
 use super::batch::{Batch, Moved};
 use super::done;
 use crate::ffi;
 use std::fs::{File, OpenOptions};
 use std::io::{self, Read, Write};
-use std::os::raw::{c_int, c_ulong};
+use std::os::raw::{c_int, c_uint, c_ulong};
 use std::os::unix::fs::OpenOptionsExt;
 use std::os::unix::io::{AsRawFd, OwnedFd, RawFd};
 use std::os::unix::net::UnixDatagram;
@@ -190,6 +190,14 @@ impl Tap {
         done(unsafe { ffi::ioctl(self.file.as_raw_fd(), ffi::TUNSETPERSIST, c_ulong::from(stays)) })
     }
 
+    /// Whether the kernel takes packets with a header that says how they are to be segmented.
+    pub fn takes_headers(&self) -> io::Result<bool> {
+        let mut features: c_uint = 0;
+        // SAFETY: the module's reason.
+        done(unsafe { ffi::ioctl(self.file.as_raw_fd(), ffi::TUNGETFEATURES, &mut features) })?;
+        Ok(features & c_uint::from(ffi::IFF_VNET_HDR) != 0)
+    }
+
     /// Whether its interface has a carrier.
     pub fn set_carrier(&self, is_there: bool) -> io::Result<()> {
         let on = c_int::from(is_there);
@@ -247,6 +255,7 @@ mod tests {
         let first = interface.open_tap(kind).unwrap();
         assert!(interface.open_tap(kind).is_err(), "one queue is one user's");
         assert!(first.set_carrier(false).is_ok() && first.set_carrier(true).is_ok());
+        assert!(first.takes_headers().unwrap());
         drop(first);
         assert_eq!(made(&name, TapKind::Several).unwrap().1, TapKind::One);
         let index = interface.index().unwrap();

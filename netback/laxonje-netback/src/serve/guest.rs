@@ -37,9 +37,44 @@ const PAGES_AHEAD: usize = 32;
 const PAGES_ASKED: usize = 64;
 /// The memory for the pages of a queue that are copied: each of its three rooms may take a page more.
 pub const COPIES_BYTES: usize = (2 * PAGES_AHEAD + PAGES_ASKED + 3) * PAGE_BYTES;
+/// Flags of a tx request, in its second word, and of an extra info, in its first.
 const MORE_DATA: u32 = 4 << 16;
+const EXTRA_INFO: u32 = 8 << 16;
+const MORE_EXTRAS: u32 = 1 << 8;
 const PERMIT_ACCESS: u32 = 1;
 const READONLY: u32 = 4;
+
+/// What the next tx slot is, by those before it (netif.h).
+#[derive(Clone, Copy, Debug, PartialEq, Eq)]
+enum Comes {
+    /// The first of a packet.
+    First,
+    /// One with more of its data.
+    Data,
+    /// An extra info, and behind the last of them more data, or the next packet.
+    Extra { then_data: bool },
+}
+
+impl Comes {
+    fn is_extra(self) -> bool {
+        matches!(self, Comes::Extra { .. })
+    }
+
+    /// What comes behind this slot, of these first words.
+    fn behind(self, first: u32, second: u32) -> Comes {
+        let then_data = match self {
+            Comes::First if second & EXTRA_INFO != 0 => return Comes::Extra { then_data: second & MORE_DATA != 0 },
+            Comes::Extra { .. } if first & MORE_EXTRAS != 0 => return self,
+            Comes::Extra { then_data } => then_data,
+            Comes::First | Comes::Data => second & MORE_DATA != 0,
+        };
+        if then_data {
+            Comes::Data
+        } else {
+            Comes::First
+        }
+    }
+}
 
 /// How pages of a guest are had.
 #[derive(Clone, Copy, Debug, PartialEq, Eq)]
@@ -176,19 +211,15 @@ impl<Xen: Pages> XenGuest<Xen> {
     fn guess_requests(&mut self, shown: u32) -> u32 {
         let mut places = Places::of(&self.taken);
         let (mut requests, mut copies) = (0, 0);
+        let mut comes = Comes::First;
         self.copies.clear();
         for number in 0..shown {
             let slot = self.tx.slot(number);
-            let (guess, more) = self.guess_request(slot);
-            let at = match places.take(guess.bytes) {
-                Some(at) => at,
-                None => break,
-            };
-            if guess.bytes > 0 {
-                self.copies.push(PageCopy { at, ..guess });
-                self.tx_guessed.push(slot);
+            if !comes.is_extra() && !self.guess_request(slot, &mut places) {
+                break;
             }
-            if !more {
+            comes = comes.behind(self.tx.word(slot, 0), self.tx.word(slot, 1));
+            if comes == Comes::First {
                 (requests, copies) = (number + 1, self.copies.len());
             }
         }
@@ -199,14 +230,21 @@ impl<Xen: Pages> XenGuest<Xen> {
         }
     }
 
-    /// What a tx slot asks to be read: whole words of one page. Whether its packet has more.
-    fn guess_request(&self, slot: usize) -> (PageCopy, bool) {
+    /// Guesses at what a tx slot asks to be read: whole words of one page. Returns whether there was room.
+    fn guess_request(&mut self, slot: usize, places: &mut Places) -> bool {
         let (second, third) = (self.tx.word(slot, 1), self.tx.word(slot, 2));
         let (offset, size) = ((second & 0xffff) as usize, (third >> 16) as usize);
         let start = (offset / 4 * 4).min(PAGE_BYTES);
-        let end = ((offset + size + 3) / 4 * 4).min(PAGE_BYTES);
-        let copy = PageCopy { reference: self.tx.word(slot, 0), offset: start, at: 0, bytes: end - start, allowed: false };
-        (copy, second & MORE_DATA != 0)
+        let bytes = ((offset + size + 3) / 4 * 4).min(PAGE_BYTES) - start;
+        let at = match places.take(bytes) {
+            Some(at) => at,
+            None => return false,
+        };
+        if bytes > 0 {
+            self.copies.push(PageCopy { reference: self.tx.word(slot, 0), offset: start, at, bytes, allowed: false });
+            self.tx_guessed.push(slot);
+        }
+        true
     }
 
     /// Whether all requests before an index are answered.

@@ -4,10 +4,10 @@ use super::guest::Delivering;
 use super::rests::Rests;
 use super::stall::{Due, Stall};
 use super::worker::{Ended, Fault, Order, Told, Worker};
-use crate::frame;
+use crate::frame::{self, Left};
 use crate::os::{wait, Wanted};
 use crate::stats::Totals;
-use laxonje::{Action, Awaited, Delivery, Flags, Program, Stopped, Turn};
+use laxonje::{Action, Awaited, Delivery, Program, Stopped, Turn, TurnRun};
 use std::io::{self, Read};
 use std::os::unix::io::AsRawFd;
 use std::os::unix::net::UnixStream;
@@ -259,7 +259,7 @@ impl Running {
                 self.worker.log.caused(&format_args!("refused a packet: {refusal}{grant}"));
             }
             Turn::Ran(run) => match run.action {
-                Action::Pass => self.forward(run.flags),
+                Action::Pass => self.forward(run),
                 Action::Tx => Totals::add(&totals.sent_back, 1),
                 Action::Drop => Totals::add(&totals.dropped, 1),
                 _ => Totals::add(&totals.aborted, 1),
@@ -270,7 +270,7 @@ impl Running {
     }
 
     /// A packet that passed is to be given to the TAP device.
-    fn forward(&mut self, flags: Flags) {
+    fn forward(&mut self, run: TurnRun) {
         let totals = &self.worker.totals;
         let room = self.out.room();
         let length = self.worker.queue.packet(room);
@@ -282,14 +282,11 @@ impl Running {
         }
         Totals::add(&totals.passed, 1);
         Totals::add(&totals.passed_bytes, length as u64);
-        let blank = if flags.checksum_blank() { frame::prepare(&mut room[..length]) } else { None };
-        if flags.checksum_blank() {
-            Totals::add(&totals.blank_checksums, 1);
-            if blank.is_none() {
-                return Totals::add(&totals.blank_dropped, 1);
-            }
+        let left = frame::left(&mut room[..length], run.flags.checksum_blank(), run.segments);
+        count_left(totals, run, left);
+        if let Some(left) = left {
+            self.out.push(frame::header(left), length);
         }
-        self.out.push(frame::header(blank), length);
         if self.out.is_full() {
             self.exchange(false);
         }
@@ -368,6 +365,20 @@ impl Running {
         }
         Ok(())
     }
+}
+
+/// Counts what a packet that passed leaves to the kernel. `None`: it is dropped.
+fn count_left(totals: &Totals, run: TurnRun, left: Option<Left>) {
+    let dropped = match run.segments {
+        Some(_) => &totals.unsegmented,
+        None => &totals.blank_dropped,
+    };
+    let counts = [
+        (&totals.blank_checksums, run.flags.checksum_blank()),
+        (&totals.segmented, matches!(left, Some(Left::Segments(..)))),
+        (dropped, left.is_none()),
+    ];
+    counts.into_iter().for_each(|(count, is_counted)| Totals::add(count, is_counted.into()));
 }
 
 /// A queue that was left in the midst of a turn isn't used again: `caught` ends its thread.

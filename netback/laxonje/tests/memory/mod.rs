@@ -74,6 +74,12 @@ impl Memory {
         self.set(TX, 0, index.wrapping_add(1));
     }
 
+    /// An extra info at an index.
+    pub fn extra(&self, index: u32, words: [u32; 2]) {
+        let slot = RING + 3 * (index as usize % 256);
+        (0..).zip(words).for_each(|(word, value)| self.set(TX, slot + word, value));
+    }
+
     /// The id and the status of the tx response at an index.
     pub fn sent(&self, index: u32) -> (u32, i16) {
         let word = self.get(TX, RING + 3 * (index as usize % 256));

@@ -6,7 +6,7 @@ mod ways;
 
 use super::ring::SLOTS;
 use super::*;
-use laxonje::{Action, Delivery, Program, Queue, Refusal, Setup, Turn};
+use laxonje::{Action, Delivery, Offers, Program, Queue, Refusal, SegmentKind, Segments, Setup, Turn};
 use std::cell::RefCell;
 use std::collections::BTreeMap;
 use std::rc::Rc;
@@ -16,6 +16,7 @@ const GUEST: u16 = 4;
 const TX: u32 = 1000;
 const RX: u32 = 1001;
 const MORE: u32 = 4;
+const EXTRA: u32 = 8;
 
 /// A page that may be written, or not.
 type Granted = (Rc<Page>, bool);
@@ -117,7 +118,8 @@ impl Bench {
             queue: 0,
             at,
         };
-        let queue = Queue::new(program, &setup).unwrap();
+        let mut queue = Queue::new(program, &setup).unwrap();
+        queue.offer(Offers::ALL).unwrap();
         Bench { memory, guest, queue }
     }
 
@@ -182,6 +184,14 @@ impl Pretended {
         page[slot].store(reference, SeqCst);
         page[slot + 1].store(offset | (flags << 16), SeqCst);
         page[slot + 2].store((index % 256) | (size << 16), SeqCst);
+        page[0].store(index.wrapping_add(1), SeqCst);
+    }
+
+    /// An extra info of these words.
+    fn extra(&self, index: u32, first: u32, second: u32) {
+        let (page, slot) = (self.page(TX), SLOTS + TX_SLOT * (index % 256) as usize);
+        page[slot].store(first, SeqCst);
+        page[slot + 1].store(second, SeqCst);
         page[0].store(index.wrapping_add(1), SeqCst);
     }
 
@@ -252,6 +262,90 @@ fn whole_packets_are_copied_as_far_as_there_is_room() {
     bench.guest.forget();
     bench.memory.send(3 * slots, 20, 0, MORE, 60);
     assert_eq!((bench.guest.fetch().unwrap(), bench.count(|totals| &totals.copied_pages)), (3 * slots + 1, 36));
+}
+
+/// The first word of a GSO extra (netif.h).
+fn gso(size: u32) -> u32 {
+    1 | size << 16
+}
+
+#[test]
+fn guesses_step_over_extras() {
+    let mut bench = Bench::new(Way::Copy, 2);
+    (20..23).for_each(|reference| bench.memory.grant_bytes(reference, 0));
+    // two packets to segment, of a slot of data and of three, one after another, and one that has no extra
+    bench.memory.send(0, 20, 0, EXTRA, 1000);
+    bench.memory.extra(1, gso(600), 1);
+    bench.memory.send(2, 20, 0, MORE | EXTRA, 3000);
+    bench.memory.extra(3, gso(1448), 2);
+    bench.memory.send(4, 21, 0, MORE, 1000);
+    bench.memory.send(5, 22, 0, 0, 1000);
+    bench.memory.send(6, 22, 0, 0, 60);
+    assert_eq!(bench.guest.fetch().unwrap(), 7);
+    assert_eq!(bench.memory.said(), ["20<0+1000 20<0+3000 21<0+1000 22<0+1000 22<0+60"]);
+    let mut segments = || match bench.turn() {
+        Turn::Ran(run) => (run.slots, run.segments),
+        other => panic!("{other:?}"),
+    };
+    assert_eq!(segments(), (2, Some(Segments { kind: SegmentKind::Tcpv4, size: 600 })));
+    assert_eq!(segments(), (4, Some(Segments { kind: SegmentKind::Tcpv6, size: 1448 })));
+    assert_eq!(segments(), (1, None));
+    assert!(bench.guest.is_done(7));
+    assert_eq!((bench.memory.status(TX, 1), bench.memory.status(TX, 2)), (1, 0));
+    assert_eq!((bench.count(|totals| &totals.copied_pages), bench.count(|totals| &totals.asked_pages)), (5, 0));
+}
+
+#[test]
+fn what_comes_next_is_what_the_slots_before_say() {
+    let (data, first, second) = (Comes::Data, Comes::First, 1);
+    let extra = |then_data| Comes::Extra { then_data };
+    let rows = [
+        (first, 0, second, first),
+        (first, MORE_EXTRAS, MORE_DATA, data),
+        (first, 0, EXTRA_INFO, extra(false)),
+        (first, 0, EXTRA_INFO | MORE_DATA, extra(true)),
+        (data, 0, 0, first),
+        (data, 0, MORE_DATA | EXTRA_INFO, data),
+        (data, 0, EXTRA_INFO, first),
+        (extra(true), 1, 1, data),
+        (extra(false), 1, 1, first),
+        (extra(true), 1 | MORE_EXTRAS, 1, extra(true)),
+        (extra(false), 1 | MORE_EXTRAS, MORE_DATA, extra(false)),
+        (extra(false), 1, MORE_DATA | EXTRA_INFO, first),
+    ];
+    for (comes, first, second, next) in rows {
+        assert_eq!(comes.behind(first, second), next, "{comes:?} {first:x} {second:x}");
+    }
+}
+
+#[test]
+fn extras_that_lie_are_refused_or_halt() {
+    for way in [Way::Copy, Way::Map] {
+        let mut bench = Bench::new(way, 2);
+        bench.memory.grant_bytes(20, 0);
+        let mut index = 0;
+        // an extra of no offered kind, of a size that none may have, of another type; two of them
+        let lies = [(gso(535), 1), (gso(0), 1), (gso(1), 2), (gso(1001), 1), (gso(600), 0), (gso(600), 3), (gso(600), 255), (2, 0), (4, 1)];
+        for (first, second) in lies {
+            bench.memory.send(index, 20, 0, EXTRA, 1000);
+            bench.memory.extra(index + 1, first, second);
+            index += 2;
+            bench.guest.fetch().unwrap();
+            assert_eq!(bench.turn(), Turn::Refused(Refusal::EXTRA), "{first:x} {second:x}");
+            assert!(bench.guest.is_done(index));
+        }
+        bench.memory.send(index, 20, 0, EXTRA, 1000);
+        bench.memory.extra(index + 1, gso(600) | MORE_EXTRAS, 1);
+        bench.memory.extra(index + 2, gso(600), 1);
+        bench.guest.fetch().unwrap();
+        assert_eq!(bench.turn(), Turn::Refused(Refusal::EXTRA));
+        // more than a packet may have, or of no type
+        bench.memory.send(index + 3, 20, 0, EXTRA, 1000);
+        bench.memory.extra(index + 4, 0, 1);
+        bench.guest.fetch().unwrap();
+        assert!(matches!(bench.turn(), Turn::Halted(_)));
+        assert_eq!(bench.count(|totals| &totals.strange), 0);
+    }
 }
 
 #[test]
@@ -479,6 +573,8 @@ fn a_producer_that_lies_halts_the_queue() {
 #[derive(Debug, Default)]
 struct Came {
     ran: u32,
+    /// Those of them that are to be segmented.
+    segmented: u32,
     refused: u32,
     sent: u32,
     halts: u32,
@@ -493,7 +589,10 @@ fn whatever_a_guest_writes_nothing_ungranted_is_touched() {
         let way = if seed % 3 == 0 { Way::Map } else { Way::Copy };
         until_it_halts(way, 2 + (seed % 2) as u8, Any::Seed(seed), usize::MAX, &mut came);
     }
-    assert!(came.ran > 300 && came.refused > 300 && came.sent > 300 && came.halts == 299 && came.asked > 300, "{came:?}");
+    assert!(
+        came.segmented > 30 && came.ran > 300 && came.refused > 300 && came.sent > 300 && came.halts == 299 && came.asked > 300,
+        "{came:?}"
+    );
 }
 
 /// A guest of these numbers, for so many rounds at most.
@@ -524,6 +623,7 @@ fn one_round(bench: &mut Bench, any: &mut Any, arena: &mut Arena, came: &mut Cam
     bench.guest.forget();
     let halted = matches!(turn, Turn::Halted(_)) || matches!(delivery, Delivery::Halted(_));
     came.ran += u32::from(matches!(turn, Turn::Ran(_)));
+    came.segmented += u32::from(matches!(turn, Turn::Ran(run) if run.segments.is_some()));
     came.refused += u32::from(matches!(turn, Turn::Refused(_)));
     came.sent += u32::from(matches!(delivery, Delivery::Sent { .. }));
     came.halts += u32::from(halted);
@@ -558,15 +658,42 @@ impl Any {
         }
     }
 
+    /// The words of an extra: most often a GSO one that is near to what is taken, and now and then one more behind it.
+    fn extra(&mut self) -> (u32, u32) {
+        let kind = match self.below(32) {
+            0 => self.below(256),
+            1 => 1 + self.below(5),
+            _ => 1,
+        };
+        let size = match self.below(4) {
+            0 => self.below(65_536),
+            1 => 534 + self.below(4),
+            _ => 536 + self.below(1000),
+        };
+        let more = if self.below(12) == 0 { MORE_EXTRAS } else { 0 };
+        let segments = if self.below(8) == 0 { self.below(256) } else { 1 + self.below(2) };
+        (kind | more | size << 16, segments)
+    }
+
     /// Slots that are near to what is looked at, a producer, and now and then a grant that ends or comes.
     fn scribble(&mut self, memory: &Pretended) {
         let (tx, rx) = (memory.page(TX), memory.page(RX));
         let (sent, posted) = (tx[2].load(SeqCst), rx[2].load(SeqCst));
-        let count = self.below(4);
-        for number in 0..count {
-            let flags = if number + 1 < count && self.below(2) == 0 { MORE } else { 0 };
+        let (mut count, mut index) = (self.below(4), sent);
+        while count > 0 {
+            count -= 1;
+            let more = if count > 0 && self.below(2) == 0 { MORE } else { 0 };
+            let extra = if self.below(4) == 0 { EXTRA } else { 0 };
             let (reference, offset, size) = (self.reference(), self.below(4200), self.below(3000));
-            memory.send(sent.wrapping_add(number), reference, offset, flags, size);
+            memory.send(index, reference, offset, more | extra, size);
+            index = index.wrapping_add(1);
+            if extra > 0 {
+                let (first, second) = self.extra();
+                memory.extra(index, first, second);
+                index = index.wrapping_add(1);
+            }
+        }
+        for number in 0..self.below(4) {
             let reference = self.reference();
             memory.post(posted.wrapping_add(number), reference);
         }

@@ -11,6 +11,8 @@ struct Both([Bench; 2]);
 #[derive(Debug, Default)]
 pub struct Seen {
     passed: u32,
+    /// Those that are to be segmented.
+    segmented: u32,
     returned: u32,
     refused: u32,
     sent: u32,
@@ -58,11 +60,18 @@ fn grant(bench: &mut Bench, any: &mut Any) {
 fn show(bench: &mut Bench, any: &mut Any) {
     let (sent, posted) = (bench.guest.tx.done, bench.guest.rx.done);
     let (requests, buffers) = (any.below(7), any.below(7));
+    let mut index = sent;
     for number in 0..requests {
-        let flags = if number + 1 < requests && any.below(3) == 0 { MORE } else { any.below(50) / 49 * 8 };
+        let more = if number + 1 < requests && any.below(3) == 0 { MORE } else { 0 };
+        let extra = if any.below(6) == 0 { EXTRA } else { 0 };
         let reference = if any.below(20) == 0 { any.below(40_000) } else { READ.start + any.below(8) };
         let (offset, size) = (any.below(3000), any.below(1500));
-        bench.memory.send(sent.wrapping_add(number), reference.max(READ.start), offset, flags, size);
+        bench.memory.send(index, reference.max(READ.start), offset, more | extra, size);
+        if extra > 0 {
+            let (first, second) = any.extra();
+            bench.memory.extra(index.wrapping_add(1), first, second);
+        }
+        index = index.wrapping_add(1 + extra / EXTRA);
     }
     for number in 0..buffers {
         bench.memory.post(posted.wrapping_add(number), WRITTEN.start + any.below(8));
@@ -79,17 +88,20 @@ fn words(bench: &Bench, reference: u32) -> Vec<u32> {
 }
 
 fn turns(bench: &mut Bench, _: &mut Any) -> Vec<(Turn, Vec<u8>, String)> {
-    let end = bench.guest.fetch().unwrap();
     let mut came = Vec::new();
-    while !bench.guest.is_done(end) && came.len() < 8 {
-        let turn = bench.turn();
-        let packet = if matches!(turn, Turn::Ran(_)) { bench.packet() } else { Vec::new() };
-        came.push((turn, packet, bench.guest.take_refused().to_string()));
-        if matches!(turn, Turn::Halted(_) | Turn::Idle) {
-            break;
+    // a packet that isn't whole is no guess: it comes with the next pages
+    while bench.guest.shows_packets() && came.len() < 8 {
+        let end = bench.guest.fetch().unwrap();
+        while !bench.guest.is_done(end) && came.len() < 8 {
+            let turn = bench.turn();
+            let packet = if matches!(turn, Turn::Ran(_)) { bench.packet() } else { Vec::new() };
+            came.push((turn, packet, bench.guest.take_refused().to_string()));
+            if matches!(turn, Turn::Halted(_) | Turn::Idle) {
+                return came;
+            }
         }
+        bench.guest.forget();
     }
-    bench.guest.forget();
     came
 }
 
@@ -128,6 +140,7 @@ fn round(both: &mut Both, any: &mut Any, seen: &mut Seen) -> bool {
     let halts = turns.iter().any(|(turn, ..)| matches!(turn, Turn::Halted(_)))
         || deliveries.iter().any(|delivery| matches!(delivery, Delivery::Halted(_)));
     seen.passed += passed as u32;
+    seen.segmented += turns.iter().filter(|(turn, ..)| matches!(turn, Turn::Ran(run) if run.segments.is_some())).count() as u32;
     seen.returned += returned as u32;
     seen.refused += refused as u32;
     seen.sent += (deliveries.len() - unsent) as u32;
@@ -148,5 +161,8 @@ fn copies_and_mappings_give_the_same_frames_and_responses() {
     for seed in 1..40u32 {
         rounds(2 + (seed % 2) as u8, Any::Seed(seed), &mut seen);
     }
-    assert!(seen.passed > 100 && seen.returned > 20 && seen.refused > 100 && seen.sent > 60 && seen.halted > 2, "{seen:?}");
+    assert!(
+        seen.passed > 100 && seen.segmented > 10 && seen.returned > 20 && seen.refused > 100 && seen.sent > 60 && seen.halted > 2,
+        "{seen:?}"
+    );
 }
