@@ -14,7 +14,8 @@ LEFT_OUT = DEVICES, EVENTS, PRINTS = "devices", "events", "prints"
 DEVICE_MAPS = 14, 25  # by their number or a hash of it, of which each may be sent a copy
 KINDS = {14: DEVICES, 15: DEVICES, 16: DEVICES, 17: DEVICES, 18: DEVICES, 25: DEVICES, 4: EVENTS, 27: EVENTS}
 LOOKUP, REDIRECT, REDIRECT_MAP = 1, 23, 51
-ABORTED, DROPPED = 0, 4  # the latter is XDP_REDIRECT, as which a packet is dropped if there is no such device
+# the latter is XDP_REDIRECT, as which a packet is dropped if there is no such device
+ABORTED, SENT_BACK, DROPPED = 0, 3, 4
 ACTIONS = "XDP_ABORTED", "XDP_DROP", "XDP_PASS", "XDP_TX", "XDP_REDIRECT"
 # of the flags of bpf_redirect_map: the action if there is no device, all devices, and all but the packet's own
 ACTION, ALL_DEVICES, BUT_ITS_OWN = 3, 8, 16
@@ -62,7 +63,6 @@ class Absent(NamedTuple):
             return action, f"bpf_redirect_map gives {ACTIONS[action]}, as in Linux while the map {name} is empty"
         of, number, why = ANSWERS.get(number, (None, 0, ""))
         return (number, why) if of in self.left_out else None
-
 
     def flags_of(self, name: str) -> int:
         """The flags of bpf_redirect_map that a map knows. They stand in the place of its address."""

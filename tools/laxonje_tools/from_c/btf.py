@@ -68,6 +68,11 @@ class MapOfC(NamedTuple):
         """How many counters a value has here: one for each eight bytes that it begins."""
         return -(-self.value_bytes // COUNTER_BYTES)
 
+    @property
+    def has_parts(self) -> bool:
+        """Whether a value has numbers that are a part of a counter here."""
+        return any(0 < number.size < COUNTER_BYTES for number in self.numbers)
+
 
 class Types:
     """The types by their numbers, from 1."""

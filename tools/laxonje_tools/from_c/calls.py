@@ -9,9 +9,10 @@ import struct
 from functools import partial
 from typing import TYPE_CHECKING, AbstractSet, Callable, Iterator, NamedTuple, Optional
 
-from .absent import ABORTED, ACTION, ALL_DEVICES, DEVICES, DROPPED, PRINTS, REDIRECT_MAP
+from .absent import ABORTED, ACTION, ALL_DEVICES, DEVICES, DROPPED, PRINTS, REDIRECT_MAP, SENT_BACK
 from .elf import SLOT_BYTES
 from .lines import CALL, EXIT, FAR_JUMP, JUMP, SAVED, WIDE, Fault, Line, lines_of, packed, read_later, writes, written
+from .own_device import sent_back
 
 if TYPE_CHECKING:
     from collections.abc import Mapping
@@ -33,6 +34,7 @@ PRINTK, CPU, CSUM_DIFF, VPRINTK, BUFF_LEN, LOAD_BYTES, STORE_BYTES = 6, 8, 28, 1
 TOO_FAR, TOO_LONG, MOST_OFFSET = -14, -22, 0xFFFF  # of Linux: EFAULT, EINVAL, and the offset from which on it is the former
 MOST_COPIED, MOST_SUMMED = 128, 512  # bytes
 START_FIELD, END_FIELD = 0, 4  # of the context
+TO_ITS_DEVICE = "bpf_redirect to the device that the packet came from gives XDP_TX"
 
 
 class Replaced(NamedTuple):
@@ -50,6 +52,7 @@ class Calls:
 
     def __init__(self, functions: list[Function], relocations: Callable, absent: Absent, arrays: Mapping[str, list[tuple[int, int]]]) -> None:
         self.functions, self.relocations, self.absent, self.arrays, self.notes = functions, relocations, absent, arrays, []
+        self.sent_back = set()
 
     def replaced(self, function: Function) -> Replaced:
         lines = self.inlined(function, 0, 0)
@@ -64,6 +67,8 @@ class Calls:
         own, needed = frame_of(lines), read_later(lines)
         if depth:
             move_frame(lines, above)
+        else:
+            self.sent_back = set(sent_back(lines))
         out = []
         for line in lines:
             line.origin = line.origin if origin is None else origin
@@ -122,7 +127,7 @@ class Calls:
             self.notes.append((line.origin, "bpf_get_smp_processor_id gives 0 here, as Linux may"))
             return put_all(line, [(MOV_CONSTANT, 0)])
         constant, named = (partial(of, lines, line) for of in (constant_in, map_in))
-        answer = self.absent.answer(number, constant, named)
+        answer = (SENT_BACK, TO_ITS_DEVICE) if line in self.sent_back else self.absent.answer(number, constant, named)
         if answer is not None:
             self.notes.append((line.origin, answer[1]))
             return put_all(line, [(MOV_CONSTANT, 0, 0, 0, answer[0])])

@@ -101,13 +101,19 @@ def reads(line: Line, register: int) -> bool:
     return is_destination or line.source == register and (kind in (1, 3) or kind in (4, 5, 6, 7) and bool(by_register))
 
 
-def read_later(lines: list[Line]) -> dict[Line, set[int]]:
-    """Of each line the registers of those that functions leave as they were that may be read behind it, and before they
-    are written."""
+def following_in(lines: list[Line]) -> dict[Line, list[Line]]:
+    """Of each line those that may come next."""
     following = {line: [line.target] if line.target else [] for line in lines}
     for line, after in zip(lines, lines[1:]):
         if line.opcode not in (EXIT, JUMP, FAR_JUMP):
             following[line].append(after)
+    return following
+
+
+def read_later(lines: list[Line]) -> dict[Line, set[int]]:
+    """Of each line the registers of those that functions leave as they were that may be read behind it, and before they
+    are written."""
+    following = following_in(lines)
     later, changes = {line: set() for line in lines}, True
     while changes:
         changes = False

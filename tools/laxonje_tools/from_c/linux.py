@@ -38,6 +38,13 @@ class Options(ctypes.Structure):
     ]
 
 
+class MapRow(NamedTuple):
+    """A key of a map, and the value under it: zeros if it is empty."""
+
+    key: bytes
+    value: bytes
+
+
 class Answer(NamedTuple):
     """The action's name, and the packet as it is left, in hex; None for both if Linux doesn't run packets of this length."""
 
@@ -60,9 +67,9 @@ def library() -> ctypes.CDLL:
     return found
 
 
-def answers(path: str, function: str, packets: Iterable[bytes], lists: Mapping[str, list[str]]) -> list[Answer]:
-    """What Linux makes of packets, one after another on the same maps. `lists`: the keys of maps, in hex. Unasked if it doesn't
-    load the program."""
+def answers(path: str, function: str, packets: Iterable[bytes], rows: Mapping[str, list[MapRow]]) -> list[Answer]:
+    """What Linux makes of packets, one after another on the same maps. `rows`: those of maps. Unasked if it doesn't load the
+    program."""
     libbpf = library()
     opened = libbpf.bpf_object__open_file(os.fsencode(path), None)
     if not opened:
@@ -77,21 +84,22 @@ def answers(path: str, function: str, packets: Iterable[bytes], lists: Mapping[s
         failed = libbpf.bpf_object__load(opened)
         if failed:
             raise Unasked(f"Linux doesn't load the program: {os.strerror(abs(failed))}")
-        for name, keys in lists.items():
-            fill(libbpf, opened, name, keys)
+        for name, there in rows.items():
+            fill(libbpf, opened, name, there)
         number = libbpf.bpf_program__fd(ctypes.c_void_p(program))
         return [answer(libbpf, number, packet) for packet in packets]
     finally:
         libbpf.bpf_object__close(opened)
 
 
-def fill(libbpf: ctypes.CDLL, opened: ctypes.c_void_p, name: str, keys: list[str]) -> None:
-    """Puts rows with these keys into a map of a loaded object. Their values are zeros."""
+def fill(libbpf: ctypes.CDLL, opened: ctypes.c_void_p, name: str, rows: list[MapRow]) -> None:
+    """Puts rows into a map of a loaded object. A per-CPU map gets the value for each processor."""
     found = libbpf.bpf_object__find_map_by_name(opened, name.encode())
     number = libbpf.bpf_map__fd(ctypes.c_void_p(found)) if found else -1
-    for key in map(bytes.fromhex, keys):
-        if libbpf.bpf_map_update_elem(number, key, ZEROS, ctypes.c_uint64(0)):
-            raise Unasked(f"Linux doesn't take the row {key.hex()} of the map {name}")
+    for row in rows:
+        value = row.value * (len(ZEROS) // len(row.value)) if row.value else ZEROS
+        if libbpf.bpf_map_update_elem(number, row.key, value, ctypes.c_uint64(0)):
+            raise Unasked(f"Linux doesn't take the row {row.key.hex()} of the map {name}")
 
 
 def answer(libbpf: ctypes.CDLL, program: int, packet: bytes) -> Answer:

@@ -5,7 +5,7 @@ from typing import TYPE_CHECKING, Callable, Iterator, NamedTuple, Optional
 
 from laxonje_tools.output import stop_on
 
-from . import btf, elf, faults, lists
+from . import beginnings, btf, elf, faults, lists
 
 if TYPE_CHECKING:
     from .btf import MapOfC
@@ -19,7 +19,7 @@ SizedMap = tuple[str, int, Optional[int]]  # its name, entries and counters, Non
 
 class Map(NamedTuple):
     """A map of settings. `kind`: of its keys, None for an array's. `size`: how many bytes of data a key has. `rows`: its list,
-    in hex."""
+    in hex. `values`: what its counters begin with, if that isn't 0."""
 
     name: str
     entries: int
@@ -27,9 +27,11 @@ class Map(NamedTuple):
     kind: Optional[str] = None
     size: int = faults.INDEX_BYTES
     rows: tuple = ()
+    values: tuple = ()
 
     def settings(self) -> dict:
         row = {"name": self.name, "entries": self.entries, "counters": self.counters}
+        row = {**row, "values": list(self.values)} if self.values else row
         return row if self.kind is None else {**row, "key": self.kind, "size": self.size, "rows": list(self.rows)}
 
 
@@ -59,7 +61,7 @@ def maps_of(
     stop_on(f"{source}: {fault}" for fault in faults.faults_of_sizes(maps))
     symbols = {row.name for row in elf.symbols_of(sections)}
     stop_on(f"{source}: there is no map {name} in it" for name in sorted(set(said) - symbols))
-    return with_lists(asked, maps), declared
+    return with_values(asked, with_lists(asked, maps), declared), declared
 
 
 def declared_in(asked: Asked, sections: dict[str, Part], named: set[str]) -> Iterator[MapOfC]:
@@ -90,6 +92,19 @@ def with_lists(asked: Asked, maps: list[Map]) -> list[Map]:
     listed = [(row, keys[row.name]) for row in maps if row.name in keys]
     stop_on(f"{files[row.name]}: {fault}" for row, given in listed for fault in faults.faults_of_list(row, given))
     return [row._replace(rows=tuple(key.row(row.kind) for key in keys.get(row.name, []))) for row in maps]
+
+
+def with_values(asked: Asked, maps: list[Map], declared: list[MapOfC]) -> list[Map]:
+    """The maps with what a command says that their counters begin with."""
+    files, numbers = dict(asked.beginnings), {row.name: row for row in declared}
+    missing = files.keys() - {row.name for row in maps}
+    stop_on(f"{asked.source}: it uses no map {name}" for name in sorted(missing))
+    given = {name: beginnings.lines_of_file(path) for name, path in files.items()}
+    try:
+        values = {row.name: beginnings.counters_of(row, numbers.get(row.name), given[row.name]) for row in maps if row.name in given}
+    except beginnings.Fault as fault:
+        stop_on([f"{asked.source}: {fault}"])
+    return [row._replace(values=values.get(row.name, ())) for row in maps]
 
 
 def order_by(places: dict[str, int]) -> Callable[[str], int]:

@@ -27,12 +27,13 @@ BROKEN = struct.error, ValueError, IndexError, KeyError, RecursionError, Overflo
 class Filter(NamedTuple):
     """`settings`: of the program as clang made it. If it has constants or globals in memory, keys of the tools'
     own say so, which `xdpbox` doesn't know; `forms` has those that can be maps as maps. `place`: of a slot its line of C,
-    or None. `per_cpu`: the maps that are per CPU in Linux. `notes`: what its author should know. `values`: its constants
-    that can be set."""
+    or None. `per_cpu`: the maps that are per CPU in Linux. `narrow`: those whose values have numbers of fewer than eight bytes.
+    `notes`: what its author should know. `values`: its constants that can be set."""
 
     settings: dict
     place: Callable
     per_cpu: set
+    narrow: set
     notes: list
     values: list[Constant]
 
@@ -41,6 +42,11 @@ class Filter(NamedTuple):
         """Its settings with its constants as maps, if that can be, and with them in keys of the tools' own."""
         with_maps = constants.with_constants(self.settings)
         return [self.settings] if with_maps is None else [with_maps, self.settings]
+
+    def with_parts(self, settings: dict) -> Optional[dict]:
+        """One of these with maps of which a load may take a part of a counter; None if no value has numbers that are one."""
+        rows = [{**row, "parts": True} if row["name"] in self.narrow else row for row in settings["map"]]
+        return {**settings, "map": rows} if rows != settings["map"] else None
 
     @property
     def has_memory(self) -> bool:
@@ -51,7 +57,7 @@ class Filter(NamedTuple):
 class Asked(NamedTuple):
     """What a command asks for: a file, maps whose sizes it gives, which function, if the file has several, numbers of
     constants, as (name, number), what is left out, in the words of `absent`, entries of declared maps, as (name, number), and
-    files with the rows of maps, as (name, path)."""
+    files with the rows of maps, and with what their counters begin with, as (name, path)."""
 
     source: str
     maps: Iterable[SizedMap] = ()
@@ -60,6 +66,7 @@ class Asked(NamedTuple):
     left_out: frozenset[str] = frozenset()
     entries: Iterable[tuple[str, int]] = ()
     lists: Iterable[tuple[str, str]] = ()
+    beginnings: Iterable[tuple[str, str]] = ()
 
 
 def read(asked: Asked) -> Filter:
@@ -129,7 +136,8 @@ def filter_of(asked: Asked, sections: dict[str, Part], compiler: Optional[Compil
         "numbers": numbers_of(sections, declared, memory.maps),
     }
     per_cpu = {row.name for row in declared if row.type in faults.PER_CPU}
-    return Filter(settings, place, per_cpu, notes, values_of(sections))
+    narrow = {row.name for row in declared if row.has_parts}
+    return Filter(settings, place, per_cpu, narrow, notes, values_of(sections))
 
 
 def without_calls(asked: Asked, sections: dict[str, Part], function: Function, place: Callable) -> Replaced:

@@ -16,6 +16,7 @@ if TYPE_CHECKING:
     from .elf import Part, Symbol
 
 SIZES = 1, 2, 4, 8  # of a number, in bytes
+NUMBER = re.compile("-?[0-9]{1,20}|0x[0-9a-fA-F]{1,16}", re.ASCII)
 COMMENT = re.compile(r"# constant (\S+): bytes ([0-9]{1,5}) to ([0-9]{1,5}) of map (.+)", re.ASCII)
 
 
@@ -29,6 +30,13 @@ class Constant(NamedTuple):
 
     def __str__(self) -> str:
         return f"constant {self.name}: bytes {self.place} to {self.place + self.size - 1} of map {self.map}"
+
+
+def number_in(word: str) -> Optional[int]:
+    """The number that a word is, of decimal digits or 0x and hex ones; None if it is none."""
+    if not NUMBER.fullmatch(word):
+        return None
+    return int(word, 16 if word.startswith("0x") else 10)
 
 
 def fault_of(name: str, size: int, number: int) -> Optional[str]:

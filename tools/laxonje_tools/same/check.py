@@ -6,8 +6,9 @@ without effect (arithmetic, jumps that forms decide). What is asked:
 - what a copy may reach on the stack lies above the tool's own slots, and what it may change there is forgotten;
 - an own instruction stores only below the stack that the original touches, or what stands there anyway, and loads only
   from there, from the context or from the packet;
-- a lookup's key that the original has in the packet is, byte for byte, what own instructions loaded from there;
-- a jump of our own leaves the original where it is, and both ways are followed;
+- a lookup's key that the original has in the packet or in a map's value is, byte for byte, what own instructions loaded from
+  there;
+- a jump of our own leaves the original where it is, and of each jump the ways are followed that no fact excludes;
 - the end that the tool adds, ABORTED, is reached only if the original's next access lies past the packet's end."""
 from __future__ import annotations
 
@@ -160,6 +161,8 @@ class Check(Memory):
             state.new[slot.destination] = self.forms.field(slot.offset)
         elif slot.kind == 1 and self.packet_loaded(pc, slot, state):
             pass
+        elif slot.opcode == LOAD_8 and self.counter_of_key_loaded(pc, slot, state):
+            pass
         elif slot.opcode == LOAD_8 and state.owed is None:  # a counter: the addition that is owed reaches nothing else
             state.owed = self.address(slot, state.new)
             state.new[slot.destination] = state.loads[state.owed] = self.forms.atom(("read", pc))
@@ -280,8 +283,10 @@ class Check(Memory):
         if slot.opcode & BY_REGISTER:
             b = self.same(state.new[slot.source], state.old[old_slot.source], "the second operand", pc)
         self.parts.hide_compared(self.forms, pc, slot.opcode, a, b)
-        out = []
+        taken, out = decided(self.forms, slot.opcode, a, b, state.facts), []
         for way, after in enumerate(self.result.successors(pc)):
+            if taken is not None and taken != bool(way):
+                continue
             at = state.at + 1 + (old_slot.offset if way else 0)
             out.append((after, state.copy(at=at, facts=learnt(self.forms, slot.opcode, way, a, b, state.facts))))
         return out

@@ -1,14 +1,14 @@
 """What both programs have in memory: where an address lies, constants, and what is known of counters."""
 from __future__ import annotations
 
-from typing import TYPE_CHECKING, Any, Optional
+from typing import TYPE_CHECKING, Any, NamedTuple, Optional
 
 from laxonje_tools.from_c.constants import CONSTANTS_END, CONSTANTS_START
 
 from .carries import Carries
 from .facts import APART
-from .forms import MASK_32, MASK_64, ZERO, number
-from .program import MEMSX, PLAIN
+from .forms import MASK_32, MASK_64, ZERO, number, signed
+from .program import CALL, MEMSX, PLAIN
 from .result import STACK
 from .state import Differs
 
@@ -20,7 +20,14 @@ if TYPE_CHECKING:
     from .state import Registers, State
 
 
-WORD = 8  # bytes of a place of the stack
+WORD = 8  # bytes of a place of the stack, and of a counter
+
+
+class Bytes(NamedTuple):
+    """Bytes of a counter, with zeros above them, as those of a load."""
+
+    size: int
+    opcode: int = PLAIN << 5
 
 
 def forget(stack: dict[int, Form], low: int, high: int) -> None:
@@ -49,14 +56,17 @@ class Memory:
 
     def address_in_result(self, slot: Slot, state: State) -> Form:
         """Where the result has what an access of the original reaches."""
-        address = self.address(slot, state.old)
+        return self.placed_in_result(self.address(slot, state.old), slot.size, state)
+
+    def placed_in_result(self, address: Form, size: int, state: State) -> Form:
+        """Where the result has what the original has at an address."""
         value = self.parts.value_of(self.forms, address)
-        is_elsewhere = value is None and self.is_elsewhere(address, slot.size, state)
+        is_elsewhere = value is None and self.is_elsewhere(address, size, state)
         if is_elsewhere:
             return address
         if not self.parts.moved or value is not None and value[0] is not None:
-            placed = self.parts.in_result(address, *value, slot.size) if self.parts.moved else address
-            self.carries.reach(self.parts.value_of(self.forms, placed), slot.size)
+            placed = self.parts.in_result(address, *value, size) if self.parts.moved else address
+            self.carries.reach(self.parts.value_of(self.forms, placed), size)
             return placed
         raise Differs("it isn't known whether this lies in a value, in which numbers have other places", state.at)
 
@@ -152,6 +162,14 @@ class Memory:
         state.new[slot.destination] = state.fresh[address, slot.size] = loaded
         return True
 
+    def counter_of_key_loaded(self, pc: int, slot: Slot, state: State) -> bool:
+        """Whether this is the tool's load of a counter in front of a lookup of the original, for a key; it is done then."""
+        address = self.address(slot, state.new)
+        if self.slot_of_original(state.at).opcode != CALL or not self.forms.is_in_value(address):
+            return False
+        state.new[slot.destination] = state.fresh[address, WORD] = self.forms.atom(("key", pc))
+        return True
+
     def copied_key(self, pc: int, state: State) -> None:
         """A lookup's key that the original has elsewhere and the result on the tool's stack: its bytes are those that were
         loaded from the original's place, and nothing was stored since."""
@@ -159,8 +177,9 @@ class Memory:
         if name is None or at is None:
             raise Differs(f"slot {pc}: r2 of the call differs")
         left = self.shapes[name].key_bytes
+        fresh = self.fresh_bytes_of_value if self.forms.is_in_value(state.old[2]) else self.fresh_bytes
         for place in range(0, left, WORD):
-            wanted = self.fresh_bytes(state, self.forms.add(state.old[2], number(place)), min(WORD, left - place))
+            wanted = fresh(state, self.forms.add(state.old[2], number(place)), min(WORD, left - place))
             if wanted is None or state.new_stack.get(at + place) != wanted:
                 raise Differs(f"slot {pc}: the key isn't the one that the original looks up")
 
@@ -173,6 +192,21 @@ class Memory:
                 if loaded is None:
                     return None
                 found, at = self.forms.add(found, loaded, 1 << 8 * at), at + part
+        return found
+
+    def fresh_bytes_of_value(self, state: State, address: Form, size: int) -> Optional[Form]:
+        """The same of so many bytes of a map's value, of which each counter was loaded whole."""
+        found, at = ZERO, 0
+        while at < size:
+            there = self.forms.add(address, number(at))
+            part = Bytes(min(size - at, WORD - signed(there.constant) % WORD))
+            placed = self.placed_in_result(there, part.size, state)
+            low = signed(placed.constant) % WORD
+            loaded = state.fresh.get((self.forms.subtract(placed, number(low)), WORD))
+            if loaded is None or low + part.size > WORD:
+                return None
+            found = self.forms.add(found, self.forms.cut(part, loaded, low, state.facts.ranges), 1 << 8 * at)
+            at += part.size
         return found
 
     def narrow_load(self, pc: int, slot: Slot, old_slot: Slot, state: State) -> None:

@@ -10,12 +10,12 @@ from typing import TYPE_CHECKING, Callable, Iterable, Iterator, NamedTuple, Opti
 
 from laxonje_tools.output import fail, in_one_line
 
-from .graph import SIZE, Fail
+from .graph import INDEX, SIZE, Fail
 from .lowered import may_lower
-from .parts import places_of, with_counters
+from .parts import check_values, places_of, with_counters
 from .search import OF_THE_BYTES, StillRefused, searches
 from .settings import as_text, without_rows
-from .shown import NoComparison, Rewriting, question, shown
+from .shown import ALONE, BY_COUNTS, COMPARED, PROVED, NoComparison, Rewriting, question, shown
 from .verifier import Verdict, verdict
 
 if TYPE_CHECKING:
@@ -34,6 +34,8 @@ LOWERED = (
     " `({})*value <= 0`"
 )
 SIGNED = {1: "signed char", 2: "short", 4: "int", 8: "long long"}  # by size
+HOW = PROVED, BY_COUNTS, ALONE, COMPARED  # the best way first
+ENOUGH = PROVED, BY_COUNTS  # after which no other settings are tried
 MOST_COMPARED = 10000  # slots, in all results that can't be taken
 TOP = pathlib.Path(__file__).resolve().parents[3]
 # a refusal's words are those of instructions; these are those of C
@@ -50,6 +52,7 @@ IN_C = {
     "V19": "of the atomic operations there is the addition of eight bytes alone, __sync_fetch_and_add",
     SIZE: "fewer steps of the loop, or a smaller body: keep the offset as a number, and add it to data anew in each"
     " step",
+    INDEX: "compare the index with how many elements there are, or mask it, on each way to this line",
 }
 NO_MAP = (
     "the map is the lookup's first argument, and one map on each way to this line: look up in each branch, and use what"
@@ -109,6 +112,8 @@ class Refused(Exception):
             return NO_MAP
         if cause == "V17" and answer.has_list:
             return LIST_KEY
+        if cause == "V9" and answer.lost() is not None and answer.lost().was == "map_value":
+            return IN_C[INDEX]
         if cause in IN_C and (cause != "V19" or self.atomic):
             return IN_C[cause]
         lines = self.answer.words.split("\n") if cause == self.answer.cause else []
@@ -133,6 +138,30 @@ class Wanted(NamedTuple):
     guard: bool = False
     proved: bool = False
     per_cpu: Callable = lambda slot: False
+
+
+def is_accepted(settings: dict, xdpbox: str) -> bool:
+    """Whether the program of the settings is accepted as it is."""
+    return not (settings.get("tables") or settings.get("globals")) and verdict(xdpbox, as_text(without_rows(settings))).accepted
+
+
+def better_of(forms: list[dict], xdpbox: str, wanted: Wanted = Wanted()) -> tuple[dict, Optional[Straight]]:
+    """Of settings with one program those that are accepted as they are, with None; else those of which another program is shown
+    to be the same in the best way, the first of two, with that program. Raises what refuses the first if all are refused."""
+    for settings in forms:
+        if is_accepted(settings, xdpbox):
+            return settings, None
+    found, refusals = [], []
+    for settings in forms:
+        try:
+            found.append((settings, straightened(settings, xdpbox, wanted)))
+        except Refused as refused:
+            refusals.append(refused)
+        if found and found[-1][1].how in ENOUGH:
+            break
+    if not found:
+        raise refusals[0]
+    return min(found, key=lambda row: HOW.index(row[1].how))
 
 
 def straightened(settings: dict, xdpbox: str, wanted: Wanted = Wanted()) -> Optional[Straight]:
@@ -165,6 +194,10 @@ def straightened(settings: dict, xdpbox: str, wanted: Wanted = Wanted()) -> Opti
 
 def taken(xdpbox: str, settings: dict, result: Result, wanted: Wanted) -> tuple[Optional[Straight], Optional[Fail]]:
     """A result that is shown to be the same, and what is missing to that; one of the two is None."""
+    try:
+        check_values(settings, result.moved)
+    except Fail as fault:
+        return None, fault
     labels = {slot: (label.kind.value, label.slot) for slot, label in result.labels.items()}
     relocations = [{"slot": slot, "map": name} for slot, name in result.relocations]
     rebuilt = {**with_counters(settings, result.moved), "program": result.words, "reloc": relocations}

@@ -1,16 +1,22 @@
-"""Indices of constants: the number that is added to an address of a map of constants."""
+"""Indices: the number that is added to an address of a map of constants, or to that of a value."""
 from __future__ import annotations
 
-from typing import TYPE_CHECKING, NamedTuple, Optional
+from typing import TYPE_CHECKING, NamedTuple, Optional, Sequence
 
 from laxonje_tools.from_c.constants import room_behind
 
+from .addresses import multiple_of
+from .constants import VALUE, is_address
 from .copies import Wide
 from .instructions import ADD, ALU64, MOV, WIDE_LOAD, writes
 
 if TYPE_CHECKING:
-    from .instructions import Code
+    from .addresses import Addresses
+    from .copies import Copy
+    from .instructions import Code, Instruction
     from .marks import Marks
+
+COUNTER_BYTES = 8
 
 
 class Index(NamedTuple):
@@ -67,3 +73,14 @@ def index_added(code: Code, at: int, end: int, settings: dict) -> Optional[Index
 def last_write(code: Code, slot: int, register: int) -> Optional[int]:
     """The last slot in front of this one that writes a register; None if there is none."""
     return next((at for at in range(slot - 1, -1, -1) if at in code and register in writes(code[at])), None)
+
+
+def places_in_value(here: Copy, addition: Instruction, register: int, addresses: Addresses, settings: dict) -> Sequence[int]:
+    """What a register can have that an addition at a copy adds to the address of a map's value, if the sum lies in the value."""
+    address = addition.source if addition.destination == register else addition.destination
+    known = here.constants.registers.get(address)
+    if not is_address(known, VALUE) or known.map is None:
+        return ()
+    row = next(row for row in settings["map"] if row["name"] == known.map)
+    stride = multiple_of(addresses.before[here].get(register)) or 1
+    return range(0, COUNTER_BYTES * row.get("counters", 1) - known.offset, stride)

@@ -8,7 +8,7 @@ from __future__ import annotations
 from typing import TYPE_CHECKING, Iterable, NamedTuple
 
 from .addresses import TableAddress
-from .constants import MAP, in_table, is_address
+from .constants import MAP, VALUE, in_table, is_address
 from .graph import Fail
 from .instructions import (
     ADD_CONSTANT,
@@ -26,9 +26,11 @@ from .instructions import (
     MASK_32,
     MOVE_CONSTANT,
     MOVE_REGISTER,
+    RSH,
     WIDE_LOAD,
     signed,
 )
+from .parts import COUNTER_BYTES, Access, parts_by_counter, place_of
 
 if TYPE_CHECKING:
     from .copies import Copy
@@ -38,7 +40,7 @@ if TYPE_CHECKING:
 LOOKUP, ANSWER, MAP_ARGUMENT, KEY_ARGUMENT = 1, 0, 1, 2  # the helper, and its registers
 KEY_SLOT = "key"
 WORD_REGISTER, PART_REGISTER = 3, 4  # for a key that is copied
-COUNTER_BYTES, LSH_CONSTANT = 8, ALU64 | LSH
+LSH_CONSTANT, RSH_CONSTANT = ALU64 | LSH, ALU64 | RSH
 LOADS = (8, LOAD_DOUBLE), (4, LOAD_WORD), (2, LDX | 0x68), (1, LDX | 0x70)  # by how many bytes they load
 MOST_PLACES = 1 << 16
 MOST_ADDED = 1 << 31  # a constant that an addition can have is below it
@@ -153,24 +155,51 @@ def look_up_globals(emitter: Emitter, names: Iterable[str]) -> None:
 
 
 def write_key(emitter: Emitter, here: Copy) -> None:
-    """In front of a lookup: its key, which lies in the packet, on our own stack. The registers behind the arguments are free,
-    since a call leaves nothing in them."""
+    """In front of a lookup: its key, which lies in the packet or in a map's value, on our own stack. The registers behind the
+    arguments are free, since a call leaves nothing in them."""
     slot, known = here.slot, here.constants.registers.get(MAP_ARGUMENT)
     if not is_address(known, MAP):
-        raise Fail("the map of this lookup isn't known, and its key lies in the packet", slot)
+        raise Fail("the map of this lookup isn't known, and its key lies in the packet or in a map's value", slot)
     size = emitter.key_sizes[known.map]
     names = [(KEY_SLOT, size, at) for at in range(0, size, COUNTER_BYTES)]
     places = {name: emitter.own[name] for name in reversed(names)}  # one behind the other
+    write_word = write_word_of_value if is_address(here.constants.registers.get(KEY_ARGUMENT), VALUE) else write_word_of_packet
     for name in names:
-        first, *rest = parts_of_word(name[2], size)
-        emitter.put_own(slot, first.load, WORD_REGISTER, KEY_ARGUMENT, first.place, copy=here)
-        for part in rest:
-            emitter.put_own(slot, part.load, PART_REGISTER, KEY_ARGUMENT, part.place, copy=here)
-            emitter.put_own(slot, LSH_CONSTANT, PART_REGISTER, 0, 0, 8 * (part.place - name[2]))
-            emitter.put_own(slot, ADD_REGISTER, WORD_REGISTER, PART_REGISTER)
+        write_word(emitter, here, name[2], size)
         emitter.save(name, WORD_REGISTER, slot)
     emitter.put_own(slot, MOVE_REGISTER, KEY_ARGUMENT, FRAME_POINTER)
     emitter.put_own(slot, ADD_CONSTANT, KEY_ARGUMENT, 0, 0, places[names[0]])
+
+
+def write_word_of_packet(emitter: Emitter, here: Copy, at: int, size: int) -> None:
+    """Eight bytes of a key in the packet, or those that are left."""
+    first, *rest = parts_of_word(at, size)
+    emitter.put_own(here.slot, first.load, WORD_REGISTER, KEY_ARGUMENT, first.place, copy=here)
+    for part in rest:
+        emitter.put_own(here.slot, part.load, PART_REGISTER, KEY_ARGUMENT, part.place, copy=here)
+        add_to_word(emitter, here.slot, part.place - at)
+
+
+def write_word_of_value(emitter: Emitter, here: Copy, at: int, size: int) -> None:
+    """The same of a key in a map's value, of whose counters each is loaded whole."""
+    address = here.constants.registers[KEY_ARGUMENT]
+    for part in parts_by_counter(address.offset + at, min(COUNTER_BYTES, size - at)):
+        emitter.reached.setdefault(address.map, set()).add(Access(part, here.slot, False))
+        place = place_of(emitter.marks.moved, address.map, part)
+        low, is_first = place % COUNTER_BYTES, part.place == address.offset + at
+        register = WORD_REGISTER if is_first else PART_REGISTER
+        emitter.put_own(here.slot, LOAD_DOUBLE, register, KEY_ARGUMENT, place - low, copy=here)
+        if part.size < COUNTER_BYTES:
+            emitter.put_own(here.slot, LSH_CONSTANT, register, 0, 0, 8 * (COUNTER_BYTES - part.size - low))
+            emitter.put_own(here.slot, RSH_CONSTANT, register, 0, 0, 8 * (COUNTER_BYTES - part.size))
+        if not is_first:
+            add_to_word(emitter, here.slot, part.place - address.offset - at)
+
+
+def add_to_word(emitter: Emitter, slot: int, place: int) -> None:
+    """Puts the part that was loaded at a place of the word."""
+    emitter.put_own(slot, LSH_CONSTANT, PART_REGISTER, 0, 0, 8 * place)
+    emitter.put_own(slot, ADD_REGISTER, WORD_REGISTER, PART_REGISTER)
 
 
 class PartOfWord(NamedTuple):

@@ -40,6 +40,15 @@ class Part(NamedTuple):
         return Part(place, max(self.end, other.end) - place)
 
 
+def parts_by_counter(place: int, size: int) -> Iterator[Part]:
+    """Bytes of a value, as parts that lie in one counter each."""
+    end = place + size
+    while place < end:
+        part = Part(place, min(end, place - place % COUNTER_BYTES + COUNTER_BYTES) - place)
+        yield part
+        place = part.end
+
+
 Moved = dict[str, dict[Part, int]]  # by the map's name the parts that have a counter of their own, and which
 
 
@@ -117,8 +126,12 @@ def stored_below(rows: list[dict], store: Access, reached: list[Part]) -> Option
 
 
 def number_of(rows: list[dict], store: Access, whole: Part, reached: list[Part]) -> Part:
-    """The number that a store is to. `whole`: what is reached at once with its bytes."""
+    """The number that a store is to: a counter without bit fields, if its bytes are reached all at once alone. `whole`: what is
+    reached at once with its bytes."""
     inside = [row for row in rows if whole.meets(part_of(row))]
+    is_at_once = whole.size == COUNTER_BYTES and all(part == whole for part in reached if part.meets(whole))
+    if is_at_once and not any(row["bits"] for row in inside):
+        return whole
     holding = [row for row in inside if part_of(row).holds(whole)]
     if holding:
         number = min((part_of(row) for row in holding), key=lambda part: part.size)
@@ -171,6 +184,13 @@ def moved_with(settings: dict, moved: Moved, needs: NeedsCounters) -> Moved:
     if any(part.counter != (part.end - 1) // COUNTER_BYTES for part in parts):
         raise Fail(f"a number of {needs.name} lies in two counters: don't pack the struct", needs.slot)
     return {**moved, needs.name: {part: counters + number for number, part in enumerate(parts)}}
+
+
+def check_values(settings: dict, moved: Moved) -> None:
+    """Ends if a map has parts with a counter of their own, and it is given what its counters begin with."""
+    for row in settings.get("map", []):
+        if row.get("values") and moved.get(row["name"]):
+            raise Fail(f"numbers of {row['name']} need counters of their own, and what its counters begin with is given: {EACH_WHOLE}")
 
 
 def places_of(settings: dict, moved: Moved) -> Iterator[str]:

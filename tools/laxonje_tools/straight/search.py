@@ -14,7 +14,7 @@ first program is that of the copies alone. Then, one mark per refusal:
                      front of what was compared, its address is made anew first (`rebased`)
   a loop             that nothing bounds but a masked number, or one that was compared with a constant: a copy for each
                      number (`cases`), or for each step up to it (`trips`)
-  V17                of a key in the packet: it is copied to the stack (`keys`)
+  V17                of a key in the packet or in a map's value: it is copied to the stack (`keys`)
   V17, V9 at a value  of two lookups whose ways met: a copy behind the meeting for each map (`values`)
   V9 at 0             where what a lookup gave is tested twice: a copy for the ways on which it was 0 (`nones`)
   V19                 an atomic addition of four bytes becomes one to the whole counter (`adds`)
@@ -36,7 +36,7 @@ from .copies import COUNTERS, EVERYWHERE, IN_LOOPS, STEERING, Cases, Copies, Tri
 from .counts import difference, fused
 from .emit import Emitter, Kind, Needs
 from .graph import SIZE, Fail, NoBound, TooMany, loop_of, steering
-from .indices import bound_index
+from .indices import bound_index, places_in_value
 from .instructions import MASK_32
 from .marks import Marks, Result
 from .masks import masked, parts_of
@@ -221,8 +221,9 @@ class Search:
         return marked and label.copy is not None and label.copy.slot == label.slot
 
     def copy_key(self, here: Copy) -> bool:
-        """A lookup whose key lies in the packet. Its map has to be known, which says how many bytes the key has."""
-        if not isinstance(self.addresses.before[here].get(KEY_ARGUMENT), PacketAddress) or here.slot in self.marks.keys:
+        """A lookup whose key lies in the packet or in a map's value. Its map has to be known, for the size of the key."""
+        key = self.addresses.before[here].get(KEY_ARGUMENT)
+        if here.slot in self.marks.keys or not isinstance(key, PacketAddress) and key != Thing.VALUE:
             return False
         self.marks.keys.add(here.slot)
         self.follow(MAPS)
@@ -331,9 +332,11 @@ class Search:
             return False
         if lost.register is None or label.slot in self.marks.cases:
             return False
-        numbers = masked(self.code, label.slot, lost.register)
-        if not numbers and lost.span:
-            numbers = range(lost.span[0], lost.span[1] + 1)
+        numbers = masked(self.code, label.slot, lost.register) or lost.numbers
+        if lost.was == "map_value" and not 0 < len(numbers) <= MOST_CASES:
+            if self.follow(MAPS):
+                return True
+            numbers = places_in_value(label.copy, self.code[label.slot], lost.register, self.addresses, self.settings)
         if not 0 < len(numbers) <= MOST_CASES:
             return False
         self.marks.cases[label.slot] = Cases(lost.register, tuple(numbers))

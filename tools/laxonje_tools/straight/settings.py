@@ -73,8 +73,8 @@ def is_text_of(text: str, settings: dict, words: list[str], relocations: list[tu
 
 
 def with_defaults(settings: dict) -> dict:
-    """Settings of which each list is there, and each map's number of counters."""
-    maps = [{"counters": 1, "rows": [], **row} for row in settings.get("map", [])]
+    """Settings of which each list is there, and of each map its number of counters and whether it has parts."""
+    maps = [{"counters": 1, "rows": [], "values": [], "parts": False, **row} for row in settings.get("map", [])]
     return {"reloc": [], "packet": [], **settings, "map": maps}
 
 
@@ -86,6 +86,8 @@ def text_of(settings: dict, words: list[str], relocations: list[tuple[int, str]]
         lines += ["", "[[map]]", f"name = {quoted(row['name'])}", f"entries = {row['entries']}"]
         if row.get("counters", 1) != 1:
             lines.append(f"counters = {row['counters']}")
+        lines += ["parts = true"] if row.get("parts") else []
+        lines += [f"values = {list(row['values'])}"] if row.get("values") else []
         lines += lines_of_list(row)
     for slot, name in relocations:
         lines += ["", "[[reloc]]", f"slot = {slot}", f"map = {quoted(name)}"]
@@ -106,10 +108,10 @@ def key_sizes(settings: dict) -> dict[str, int]:
 
 
 def without_rows(settings: dict) -> dict:
-    """Settings whose maps have empty lists. No verdict depends on rows, which may be as long as all else. Constants stay: they
-    have to be there."""
+    """Settings whose maps have empty lists, and counters that begin with 0. No verdict depends on these, which may be as long as
+    all else. Constants stay: they have to be there."""
     maps = [
-        row if row.get("key") == CONSTANTS else {key: value for key, value in row.items() if key != "rows"}
+        row if row.get("key") == CONSTANTS else {key: value for key, value in row.items() if key not in ("rows", "values")}
         for row in settings.get("map", [])
     ]
     return {**settings, "map": maps}

@@ -10,7 +10,7 @@ from laxonje_tools.same.check import Check
 from laxonje_tools.same.program import maps_and_rest
 from laxonje_tools.same.state import Differs
 
-from .graph import Fail
+from .graph import INDEX, Fail
 from .settings import text_beside
 from .verifier import called
 
@@ -76,7 +76,7 @@ def what_is_missing(check: Check, guards: tuple, guard: bool) -> Optional[Fail]:
         at = min(check.unproven.values())
         if check.original[at].kind in ACCESSES:
             return Fail("no comparison shows that this lies in the packet", at, "V10")
-        return Fail("nothing bounds the number that is added to an address here", at, "V10")
+        return Fail("nothing bounds the number that is added to an address here", at, INDEX)
     if guards and not guard:
         words = "no comparison shows that this lies in the packet (--guard ends the program there with ABORTED)"
         return NoComparison(words, guards[0], "V10")

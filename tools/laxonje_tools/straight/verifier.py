@@ -17,6 +17,11 @@ class Lost(NamedTuple):
     register: Optional[int]  # that of the number
     span: Optional[tuple]  # of the number, from and to
 
+    @property
+    def numbers(self) -> range:
+        """What the number can be, as far as that is said."""
+        return range(self.span[0], self.span[1] + 1) if self.span else range(0)
+
 
 @dataclass
 class Verdict:
@@ -36,11 +41,11 @@ class Verdict:
     @property
     def has_map(self) -> bool:
         """Whether the first argument of the lookup that it refuses is a map."""
-        return re.search(r"^> .*\n +R1=map_ptr", self.words, re.M) is not None
+        return re.search(r"^>.*\n +R1=map_ptr", self.words, re.M) is not None
 
     def is_none(self, register: int) -> bool:
         """Whether a register of the instruction that it refuses is 0, as a lookup gives it."""
-        return re.search(rf"^> .*\n(?: .*)?\bR{register}=0(?:\s|$)", self.words, re.M) is not None
+        return re.search(rf"^>.*\n(?: .*)?\bR{register}=0(?:\s|$)", self.words, re.M) is not None
 
     @property
     def has_list(self) -> bool:

@@ -31,6 +31,13 @@ REFUSED = {
     ),
     "a print": ("", 'bpf_printk("seen"); return XDP_PASS;', "--without-prints leaves it out"),
     "a redirect": ("", "return bpf_redirect(7, 0);", "--without-devices answers as Linux does where there is none"),
+    "a redirect to another device": ("", "return bpf_redirect(ctx->rx_queue_index, 0);", "--without-devices answers as Linux does where there is none"),
+    "a redirect with flags": ("", "return bpf_redirect(ctx->ingress_ifindex, 1);", "--without-devices answers as Linux does where there is none"),
+    "a redirect whose answer is compared": (
+        "",
+        "return bpf_redirect(ctx->ingress_ifindex, 0) == XDP_REDIRECT ? XDP_PASS : XDP_DROP;",
+        "--without-devices answers as Linux does where there is none",
+    ),
     "a map of sockets": (
         "struct { __uint(type, BPF_MAP_TYPE_XSKMAP); __uint(max_entries, 4); __type(key, __u32); __type(value, __u32); } m SEC(\".maps\");\n",
         "return bpf_redirect_map(&m, 0, 0);",

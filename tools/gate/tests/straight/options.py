@@ -216,7 +216,7 @@ def example_tests(clang, xdpbox, folder):
 BESIDE_LINUX = (
     "47-majority", "61-narrow-values", "63-open-ports", "59-replay-window", "16-blocklist", "65-host-list",
     "66-routes", "67-mac-and-port", "68-keys-in-packets", "69-either-trie", "70-listed-ports", "71-name-hashes",
-    "46-backend-hash", "48-teid-table", "73-lists-and-ports",
+    "46-backend-hash", "48-teid-table", "73-lists-and-ports", "74-last-flow", "75-error-reasons", "76-redirect-back",
 )
 # here the interface has number 0, and in a test run of Linux's it is the loopback one
 OF_INTERFACE = 'SEC("xdp") int f(struct xdp_md *ctx) { return ctx->ingress_ifindex ? XDP_DROP : XDP_PASS; }\n'

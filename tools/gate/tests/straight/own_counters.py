@@ -140,6 +140,10 @@ REFUSED = {
         "static volatile struct { __u32 left : 8, passed : 24; } state;\n" + FUNCTION + "state.left--; return state.passed & 1; }",
         "a store may change another one of left, passed",
     ),
+    "bit fields of eight bytes": (
+        "static volatile struct { __u64 left : 8, passed : 56; } state;\n" + FUNCTION + "state.left--; return state.passed & 1; }",
+        "a store may change another one of left, passed",
+    ),
     "a struct that is set whole": (
         "static volatile struct { __u32 left, passed; } state;\n" + FUNCTION
         + "if (p[0]) state.left--; else *(volatile __u64 *)&state = 0; return state.passed & 1; }",

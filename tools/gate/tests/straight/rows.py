@@ -22,9 +22,16 @@ def lists_of(path):
     return [(file.name[len(path.stem) + 1 : -len(".list")], str(file)) for file in found]
 
 
+def values_of(path):
+    """What the counters of a filter's maps begin with, as (name, file): the files beside it that are called NAME.MAP.values."""
+    found = sorted(path.parent.glob(f"{path.stem}.*.values"))
+    return [(file.name[len(path.stem) + 1 : -len(".values")], str(file)) for file in found]
+
+
 def words_of(path):
-    """The words that give a filter its lists."""
-    return [word for name, file in lists_of(path) for word in ("--list", f"{name}={file}")]
+    """The words that give a filter its lists, and what its counters begin with."""
+    rows = [("--list", *row) for row in lists_of(path)] + [("--values", *row) for row in values_of(path)]
+    return [word for option, name, file in rows for word in (option, f"{name}={file}")]
 
 
 def packets_of(path):

@@ -67,6 +67,11 @@ NOT_HERE = {
         DATA + "return table[p[0]];",
         "nothing bounds the index of this load to the constants that there are",
     ),
+    "an index of counters that nothing bounds": (
+        "__u64 seen[8];",
+        DATA + "seen[p[0]] += 1; return XDP_PASS;",
+        "write instead: compare the index with how many elements there are, or mask it",
+    ),
     "a call of memcmp of any size": (
         "#include <string.h>",
         "void *d = (void *)(long)ctx->data; return memcmp(d, d + 9, ctx->rx_queue_index) ? XDP_DROP : XDP_PASS;",
