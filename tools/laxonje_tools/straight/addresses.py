@@ -166,12 +166,13 @@ class Addresses:
 
     def meet(self, here: Copy, ways: list, live: AbstractSet[int]) -> dict:
         """What the places stand for where ways meet."""
-        wanted = set(live) | {FRAME_POINTER} | {place for place in ways[0][2] if isinstance(place, StackSlot)}
+        known_by_way = [known for _, _, known in ways]
+        on_stack = sorted(place for place in known_by_way[0] if isinstance(place, StackSlot))
         places, leaders = {}, []
-        for place in sorted(wanted, key=in_order):
-            there = [known.get(place, Thing.NUMBER) for _, _, known in ways]
+        for place in [*sorted(live | {FRAME_POINTER}), *on_stack]:  # an address on the stack may be made from one in a register
+            there = [known.get(place, Thing.NUMBER) for known in known_by_way]
             again = isinstance(there[0], PacketAddress) and self.restarted(here, place)
-            if all(known == there[0] for known in there) and not again:
+            if there.count(there[0]) == len(there) and not again:
                 places[place] = there[0]
             elif not all(isinstance(known, PacketAddress) for known in there):
                 places[place] = met_without_packet(there)

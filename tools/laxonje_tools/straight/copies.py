@@ -10,7 +10,7 @@ Two marks put tests of our own in front of an addition, if the verifier would lo
 from __future__ import annotations
 
 from dataclasses import dataclass, field
-from typing import TYPE_CHECKING, NamedTuple
+from typing import TYPE_CHECKING, NamedTuple, Optional
 
 from .constants import FAR, Address, Constants, is_number
 from .counters import counters
@@ -20,7 +20,7 @@ from .kinds import stores_elsewhere
 
 if TYPE_CHECKING:
     from .instructions import Code
-    from .marks import Marks
+    from .marks import MarksOfCopies
 
 MOST_COPIES = 8000
 MOST_DISTANCE = 65535  # of an address in a packet from its start
@@ -103,8 +103,9 @@ class Copies:
     `numbers`: which numbers are told apart. `marks`: those of `search`. If results of lookups are followed, a
     constant added to one can go to the accesses."""
 
-    def __init__(self, code: Code, numbers: str, marks: Marks) -> None:
-        self.code, self.wide, self.cases, self.trips, self.nones = code, marks.wide, marks.cases, marks.trips, marks.nones
+    def __init__(self, code: Code, numbers: str, marks: MarksOfCopies) -> None:
+        self.code, self.numbers, self.marks = code, numbers, marks
+        self.wide, self.cases, self.trips, self.nones = marks.wide, marks.cases, marks.trips, marks.nones
         self.live, self.elsewhere = live_registers(code), stores_elsewhere(code)
         self.named = {slot: row.counter for row in marks.differences.values() if row.told for slot in row.known}
         self.mattering = {slot: slots_that_reach(code, {slot}) for slot in marks.trips}
@@ -133,12 +134,14 @@ class Copies:
         if phase == OUTSIDE:
             constants = Constants.at_end(constants.values)
         key = (slot, phase, *constants.key())
-        if key not in self.by_key:
-            if len(self.by_key) >= MOST_COPIES:
-                raise TooMany(f"a loop has no bound, or a large one: more than {MOST_COPIES} copies of its slots", slot)
-            self.by_key[key] = Copy(slot, phase, constants, key)
-            self.todo.append(self.by_key[key])
-        return self.by_key[key]
+        known = self.by_key.get(key)
+        if known is not None:
+            return known
+        if len(self.by_key) >= MOST_COPIES:
+            raise TooMany(f"a loop has no bound, or a large one: more than {MOST_COPIES} copies of its slots", slot)
+        fresh = self.by_key[key] = Copy(slot, phase, constants, key)
+        self.todo.append(fresh)
+        return fresh
 
     def ways(self, here: Copy) -> list[tuple[int, Copy]]:
         """The copies to which control may go from a copy."""
@@ -211,3 +214,10 @@ class Copies:
                 finished[here] = True
                 order.append(here)
         return order[::-1]
+
+
+def copies_of(code: Code, numbers: str, marks: MarksOfCopies, last: Optional[Copies]) -> Copies:
+    """The graph of copies: the last one of a search, if the program and these marks are what they were."""
+    if last is not None and last.code is code and (last.numbers, last.marks) == (numbers, marks):
+        return last
+    return Copies(code, numbers, marks)

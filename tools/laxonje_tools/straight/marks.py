@@ -2,10 +2,21 @@
 from __future__ import annotations
 
 from dataclasses import dataclass, field
-from typing import TYPE_CHECKING
+from typing import TYPE_CHECKING, NamedTuple
 
 if TYPE_CHECKING:
     from .instructions import Code
+
+
+class MarksOfCopies(NamedTuple):
+    """Those of the marks on which the graph of copies depends."""
+
+    wide: dict
+    cases: dict
+    trips: dict
+    differences: dict
+    nones: bool
+    values: int
 
 
 @dataclass
@@ -27,6 +38,10 @@ class Marks:
     rebased: set = field(default_factory=set)  # keys of copies, or slots
     keys: set = field(default_factory=set)  # slots of lookups
     moved: dict = field(default_factory=dict)  # by map the parts of values that have a counter of their own
+
+    def of_copies(self) -> MarksOfCopies:
+        """Those of copies as they are now: later marks don't change these."""
+        return MarksOfCopies(dict(self.wide), dict(self.cases), dict(self.trips), dict(self.differences), self.nones, self.values)
 
 
 @dataclass

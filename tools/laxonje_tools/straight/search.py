@@ -32,7 +32,7 @@ from typing import TYPE_CHECKING, Iterable, Iterator, Optional
 
 from .addresses import ADDED, KEPT, MET, Addresses, PacketAddress, StackSlot, Thing
 from .constants import MAPS, RESULTS
-from .copies import COUNTERS, EVERYWHERE, IN_LOOPS, STEERING, Cases, Copies, Trips, Wide
+from .copies import COUNTERS, EVERYWHERE, IN_LOOPS, STEERING, Cases, Trips, Wide, copies_of
 from .counts import difference, fused
 from .emit import Emitter, Kind, Needs
 from .graph import SIZE, Fail, NoBound, TooMany, loop_of, steering
@@ -149,7 +149,7 @@ class Search:
         """The program with the marks as they are; None if a further meeting had to be marked."""
         marks = self.marks
         try:
-            self.copies = Copies(self.code, self.numbers, marks)
+            self.copies = copies_of(self.code, self.numbers, marks.of_copies(), self.copies)
         except (NoBound, TooMany) as loop:
             if not self.tell_trips_apart(loop.slot, isinstance(loop, NoBound)):
                 raise
