@@ -1,5 +1,5 @@
 //! Lookups in maps, and where their values lie.
-ghost use Rattle.std.specs.Prelude.{◌≡◌, ◌==◌, ◌+◌, ◌*◌, ◌/◌, ◌%◌, ◌<◌, ◌≤◌, ℕ, List, Some, None, length, slice_get, if◌then◌else◌};
+ghost use Rattle.std.specs.Prelude.{◌≡◌, ◌==◌, ◌+◌, ◌*◌, ◌/◌, ◌%◌, ◌<◌, ◌≤◌, ℕ, List, Some, None, length, slice_get, nat_lt, if◌then◌else◌};
 ghost use Rattle.bpf_lists.specs.Find.{find_in, found_in, listed_in};
 ghost use Rattle.bpf_lists.specs.declared.list.MapList.TheVariants.{Rows};
 ghost use Rattle.bpf_note.specs.Bytes.{bytes_at, number_of};
@@ -29,6 +29,19 @@ fn map_near(at: u64) -> u64
     }
 }
 
+/// How far past the first value of its map a counter lies, which is this many bytes past the first of all. The address alone
+/// says it, so that the map's shape isn't waited for.
+#[inline(always)]
+fn past_map(at: u64) -> u64
+    ensures { result ≡ (if nat_lt at 0x400000 then at % 0x10000 else at % 0x400000) }
+{
+    if at < LARGE_STRIDE {
+        at % SMALL_STRIDE
+    } else {
+        at % LARGE_STRIDE
+    }
+}
+
 /// How far past the first of all values those of map `m` begin.
 #[inline(always)]
 fn map_offset(shape: &MapShape, m: u64) -> u64
@@ -45,15 +58,13 @@ fn map_offset(shape: &MapShape, m: u64) -> u64
 
 /// The value of a map, and the counter in it, of which `number` counters of the map come before it.
 #[inline(always)]
-fn value_and_counter(shape: &MapShape, number: u64) -> (u32, u32)
+fn value_and_counter(shape: &MapShape, number: u32) -> (u32, u32)
     requires { number < shape.now.counters * shape.now.entries }
     ensures value { result.0 ≡ number / shape.now.counters }
     ensures counter { result.1 ≡ number % shape.now.counters }
 {
-    let counters = u64::from(shape.counters());
-    let value = number / counters;
-    let counter = number % counters;
-    (value as u32, counter as u32)
+    let counters = shape.counters();
+    (number / counters, number % counters)
 }
 
 /// The row that a key has in a list, if the list's keys are of its size.
@@ -104,8 +115,7 @@ impl<'p, 'b> Machine<'p, 'b> {
         let at = address - VALUES_START;
         let m = map_near(at);
         let shape = &self.shapes[m as usize];
-        let start = map_offset(shape, m);
-        let number = (at - start) / 8;
+        let number = (past_map(at) / 8) as u32;
         let (k, j) = value_and_counter(shape, number);
         (m as u32, k, j)
     }

@@ -23,7 +23,7 @@ use bpf_vm::Buffer;
 use std::alloc::Global;
 use std::io;
 use xen_back::{Awaited, Delivery, Queue, QueueDesc, Turn};
-use xen_netif::NO_OFFERS;
+use xen_netif::{ACCEPTS_WHOLE, NO_OFFERS, RxOffload};
 use xen_page::{Owners, Rights, Table, map};
 use xen_ring::{Port, Ports};
 
@@ -70,6 +70,7 @@ fn queue<'p, 'b>(
         queue: 0,
         port: Port::of(1).ok_or(Fault::Refused)?,
         offers: NO_OFFERS,
+        accepts: ACCEPTS_WHOLE,
         start: 0,
     };
     Ok(Queue::make(program, &[], desc, room))
@@ -87,7 +88,7 @@ fn answer(
     ensures ready { IsReady queue.new }
     ensures same { IsSameWiring queue.old queue.new }
 {
-    match queue.deliver(ANSWER, pages, ports) {
+    match queue.deliver(ANSWER, RxOffload::Whole, pages, ports) {
         Delivery::Sent { slots } => println!(rt; "sent, slots: {slots}"),
         Delivery::FewSlots => match queue.await_slots(1, pages) {
             Awaited::Posted => println!(rt; "a buffer is there by now"),
@@ -96,7 +97,7 @@ fn answer(
         },
         Delivery::Refused { .. } => println!(rt; "refused"),
         Delivery::Halted { .. } => println!(rt; "halted"),
-        Delivery::NoFrame => println!(rt; "no packet"),
+        Delivery::NoFrame | Delivery::NotAccepted => println!(rt; "no packet"),
     }
 }
 

@@ -2,7 +2,10 @@
 
 use crate::numbers::numbers;
 use std::alloc::{AllocError, Global};
-use xen_netif::{Extra, GsoExtra, GsoType, RxFlags, RxReq, RxRsp, Status, TxFlags, TxReq, TxRsp};
+use xen_netif::{
+    Extra, GsoExtra, GsoType, RxFlags, RxOffload, RxReq, RxRsp, Segments, Status, TxFlags, TxReq,
+    TxRsp,
+};
 
 fn tx_request(alloc: Global, words: [u32; 3]) -> Result<String, AllocError> {
     let request = TxReq::of_words(words);
@@ -79,6 +82,22 @@ fn segments(alloc: Global, words: [u32; 3]) -> Result<String, AllocError> {
     }
 }
 
+/// The extra in the rx entry behind the first, for segments of this size and type, and the flags of the first response: alone, and
+/// with more data.
+fn rx_extra(alloc: Global, size: u16, kind: u8) -> Result<String, AllocError> {
+    let Some(kind) = GsoType::of_number(kind) else {
+        return format!(in alloc; "none");
+    };
+    let offload = RxOffload::Segmented(Segments { kind, size });
+    let Some(extra) = offload.extra() else {
+        return format!(in alloc; "none");
+    };
+    let [first, second, _] = extra.words();
+    let alone = offload.flags(0, false).bits();
+    let followed = offload.flags(0, true).bits();
+    format!(in alloc; "{first} {second}, {alone} {followed}")
+}
+
 fn statuses(alloc: Global) -> Result<String, AllocError> {
     let dropped = Status::Dropped.code();
     let error = Status::Error.code();
@@ -108,6 +127,7 @@ pub fn answer(alloc: Global, kind: &str, rest: &str) -> Result<Option<String>, A
         "statuses" => statuses(alloc)?,
         "extra" => extra(alloc, [a, b, c])?,
         "segments" => segments(alloc, [a, b, c])?,
+        "rx-extra" => rx_extra(alloc, bits, u8::try_from(b).unwrap_or(0))?,
         _ => return Ok(None),
     }))
 }

@@ -12,6 +12,7 @@ use bpf_vm::Buffer;
 use std::alloc::Alloc;
 use std::time::Instant;
 use xen_back::Delivery;
+use xen_netif::RxOffload;
 use xen_page::{Bus, Frames, PageBus, PlainBus, Table};
 use xen_ring::Ports;
 
@@ -46,7 +47,7 @@ fn time_over<B: Bus>(rt: &HostRuntime, bus: &mut B, size: usize, times: u32) -> 
         producer = publish(bus, producer, packets, packets.batch());
         let start = Instant::now(rt).map_err(|_| Fault::Clock)?;
         for _delivery in 0..packets.batch() {
-            timed(queue.deliver(packet, bus, &ports))?;
+            timed(queue.deliver(packet, RxOffload::Whole, bus, &ports))?;
         }
         nanoseconds = nanoseconds.saturating_add(since(rt, &start)?);
     }

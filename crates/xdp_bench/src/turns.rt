@@ -17,7 +17,7 @@ use bpf_vm::Buffer;
 use std::alloc::Alloc;
 use std::time::Instant;
 use xen_back::{Queue, QueueDesc, Turn};
-use xen_netif::NO_OFFERS;
+use xen_netif::{ACCEPTS_WHOLE, NO_OFFERS};
 use xen_page::{Bus, Frames, Mapped, Owners, PageBus, PlainBus, Rights, Table, map};
 use xen_ring::{Port, Ports};
 
@@ -75,6 +75,7 @@ pub fn queue<'p, 'b, B: Bus>(
         queue: 0,
         port: Port::of(1).ok_or(Fault::Unexpected)?,
         offers: NO_OFFERS,
+        accepts: ACCEPTS_WHOLE,
         start: 0,
     };
     Ok(Queue::make(program, &[], desc, buffer))

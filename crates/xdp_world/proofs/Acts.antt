@@ -3,6 +3,7 @@ use Rattle.std.proofs.Common.{◌≡◌, ℕ, suc, ◌+◌, List, [], ◌∷◌,
 use Rattle.std.proofs.lemmas.List.{append-nil}
 use Rattle.xen_steps.specs.Event.{Event}
 use Rattle.xen_turns.specs.Awaited.{IsAwaiting}
+use Rattle.xen_netif.specs.declared.offload.RxOffload.TheVariants.{Whole}
 use Rattle.xen_turns.specs.Delivered.{IsDelivery}
 use Rattle.xen_turns.specs.Turned.{Turned}
 use Rattle.xen_turns.specs.Turns.{IsTurn}
@@ -50,7 +51,7 @@ acts_turn w _ _ _ _ _ t new v k e n j g (wait_over s mid end pages t' later fron
 
 -- what is left after the last deed is a delivery
 pub acts_delivery : (w : Wiring) (s : State) (items : List Item) (ds : List Deed) (end : State) (front : List Item) (p : List ℕ) (t : List Event) (new : State) (o : Delivery) →
-    front ≡ Given p ∷ all_came t → IsDelivery w end p t new o → Activities w s items ds end front → Activities w s items (ds ++ DeliveryOf o ∷ []) new []
+    front ≡ Given p ∷ all_came t → IsDelivery w end Whole p t new o → Activities w s items ds end front → Activities w s items (ds ++ DeliveryOf o ∷ []) new []
 acts_delivery w _ _ _ _ _ p t new o e j (none_over s front) =
     subst (λ (l : List Item). Activities w s l (DeliveryOf o ∷ []) new []) (ap (λ (l : List Item). Given p ∷ l) (append-nil (all_came t)) ∙ sym e)
     (delivery_over s new new p t [] [] o [] j (none_over new []))

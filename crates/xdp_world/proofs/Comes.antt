@@ -9,6 +9,7 @@ use Rattle.xen_steps.specs.declared.want.Want.TheVariants as want
 use Rattle.xen_steps.proofs.DriveLemmas.{gone_more, runs_of_gone}
 use Rattle.xen_steps.proofs.FinishLemmas.{some_run}
 use Rattle.xen_back.specs.ByEvent.{frames_of, left_of}
+use Rattle.xen_netif.specs.declared.offload.RxOffload.TheVariants.{Whole}
 use Rattle.xen_turns.specs.Deliveries.{Arrival, whole_delivery}
 use Rattle.xen_back.specs.Queues.{HasRest, IsReady, rest, state_of, wiring_of}
 use Rattle.xen_turns.specs.Tree.{unless_halted, whole_turn}
@@ -60,7 +61,7 @@ last_by rx s pages looking.Producer = (Read (page_word rx 0) 0 ∷ [], wait_end 
 last_by rx s pages (looking.Over after what) = ([], (after, what), refl)
 
 has_last : (a : Awaiting) → (t : List Event) × (end : Wait) × Runs (left_of_wait a) t end
-has_last a = last_by a.rx a.state a.pages a.looking
+has_last a = last_by a.rx a.state a.wanted a.looking
 
 pub none_some : {A : Type 0} (o : Option A) (x : A) → o ≡ None → o ≡ Some x → ⊥
 none_some o x a b = cc
@@ -209,7 +210,7 @@ halted w start items ks dl wl q at n h d =
 -- a delivery has come to this by these events
 landed : (w : Wiring) (start : ℕ) (items : List Item) (ks : List Kept) (dl : List Delivered) (wl : List Waited) (ds : List Deed) (q q' : Queue) (at : Doing) (packet : List ℕ) (f : List Event) (m : Steps Arrival) (o : Option Delivery) →
     Activities w (started_at start) items ds (state_of q) (Given packet ∷ all_came f) → ks ≡ turns_in ds → dl ≡ deliveries_in 0 ds → wl ≡ waits_in 0 0 ds → wiring_of q' ≡ w →
-    LedBy (whole_delivery w.vif (state_of q) packet) f m → Lands q m q' at o → HasCome w start items ks (dl ++ delivered_list (length ks) o) wl q' at
+    LedBy (whole_delivery w.vif w.accepts (state_of q) Whole packet) f m → Lands q m q' at o → HasCome w start items ks (dl ++ delivered_list (length ks) o) wl q' at
 landed w start items ks dl wl ds q q' at packet f m None j t e y wi g (d, is, left, over, s) =
     let u : IsUndelivered w (state_of q') packet f (left_of d) = record {
       gone = rw (left, s) g;
@@ -227,7 +228,7 @@ landed w start items ks dl wl ds q q' at packet f m None j t e y wi g (d, is, le
       stands_at = (packet, f, refl, u);
     }))
 landed w start items ks dl wl ds q q' at packet f m (Some what) j t e y wi g (is, over, r) =
-    let row = delivery_rows w (state_of q) packet f (state_of q') what (runs_of_gone (whole_delivery w.vif (state_of q) packet) m f (state_of q', what) g over) in
+    let row = delivery_rows w (state_of q) Whole packet f (state_of q') what (runs_of_gone (whole_delivery w.vif w.accepts (state_of q) Whole packet) m f (state_of q', what) g over) in
     let count : length ks ≡ 0 + length (turns_in ds) = ap (λ (l : List Kept). length l) t ∙ omega arith in
     subst (λ (x : Doing). HasCome w start items ks (dl ++ delivered_list (length ks) (Some what)) wl q' x) (sym is) (record {
       wired = wi;
@@ -242,15 +243,15 @@ landed w start items ks dl wl ds q q' at packet f m (Some what) j t e y wi g (is
 
 -- a packet is given to a queue that is between turns
 pub come_given : (w : Wiring) (start : ℕ) (items : List Item) (ks : List Kept) (dl : List Delivered) (wl : List Waited) (q q' : Queue) (at : Doing) (packet : List ℕ) (o : Option Delivery) →
-    HasCome w start items ks dl wl q doing.Between → wiring_of q' ≡ wiring_of q → Lands q (whole_delivery (wiring_of q).vif (state_of q) packet) q' at o →
+    HasCome w start items ks dl wl q doing.Between → wiring_of q' ≡ wiring_of q → Lands q (whole_delivery (wiring_of q).vif (wiring_of q).accepts (state_of q) Whole packet) q' at o →
     HasCome w start (items ++ Given packet ∷ []) ks (dl ++ delivered_list (length ks) o) wl q' at
 come_given w start items ks dl wl q q' at packet o h wi l =
-    let whole = whole_delivery (wiring_of q).vif (state_of q) packet in
+    let whole = whole_delivery (wiring_of q).vif (wiring_of q).accepts (state_of q) Whole packet in
     let more = acts_more w (started_at start) items h.deeds (state_of q) h.front (Given packet ∷ []) h.joined in
     let front : h.front ++ Given packet ∷ [] ≡ Given packet ∷ [] = ap (λ (x : List Item). x ++ Given packet ∷ []) h.stands_at.0 in
     landed w start (items ++ Given packet ∷ []) ks dl wl h.deeds q q' at packet [] whole o
     (subst (λ (x : List Item). Activities w (started_at start) (items ++ Given packet ∷ []) h.deeds (state_of q) x) front more) h.turns h.deliveries h.waits (wi ∙ h.wired)
-    (ap (λ (x : Wiring). whole_delivery x.vif (state_of q) packet) (sym h.wired)) l
+    (ap (λ (x : Wiring). whole_delivery x.vif x.accepts (state_of q) Whole packet) (sym h.wired)) l
 
 -- the queue's delivery goes on by an event
 pub come_carried : (w : Wiring) (start : ℕ) (items : List Item) (ks : List Kept) (dl : List Delivered) (wl : List Waited) (q : Queue) (d : Delivering) (q' : Queue) (at : Doing) (a : ℕ) (o : Option Delivery) →
@@ -264,7 +265,7 @@ come_carried w start items ks dl wl q d q' at a o h wi v =
     ap (λ (x : List Item). x ++ Came e ∷ []) are ∙ ap (λ (x : List Item). Given packet ∷ x) (sym (came_append f (e ∷ []))) in
     landed w start (items ++ Came e ∷ []) ks dl wl h.deeds q q' at packet (f ++ e ∷ []) v.mid o
     (subst (λ (x : List Item). Activities w (started_at start) (items ++ Came e ∷ []) h.deeds (state_of q) x) front more) h.turns h.deliveries h.waits (wi ∙ h.wired)
-    (gone_more (whole_delivery w.vif (state_of q) packet) (left_of d) v.mid f e u.gone v.goes) v.lands
+    (gone_more (whole_delivery w.vif w.accepts (state_of q) Whole packet) (left_of d) v.mid f e u.gone v.goes) v.lands
 
 -- a wait has come to this by these events
 resumed : (w : Wiring) (start : ℕ) (items : List Item) (ks : List Kept) (dl : List Delivered) (wl : List Waited) (ds : List Deed) (q q' : Queue) (at : Doing) (n : ℕ) (f : List Event) (m : Steps Wait) (o : Option Awaited) →

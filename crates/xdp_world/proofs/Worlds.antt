@@ -13,6 +13,7 @@ use Rattle.bpf_note.specs.declared.op.Op.TheVariants as op
 use Rattle.xen_steps.specs.Event.{Event}
 use Rattle.xen_steps.specs.Steps.{want_of}
 use Rattle.xen_steps.specs.declared.want.Want.TheVariants as want
+use Rattle.xen_netif.specs.declared.offload.RxOffload.TheVariants.{Whole}
 use Rattle.xen_turns.specs.Deliveries.{whole_delivery}
 use Rattle.xen_back.specs.Queues.{rest, state_of, wiring_of}
 use Rattle.xen_turns.specs.Waits.{whole_wait}
@@ -281,7 +282,7 @@ module _ (wirings : ℕ → Wiring) (start : ℕ) (begin : Beginning) (i a : ℕ
   stands_step d _ _ _ _ _ (carries x what e dc v) shapes ke de we = rw append-nil (stands_carry d x what e dc v (ke ∙ append-nil (kept i)) de (we ∙ append-nil (waits i)))
   stands_step d _ _ _ _ _ (looks x r e dc v) shapes ke de we = rw append-nil (stands_look d x r e dc v (ke ∙ append-nil (kept i)) (de ∙ append-nil (dels i)) we)
 
-  pub stands_given : (p : List ℕ) (o : Option Delivery) → at ≡ doing.Between → Lands q (whole_delivery (wiring_of q).vif (state_of q) p) q' at' o → kept' i ≡ kept i → dels' i ≡ dels i ++ delivered_list (length (kept i)) o →
+  pub stands_given : (p : List ℕ) (o : Option Delivery) → at ≡ doing.Between → Lands q (whole_delivery (wiring_of q).vif (wiring_of q).accepts (state_of q) Whole p) q' at' o → kept' i ≡ kept i → dels' i ≡ dels i ++ delivered_list (length (kept i)) o →
       waits' i ≡ waits i → After wirings start begin (set qs i q') (set ats i at') kept' dels' waits' past c (grown (Delivers i p))
   stands_given p o e v ke de we =
       let same : entries_of (grown (Delivers i p)) ≡ entries_of cs = entries_append cs (Delivers i p ∷ []) ∙ append-nil (entries_of cs) in

@@ -6,6 +6,7 @@ use Rattle.xen_steps.specs.Event.{Event}
 use Rattle.xen_steps.specs.Steps.{Runs, Steps, want_of}
 use Rattle.xen_steps.specs.declared.want.Want.TheVariants as want
 use Rattle.xen_turns.specs.Awaited.{IsAwaiting}
+use Rattle.xen_netif.specs.declared.offload.RxOffload.TheVariants.{Whole}
 use Rattle.xen_turns.specs.Delivered.{IsDelivery}
 use Rattle.xen_turns.specs.Deliveries.{Arrival, whole_delivery}
 use Rattle.xen_turns.specs.Turned.{Ending, Turned}
@@ -48,7 +49,7 @@ pub data Activities (w : Wiring) : State → List Item → List Deed → State �
       s.halt ≡ None → IsTurn w s t mid u → Keeps u k → Activities w mid more ds end front →
       Activities w s (all_came t ++ more) (TurnOf k ∷ ds) end front
   delivery_over : (s mid end : State) (packet : List ℕ) (t : List Event) (more front : List Item) (what : Delivery) (ds : List Deed) →
-      IsDelivery w s packet t mid what → Activities w mid more ds end front →
+      IsDelivery w s Whole packet t mid what → Activities w mid more ds end front →
       Activities w s (Given packet ∷ (all_came t ++ more)) (DeliveryOf what ∷ ds) end front
   wait_over : (s mid end : State) (pages : ℕ) (t : List Event) (more front : List Item) (answer : Awaited) (ds : List Deed) →
       IsAwaiting w s pages t mid answer → Activities w mid more ds end front →
@@ -76,7 +77,7 @@ waits_in n m (WaitOf answer ∷ ds) = record { turns = n; deliveries = m; awaite
 
 -- A delivery that began with these events, and isn't over by them.
 pub record IsUndelivered (w : Wiring) (s : State) (packet : List ℕ) (front : List Event) (left : Steps Arrival) : Type 0 where
-  pub gone : LedBy (whole_delivery w.vif s packet) front left
+  pub gone : LedBy (whole_delivery w.vif w.accepts s Whole packet) front left
   pub isnt_over : want_of left ≢ want.Done
   pub completed : (t : List Event) × (end : Arrival) × Runs left t end
 

@@ -7,6 +7,7 @@ use Rattle.std.specs.Global.{Vec}
 use Rattle.bpf_maps.specs.Seats.{total_at}
 use Rattle.bpf_note.specs.Shape.{IsCounter}
 use Rattle.xen_steps.specs.Event.{Event}
+use Rattle.xen_netif.specs.declared.offload.RxOffload.TheVariants.{Whole}
 use Rattle.xen_turns.specs.Deliveries.{whole_delivery}
 use Rattle.xen_back.specs.Queues.{rest, state_of, wiring_of}
 use Rattle.xen_turns.specs.Waits.{whole_wait}
@@ -147,7 +148,7 @@ pub record IsStep (old new : World) (queue answer : ℕ) : Type 0 where
 pub record HasBegun (old new : World) (queue : ℕ) (packet : List ℕ) (over : Option Delivery) : Type 0 where
   pub between : is_between (doing_in old queue) ≡ true
   pub lands : (d : Queue) (e : Doing) → let q = slice_index_or old.queues.items queue d in
-      Lands q (whole_delivery (wiring_of q).vif (state_of q) packet) (slice_index_or new.queues.items queue d)
+      Lands q (whole_delivery (wiring_of q).vif (wiring_of q).accepts (state_of q) Whole packet) (slice_index_or new.queues.items queue d)
       (slice_index_or new.doing.items queue e) over
   pub wired : (d : Queue) → wiring_of (slice_index_or new.queues.items queue d) ≡ wiring_of (slice_index_or old.queues.items queue d)
   pub turns : kept_in new.turns.items queue ≡ kept_in old.turns.items queue

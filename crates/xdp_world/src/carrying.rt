@@ -4,6 +4,7 @@ ghost use Rattle.xen_steps.specs.Drive.{Goes};
 ghost use Rattle.xen_steps.specs.Event.{Event};
 ghost use Rattle.xen_steps.specs.Steps.{want_of};
 ghost use Rattle.xen_back.specs.ByEvent.{IsDeliveryOf, left_of};
+ghost use Rattle.xen_netif.specs.declared.offload.RxOffload.TheVariants.{Whole};
 ghost use Rattle.xen_turns.specs.Deliveries.{whole_delivery};
 ghost use Rattle.xen_turns.specs.Drive.{label_of};
 ghost use Rattle.xen_back.specs.Queues.{IsReady, state_of, wiring_of};
@@ -13,6 +14,7 @@ ghost use Rattle.xdp_world.specs.Entries.{Serves};
 
 use crate::doing::Doing;
 use xen_back::{Answer, Delivering, Delivery, Queue, Want};
+use xen_netif::RxOffload;
 
 /// Answers what a delivery wants. A read is answered by the number.
 fn answered(delivering: &mut Delivering, answer: u32)
@@ -73,8 +75,9 @@ pub(crate) fn begun<'p, 'd>(
     requires { IsReady queue.old }
     ensures same { wiring_of queue.new ≡ wiring_of queue.old }
     ensures fits { Fits result.0 queue.new }
-    ensures lands { Lands queue.old (whole_delivery (wiring_of queue.old).vif (state_of queue.old) packet.now) queue.new result.0 result.1 }
+    ensures lands { Lands queue.old (whole_delivery (wiring_of queue.old).vif (wiring_of queue.old).accepts (state_of queue.old) Whole packet.now)
+        queue.new result.0 result.1 }
 {
-    let delivering = queue.begin_delivery(packet);
+    let delivering = queue.begin_delivery(packet, RxOffload::Whole);
     landed(queue, delivering)
 }

@@ -21,7 +21,7 @@ use bpf_verify::Verified;
 use bpf_vm::Buffer;
 use std::alloc::{AllocError, Global};
 use xen_back::{Queue, QueueDesc};
-use xen_netif::NO_OFFERS;
+use xen_netif::{ACCEPTS_WHOLE, NO_OFFERS};
 
 /// A queue before its first turn.
 pub(crate) fn queue<'p, 'b>(
@@ -50,6 +50,7 @@ pub(crate) fn queue<'p, 'b>(
         queue: number as u32,
         port: Layout::back_port(number),
         offers: NO_OFFERS,
+        accepts: ACCEPTS_WHOLE,
         start,
     };
     Ok(Queue::make(program, lists, desc, buffer))

@@ -14,7 +14,7 @@ use bpf_vm::Buffer;
 use std::alloc::Global;
 use xdp_world::{BACK, FRONT, Layout};
 use xen_back::{Queue, QueueDesc};
-use xen_netif::NO_OFFERS;
+use xen_netif::{ACCEPTS_WHOLE, NO_OFFERS};
 use xen_page::{Frames, Mapped, Owners, Rights, ScriptBus, Table, map};
 
 /// The frames of a world of one queue: frame 0 is the back's, frames 1 to 16 are the front's table, frame 17 its tx ring and
@@ -103,6 +103,7 @@ impl Memory {
             queue: 0,
             port: Layout::back_port(0),
             offers: NO_OFFERS,
+            accepts: ACCEPTS_WHOLE,
             start,
         };
         Some(Queue::make(program, &[], desc, buffer))

@@ -3,6 +3,7 @@ use Rattle.std.proofs.Common.{◌≡◌, ℕ, List, length, drop, refl}
 use Rattle.xen_back.specs.Rest.{rest_at, rest_in}
 use Rattle.xen_steps.proofs.BindLemmas.{asks_on}
 use Rattle.xen_steps.specs.Steps.{want_of}
+use Rattle.xen_netif.specs.declared.offload.RxOffload.TheVariants.{Whole}
 use Rattle.xen_rx_fill.proofs.SendLemmas.{going_asks}
 use Rattle.xen_rx_fill.specs.Rest.{rest_of}
 use Rattle.xen_turns.specs.Tree.{after_transmit}
@@ -37,4 +38,4 @@ stage_asks w s (stage.EntryFlags e) at run h = cc
 stage_asks w s (stage.EntryFrame e a) at run h = cc
 stage_asks w s (stage.Page g) at run h = cc
 stage_asks w s (stage.Run r) at run h = run r refl
-stage_asks w s (stage.Send packet t) at run h = asks_on (rest_of w.vif s.rx_index packet t.transmit.phase) (after_transmit w s t.chain packet t.ops) (going_asks w.vif s.rx_index packet t.transmit.phase t.transmit.going) h
+stage_asks w s (stage.Send packet t) at run h = asks_on (rest_of w.vif s.rx_index Whole packet t.transmit.phase) (after_transmit w s t.chain packet t.ops) (going_asks w.vif s.rx_index Whole packet t.transmit.phase t.transmit.going) h

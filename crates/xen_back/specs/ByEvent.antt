@@ -1,6 +1,7 @@
 -- Stated: claims rest on this file.
 -- What contracts see of a delivery that is taken one event at a time.
 use Rattle.std.specs.Prelude.{ℕ, ◌≡◌, ◌≢◌, List, length}
+use Rattle.xen_netif.specs.declared.offload.RxOffload.{RxOffload}
 use Rattle.xen_steps.specs.Answers.{number}
 use Rattle.xen_steps.specs.Drive.{IsPageWant}
 use Rattle.xen_steps.specs.Steps.{Steps, done, next, want_of}
@@ -28,8 +29,8 @@ pub record IsDeliveryOf (q : Queue) (d : Delivering) : Type 0 where
   pub state : d.state ≡ state_of q
 
 -- All of a packet's delivery is left.
-pub record IsBegun (q : Queue) (packet : List ℕ) (d : Delivering) : Type 0 where
-  pub left : left_of d ≡ whole_delivery (wiring_of q).vif (state_of q) packet
+pub record IsBegun (q : Queue) (o : RxOffload) (packet : List ℕ) (d : Delivering) : Type 0 where
+  pub left : left_of d ≡ whole_delivery (wiring_of q).vif (wiring_of q).accepts (state_of q) o packet
   pub own : IsDeliveryOf q d
 
 -- A delivery that was fed an answer: what it has left is what follows that answer.

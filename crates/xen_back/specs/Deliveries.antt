@@ -10,5 +10,5 @@ use Rattle.xen_turns.specs.Deliveries.{Arrival, arrived}
 
 -- What is left of a delivery that came so far.
 abbrev pub rest_moving : Vif → State → Moving → Steps Arrival
-rest_moving w s (moving.Sending m) = bind (rest_of w s.rx_index m.packet.now m.transmit.phase) (arrived s)
+rest_moving w s (moving.Sending m) = bind (rest_of w s.rx_index m.packet.offload m.packet.bytes.now m.transmit.phase) (arrived s)
 rest_moving w s (moving.Over after what) = done (after, what)

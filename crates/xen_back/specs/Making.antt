@@ -21,6 +21,7 @@ pub record IsResumed (program : Accepted) (lists : List (Option MapList)) (desc 
   pub user : (wiring_of q).vif.user ≡ desc.user
   pub port : (wiring_of q).vif.port ≡ desc.port
   pub offers : (wiring_of q).offers ≡ desc.offers
+  pub accepts : (wiring_of q).accepts ≡ desc.accepts
   pub accepted : (wiring_of q).program.now ≡ program
   pub lists_are : (wiring_of q).lists.now ≡ lists
   pub ifindex : (wiring_of q).ifindex ≡ desc.ifindex

@@ -4,6 +4,7 @@ use Rattle.std.specs.Prelude.{ℕ, suc, ◌+◌, true, List, [], length, drop}
 use Rattle.std.specs.Prelude.{Option, Some, None}
 use Rattle.bpf_vm.specs.Course.{left}
 use Rattle.xen_steps.specs.Places.{add32}
+use Rattle.xen_netif.specs.declared.offload.RxOffload.TheVariants.{Whole}
 use Rattle.xen_rx_fill.specs.Rest.{rest_of}
 use Rattle.xen_steps.specs.Steps.{Steps, done, never, bind}
 use Rattle.xen_turns.specs.Turned.{Ending, turned}
@@ -45,7 +46,7 @@ rest_in w s (stage.EntryFrame e a) =
 rest_in w s (stage.Page g) = bind (bind (copy_words g.fragment g.frame g.place (suc g.n) g.packet)
     (copy w (drop g.i g.fragments.items))) (after_copy w s g.chain)
 rest_in w s (stage.Run r) = bind (program (left r.vm) r.ops) (after_run w s r.chain)
-rest_in w s (stage.Send packet t) = bind (rest_of w.vif s.rx_index packet t.transmit.phase) (after_transmit w s t.chain packet t.ops)
+rest_in w s (stage.Send packet t) = bind (rest_of w.vif s.rx_index Whole packet t.transmit.phase) (after_transmit w s t.chain packet t.ops)
 
 -- what is left of the turn, by a queue's stage, which is out only while the next one is made of it
 abbrev pub rest_of_stage : Wiring → State → Option Stage → Steps Ending

@@ -9,6 +9,6 @@ use Rattle.xen_turns.specs.Waits.{Wait, final_check, last_read}
 
 -- What is left of a wait that came so far.
 abbrev pub rest_looking : ℕ → State → ℕ → Looking → Steps Wait
-rest_looking rx s pages looking.Index = final_check rx s pages
-rest_looking rx s pages looking.Producer = last_read rx s pages
-rest_looking rx s pages (looking.Over after what) = done (after, what)
+rest_looking rx s wanted looking.Index = final_check rx s wanted
+rest_looking rx s wanted looking.Producer = last_read rx s wanted
+rest_looking rx s wanted (looking.Over after what) = done (after, what)

@@ -13,7 +13,7 @@ use Rattle.xen_back.specs.Waits.{rest_looking}
 
 -- What is left of a wait.
 abbrev pub left_of_wait : Awaiting → Steps Wait
-left_of_wait a = rest_looking a.rx a.state a.pages a.looking
+left_of_wait a = rest_looking a.rx a.state a.wanted a.looking
 
 -- A wait that was begun by a queue as it is.
 pub record IsWaitOf (q : Queue) (a : Awaiting) : Type 0 where
@@ -21,8 +21,8 @@ pub record IsWaitOf (q : Queue) (a : Awaiting) : Type 0 where
   pub state : a.state ≡ state_of q
 
 -- All of a wait is left.
-pub record IsWaitBegun (q : Queue) (pages : ℕ) (a : Awaiting) : Type 0 where
-  pub left : left_of_wait a ≡ whole_wait (wiring_of q).vif.rx (state_of q) pages
+pub record IsWaitBegun (q : Queue) (wanted : ℕ) (a : Awaiting) : Type 0 where
+  pub left : left_of_wait a ≡ whole_wait (wiring_of q).vif.rx (state_of q) wanted
   pub own : IsWaitOf q a
 
 -- A wait that was fed an answer: what it has left is what follows that answer.

@@ -11,6 +11,7 @@ use crate::by_event::stage::Stage;
 use crate::queue::Queue;
 use bpf_verify::MapShape;
 use xdp_program::{Seated, Tallies};
+use xen_netif::RxOffload;
 use xen_page::Bus;
 use xen_ring::Ports;
 use xen_turns::{Awaited, Delivery, Kind};
@@ -59,36 +60,49 @@ impl<'p, 'b> Queue<'p, 'b> {
     }
 
     /// Delivers a packet, or says why not.
-    pub(crate) fn send_out<B: Bus>(&mut self, packet: &[u8], bus: &mut B, ports: &Ports) -> Delivery
+    pub(crate) fn send_out<B: Bus>(
+        &mut self,
+        packet: &[u8],
+        offload: RxOffload,
+        bus: &mut B,
+        ports: &Ports,
+    ) -> Delivery
         requires ready { IsReady self.old }
         requires size { B.size bus.old ≡ length (wiring_of self.old).vif.owners.now }
         ensures ready { IsReady self.new }
         ensures size { B.size bus.new ≡ B.size bus.old }
-        ensures delivered { IsDelivered B.log B.access_gives self.old self.new packet.now result bus.old bus.new }
+        ensures delivered { IsDelivered B.log B.access_gives self.old self.new offload packet.now result bus.old bus.new }
     {
         match &mut self.stage {
             Some(Stage::At(room, _)) => {
-                self.engine
-                    .deliver(packet, &self.wiring, room, &mut NoCounters {}, bus, ports)
+                self.engine.deliver(
+                    packet,
+                    offload,
+                    &self.wiring,
+                    room,
+                    &mut NoCounters {},
+                    bus,
+                    ports,
+                )
             }
             _ => unreachable!(),
         }
     }
 
-    /// Stores the event index and then looks for `pages` slots, unless the queue has halted.
-    pub(crate) fn look_for<B: Bus>(&mut self, pages: u32, bus: &mut B) -> Awaited
+    /// Stores the event index and then looks for `wanted` slots, unless the queue has halted.
+    pub(crate) fn look_for<B: Bus>(&mut self, wanted: u32, bus: &mut B) -> Awaited
         requires ready { IsReady self.old }
         requires size { B.size bus.old ≡ length (wiring_of self.old).vif.owners.now }
         ensures ready { IsReady self.new }
         ensures size { B.size bus.new ≡ B.size bus.old }
-        ensures awaited { HasAwaited B.log B.access_gives self.old self.new pages result bus.old bus.new }
+        ensures awaited { HasAwaited B.log B.access_gives self.old self.new wanted result bus.old bus.new }
     {
         // A wait sends no notice.
         let ports = Ports::new();
         match &mut self.stage {
             Some(Stage::At(packet, _)) => {
                 self.engine.await_slots(
-                    pages,
+                    wanted,
                     &self.wiring,
                     packet,
                     &mut NoCounters {},

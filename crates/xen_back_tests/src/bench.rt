@@ -15,7 +15,7 @@ use bpf_verify::{Verified, verify};
 use bpf_vm::Buffer;
 use std::alloc::Global;
 use xen_back::{Queue, QueueDesc, State};
-use xen_netif::{NO_OFFERS, Offers};
+use xen_netif::{ACCEPTS_WHOLE, Accepts, NO_OFFERS, Offers};
 use xen_page::{Mapped, Owners, Rights, ScriptBus, Table, map};
 use xen_ring::Port;
 
@@ -66,6 +66,7 @@ pub struct Bench {
     program: Verified,
     lists: Vec<Option<MapList>>,
     offers: Offers,
+    accepts: Accepts,
     ghost granted: { IsTable owners 1 table },
     ghost size: { length owners ≡ 20 },
 }
@@ -84,6 +85,7 @@ impl Bench {
                 program,
                 lists: Vec::new(alloc),
                 offers: NO_OFFERS,
+                accepts: ACCEPTS_WHOLE,
             }),
             None => None,
         }
@@ -99,6 +101,7 @@ impl Bench {
             program,
             lists: _,
             offers,
+            accepts,
         } = self;
         Bench {
             owners,
@@ -106,6 +109,7 @@ impl Bench {
             program,
             lists,
             offers,
+            accepts,
         }
     }
 
@@ -119,6 +123,7 @@ impl Bench {
             program,
             lists,
             offers: _,
+            accepts,
         } = self;
         Bench {
             owners,
@@ -126,6 +131,29 @@ impl Bench {
             program,
             lists,
             offers,
+            accepts,
+        }
+    }
+
+    /// The same, whose frontend accepts so much.
+    pub fn with_accepts(self, accepts: Accepts) -> Bench
+        ensures { result.program ≡ self.program }
+    {
+        let Bench {
+            owners,
+            table,
+            program,
+            lists,
+            offers,
+            accepts: _,
+        } = self;
+        Bench {
+            owners,
+            table,
+            program,
+            lists,
+            offers,
+            accepts,
         }
     }
 
@@ -153,6 +181,7 @@ impl Bench {
             queue: QUEUE,
             port: Port::of(1)?,
             offers: self.offers,
+            accepts: self.accepts,
             start,
         };
         Some(Queue::make(&self.program, self.lists.as_slice(), desc, buffer))
@@ -179,6 +208,7 @@ impl Bench {
             queue: QUEUE,
             port: Port::of(1)?,
             offers: self.offers,
+            accepts: self.accepts,
             start: 0,
         };
         Some(Queue::resume(&self.program, self.lists.as_slice(), desc, state, buffer))

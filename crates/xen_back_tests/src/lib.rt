@@ -5,6 +5,7 @@
 //! - `tests`, of turns: `chains`, `slots`, `copies`, `programs`, `transmits`, `later_turns`, `driving`, and answers at random
 //!   (`bounds`)
 //! - `tests`, of what a host does: `deliveries` and `awaits` by their tables, and what the frontend sees (`delivered`)
+//!   or is left to do (`offloads`)
 //! - `tests`, of a transmit by itself: `sending`; of a queue that goes on where another one ended: `resumed`; `fixtures` and `kind`
 //!   are for all of them
 #![tactic(auto)]

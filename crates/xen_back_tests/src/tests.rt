@@ -11,6 +11,7 @@ mod fixtures;
 mod kind;
 mod later_turns;
 mod lists;
+mod offloads;
 mod programs;
 mod resumed;
 mod segments;

@@ -1,6 +1,7 @@
 -- How a turn, a delivery and a wait of a host begin and end.
 use Rattle.std.proofs.Common.{◌≡◌, ℕ, true, List, [], ◌++◌, None, Option, Some, refl, sym, ◌∙◌, subst, map, arith, append-nil}
 use Rattle.xdp_program.specs.Ran.{IsHistory}
+use Rattle.xen_netif.specs.declared.offload.RxOffload.{RxOffload}
 use Rattle.xen_page.specs.Access.{Performs}
 use Rattle.xen_page.specs.declared.access.Access.{Access}
 use Rattle.xen_page.proofs.AccessLemmas.{performs_none, performs_then}
@@ -51,21 +52,21 @@ module _ {S : Type 0} (log : S → Option (List Access)) (gives : S → Access �
         some = omega arith;
       }
 
-  pub delivery_begins : (old : Queue) (packet : List ℕ) (bus : S) (before : List ℕ) (h : Held S) → BeginsDelivery log gives old packet bus before h →
-      Carried log gives (delivery packet) old.engine.state (wired_to old) bus before 0 h
-  delivery_begins old packet bus before h b =
+  pub delivery_begins : (old : Queue) (o : RxOffload) (packet : List ℕ) (bus : S) (before : List ℕ) (h : Held S) → BeginsDelivery log gives old o packet bus before h →
+      Carried log gives (delivery o packet) old.engine.state (wired_to old) bus before 0 h
+  delivery_begins old o packet bus before h b =
       let s = old.engine.state in
       let look = first_read s.halt (event.Read (rx_word (wiring old).vif 0) b.producer) in
       let shapes = (wired_to old).program.shapes in
       let c = b.stepped in
-      let d = c.stepped.delivery s packet look None b.begun.delivering in
+      let d = c.stepped.delivery s o packet look None b.begun.delivering in
       record {
         trace = look;
         performed = b.performed;
         counted = subst (λ l. IsHistory shapes (map Some (labels look)) before l) (sym d.1) (history_none shapes look before (first_none s.halt (event.Read (rx_word (wiring old).vif 0) b.producer) refl));
         keeps = d.1;
-        goes = subst (λ (f : List Ask). DeliveryGoesOn h.queue h.last s packet (look ++ (did_all f h.lent ++ did_by h.last h.lent))) (sym c.first)
-            (subst (λ (a : Ask). DeliveryGoesOn h.queue a s packet (look ++ (did_all c.stepped.first h.lent ++ did_by a h.lent))) (sym c.last) d.0);
+        goes = subst (λ (f : List Ask). DeliveryGoesOn h.queue h.last s o packet (look ++ (did_all f h.lent ++ did_by h.last h.lent))) (sym c.first)
+            (subst (λ (a : Ask). DeliveryGoesOn h.queue a s o packet (look ++ (did_all c.stepped.first h.lent ++ did_by a h.lent))) (sym c.last) d.0);
         sized = subst (λ (a : Ask). IsSized a) (sym c.last) (last_sized c.stepped.first c.stepped.last c.stepped.said.sized);
         page = c.page;
         wires = c.stepped.wires ∙ b.begun.wires;
@@ -131,21 +132,21 @@ module _ {S : Type 0} (log : S → Option (List Access)) (gives : S → Access �
       by (Push at word read) e o g = absurd (cc o)
       by (Notify port) e o g = absurd (cc o)
 
-  pub delivery_ends : (old : Queue) (packet : List ℕ) (bus bus' : S) (before : List ℕ) (n : ℕ) (h : Held S) → Carried log gives (delivery packet) old.engine.state (wired_to old) bus before n h → is_over h.last ≡ true →
-      Performs log gives h.bus (accesses (did_all h.first h.lent)) bus' → (what : Delivery) × (h.last ≡ DeliveryOver what) × HasDelivered log gives old h.queue packet what bus bus' before h.counters
-  delivery_ends old packet bus bus' before n h c over p = by h.last refl over c.goes
+  pub delivery_ends : (old : Queue) (o : RxOffload) (packet : List ℕ) (bus bus' : S) (before : List ℕ) (n : ℕ) (h : Held S) → Carried log gives (delivery o packet) old.engine.state (wired_to old) bus before n h → is_over h.last ≡ true →
+      Performs log gives h.bus (accesses (did_all h.first h.lent)) bus' → (what : Delivery) × (h.last ≡ DeliveryOver what) × HasDelivered log gives old h.queue o packet what bus bus' before h.counters
+  delivery_ends old o packet bus bus' before n h c over p = by h.last refl over c.goes
     where
-      by : (last : Ask) → h.last ≡ last → is_over last ≡ true → DeliveryGoesOn h.queue last old.engine.state packet (c.trace ++ (did_all h.first h.lent ++ did_by last h.lent)) →
-          (what : Delivery) × (h.last ≡ DeliveryOver what) × HasDelivered log gives old h.queue packet what bus bus' before h.counters
-      by (DeliveryOver x) e o g =
+      by : (last : Ask) → h.last ≡ last → is_over last ≡ true → DeliveryGoesOn h.queue last old.engine.state o packet (c.trace ++ (did_all h.first h.lent ++ did_by last h.lent)) →
+          (what : Delivery) × (h.last ≡ DeliveryOver what) × HasDelivered log gives old h.queue o packet what bus bus' before h.counters
+      by (DeliveryOver x) e is_last g =
           let d = did_all h.first h.lent in
-          let is : IsDelivery (wiring h.queue) old.engine.state packet (c.trace ++ d) h.queue.engine.state x =
-          subst (λ (l : List Event). IsDelivery (wiring h.queue) old.engine.state packet (c.trace ++ l) h.queue.engine.state x) (append-nil d) g.0 in (
+          let is : IsDelivery (wiring h.queue) old.engine.state o packet (c.trace ++ d) h.queue.engine.state x =
+          subst (λ (l : List Event). IsDelivery (wiring h.queue) old.engine.state o packet (c.trace ++ l) h.queue.engine.state x) (append-nil d) g.0 in (
             x,
             e,
             record {
               trace = c.trace ++ d;
-              is_delivery = subst (λ (w : OwnedWiring). IsDelivery (wiring_of w) old.engine.state packet (c.trace ++ d) h.queue.engine.state x) c.wires is;
+              is_delivery = subst (λ (w : OwnedWiring). IsDelivery (wiring_of w) old.engine.state o packet (c.trace ++ d) h.queue.engine.state x) c.wires is;
               performed = more_performed bus h.bus bus' c.trace d c.performed p;
               counters = c.keeps;
               copied = λ f. g.2;
@@ -153,15 +154,15 @@ module _ {S : Type 0} (log : S → Option (List Access)) (gives : S → Access �
               wires = c.wires;
             },
           )
-      by (TurnOver x) e o g = absurd g.0.waits
-      by (WaitOver x) e o g = absurd g.0.waits
-      by (Read at count) e o g = absurd (cc o)
-      by (Entry at reference rights) e o g = absurd (cc o)
-      by (Write at count) e o g = absurd (cc o)
-      by (Store at word) e o g = absurd (cc o)
-      by (StoreTwo at first second) e o g = absurd (cc o)
-      by (Push at word read) e o g = absurd (cc o)
-      by (Notify port) e o g = absurd (cc o)
+      by (TurnOver x) e is_last g = absurd g.0.waits
+      by (WaitOver x) e is_last g = absurd g.0.waits
+      by (Read at count) e is_last g = absurd (cc is_last)
+      by (Entry at reference rights) e is_last g = absurd (cc is_last)
+      by (Write at count) e is_last g = absurd (cc is_last)
+      by (Store at word) e is_last g = absurd (cc is_last)
+      by (StoreTwo at first second) e is_last g = absurd (cc is_last)
+      by (Push at word read) e is_last g = absurd (cc is_last)
+      by (Notify port) e is_last g = absurd (cc is_last)
 
   pub wait_ends : (old : Queue) (pages : ℕ) (bus bus' : S) (before : List ℕ) (n : ℕ) (h : Held S) → Carried log gives (wait pages (packet_of old)) old.engine.state (wired_to old) bus before n h → is_over h.last ≡ true →
       Performs log gives h.bus (accesses (did_all h.first h.lent)) bus' → (what : Awaited) × (h.last ≡ WaitOver what) × HasAwaited log gives old h.queue pages what bus bus' before h.counters

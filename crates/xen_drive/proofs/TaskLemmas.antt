@@ -36,8 +36,8 @@ moved turn s old new lent lent_after before after ops ops_after count h t a n g 
       keeps = tt;
       goes = h.turn s t a (turns_on (seen old) a s t n g);
     }
-moved (delivery packet) s old new lent lent_after before after ops ops_after count h t a n g =
-    let d = h.delivery s packet t (Some a) (delivers_on (seen old) a s packet t n g) in
+moved (delivery o packet) s old new lent lent_after before after ops ops_after count h t a n g =
+    let d = h.delivery s o packet t (Some a) (delivers_on (seen old) a s o packet t n g) in
     record { ran = []; silent = refl; history = sym d.1; keeps = d.1; goes = d.0 }
 moved (wait pages packet) s old new lent lent_after before after ops ops_after count h t a n g =
     let d = h.wait s pages packet t (Some a) (waits_on (seen old) a s pages packet t n g) in

@@ -1,14 +1,15 @@
 -- Stated: claims rest on this file.
 -- A whole turn, a whole delivery and a whole wait of a queue whose accesses a host makes, from the call that begins it to its last op.
-use Rattle.std.specs.Prelude.{ℕ, ◌≡◌, ◌≤◌, true, false, List, [], Option, Some, length, map}
+use Rattle.std.specs.Prelude.{ℕ, ◌≡◌, ◌≤◌, false, List, [], Option, Some, length, map}
 use Rattle.xdp_program.specs.Ran.{IsHistory}
+use Rattle.xen_netif.specs.declared.offload.RxOffload.{RxOffload}
 use Rattle.xen_page.specs.Access.{Performs}
 use Rattle.xen_page.specs.declared.access.Access.{Access}
 use Rattle.xen_steps.specs.Drive.{accesses}
 use Rattle.xen_steps.specs.Event.{Event, Read}
 use Rattle.xen_rx_fill.specs.Places.{rx_word, tx_word}
 use Rattle.xen_turns.specs.Awaited.{IsAwaiting}
-use Rattle.xen_turns.specs.Delivered.{IsDelivery, is_frame}
+use Rattle.xen_turns.specs.Delivered.{IsDeliverable, IsDelivery}
 use Rattle.xen_turns.specs.Drive.{labels}
 use Rattle.xen_turns.specs.Turned.{turned}
 use Rattle.xen_turns.specs.Turns.{IsTurn}
@@ -50,12 +51,12 @@ pub record IsFirstStep {S : Type 0} (begun : Queue) (before : List ℕ) (h : Hel
   pub last : h.last ≡ stepped.last
 
 -- The delivery of a packet has begun, with what the host read of the rx producer, and has taken its first step.
-pub record BeginsDelivery {S : Type 0} (log : S → Option (List Access)) (gives : S → Access → S → Type 0) (old : Queue) (packet : List ℕ)
-    (bus : S) (before : List ℕ) (h : Held S) : Type 0 where
+pub record BeginsDelivery {S : Type 0} (log : S → Option (List Access)) (gives : S → Access → S → Type 0) (old : Queue) (o : RxOffload)
+    (packet : List ℕ) (bus : S) (before : List ℕ) (h : Held S) : Type 0 where
   pub producer : ℕ
   pub performed : Performs log gives bus (accesses (first_read old.engine.state.halt (Read (rx_word (wiring old).vif 0) producer))) h.bus
   pub mid : Queue
-  pub begun : IsBegun old mid producer packet
+  pub begun : IsBegun old mid producer o packet
   pub stepped : IsFirstStep mid before h
 
 -- A wait for `pages` rx slots has begun, and has taken its first step.
@@ -82,12 +83,12 @@ pub record HasTurned {S : Type 0} (log : S → Option (List Access)) (gives : S 
 -- A delivery is over. Its events are a row of the table of deliveries; the bus went through their accesses and no others, and no counter
 -- changed.
 pub record HasDelivered {S : Type 0} (log : S → Option (List Access)) (gives : S → Access → S → Type 0) (old new : Queue)
-    (packet : List ℕ) (what : Delivery) (bus bus' : S) (before after : List ℕ) : Type 0 where
+    (o : RxOffload) (packet : List ℕ) (what : Delivery) (bus bus' : S) (before after : List ℕ) : Type 0 where
   pub trace : List Event
-  pub is_delivery : IsDelivery (wiring old) old.engine.state packet trace new.engine.state what
+  pub is_delivery : IsDelivery (wiring old) old.engine.state o packet trace new.engine.state what
   pub performed : Performs log gives bus (accesses trace) bus'
   pub counters : after ≡ before
-  pub copied : is_frame packet ≡ true → packet_of new ≡ packet
+  pub copied : IsDeliverable (wiring old).accepts o packet → packet_of new ≡ packet
   pub rests : resting new ≡ Some new.engine.state
   pub wires : wired_to new ≡ wired_to old
 

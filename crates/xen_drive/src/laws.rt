@@ -1,6 +1,7 @@
 //! Whoever makes the accesses of each op, in order, and steps with the words that it has read, has made the whole.
 
 ghost use Rattle.std.specs.Prelude.{ℕ, ◌≡◌, List, true};
+ghost use Rattle.xen_netif.specs.declared.offload.RxOffload.{RxOffload};
 ghost use Rattle.xen_page.specs.Access.{Performs};
 ghost use Rattle.xen_steps.specs.Drive.{accesses};
 ghost use Rattle.xen_turns.specs.declared.delivery.delivering.Delivery.{Delivery};
@@ -25,11 +26,11 @@ pub fn turns_are_made<B: Bus>()
 
 /// So it is of a delivery.
 pub fn deliveries_are_made<B: Bus>()
-    ensures { (old : Queue) (packet : List ℕ) (bus bus' : B) (before : List ℕ) (h h' : Held B) (n : ℕ) →
-        BeginsDelivery B.log B.access_gives old packet bus before h → StepsBy B.log B.access_gives n h h' → is_over h'.last ≡ true →
+    ensures { (old : Queue) (o : RxOffload) (packet : List ℕ) (bus bus' : B) (before : List ℕ) (h h' : Held B) (n : ℕ) →
+        BeginsDelivery B.log B.access_gives old o packet bus before h → StepsBy B.log B.access_gives n h h' → is_over h'.last ≡ true →
         Performs B.log B.access_gives h'.bus (accesses (did_all h'.first h'.lent)) bus' →
         (what : Delivery) × (h'.last ≡ DeliveryOver what) ×
-        HasDelivered B.log B.access_gives old h'.queue packet what bus bus' before h'.counters }
+        HasDelivered B.log B.access_gives old h'.queue o packet what bus bus' before h'.counters }
 {}
 
 /// And of a wait.

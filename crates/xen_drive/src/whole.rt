@@ -11,7 +11,7 @@ ghost use Rattle.xen_host.specs.Queues.{resting, wired_to};
 ghost use Rattle.xen_drive.specs.Driven.{HasAwaited, HasDelivered, HasTurned};
 
 use xdp_program::Words;
-use xen_host::{Awaited, Delivery, Kind, Op, Over, Queue};
+use xen_host::{Awaited, Delivery, Kind, Op, Over, Queue, RxOffload};
 use xen_page::Bus;
 use xen_ring::Ports;
 
@@ -39,6 +39,7 @@ fn drive_in_words<B: Bus>(
 fn deliver_in_words<B: Bus>(
     queue: &mut Queue,
     packet: &[u8],
+    offload: RxOffload,
     bus: &mut B,
     counters: &mut Words<'_>,
     ports: &Ports,
@@ -49,10 +50,10 @@ fn deliver_in_words<B: Bus>(
     ensures size { B.size bus.new ≡ B.size bus.old }
     ensures counters { length counters.new.words.now ≡ length counters.old.words.now }
     ensures loan { counters.new.words.ghost_name ≡ counters.old.words.ghost_name }
-    ensures delivered { HasDelivered B.log B.access_gives queue.old queue.new packet.now result bus.old bus.new counters.old.words.now
-        counters.new.words.now }
+    ensures delivered { HasDelivered B.log B.access_gives queue.old queue.new offload packet.now result bus.old bus.new
+        counters.old.words.now counters.new.words.now }
 {
-    queue.drive_delivery(packet, counters, bus, ports)
+    queue.drive_delivery(packet, offload, counters, bus, ports)
 }
 
 /// As [`await_slots`], in words that are lent.
@@ -90,10 +91,12 @@ pub fn drive<B: Bus>(queue: &mut Queue, bus: &mut B, counters: &mut [u64], ports
     Over::Turn(drive_in_words(queue, bus, &mut own, ports)).op()
 }
 
-/// Delivers a packet of the host's own to the frontend, between two turns, and returns the last op: what became of it.
+/// Delivers a packet of the host's own to the frontend, between two turns, and returns the last op: what became of it. It leaves
+/// `offload` to the frontend.
 pub fn deliver<B: Bus>(
     queue: &mut Queue,
     packet: &[u8],
+    offload: RxOffload,
     bus: &mut B,
     counters: &mut [u64],
     ports: &Ports,
@@ -104,10 +107,10 @@ pub fn deliver<B: Bus>(
     ensures size { B.size bus.new ≡ B.size bus.old }
     ensures counters { length counters.new ≡ length counters.old }
     ensures delivered { (what : Delivery) × (result ≡ op_of (DeliveryOver what)) ×
-        HasDelivered B.log B.access_gives queue.old queue.new packet.now what bus.old bus.new counters.old counters.new }
+        HasDelivered B.log B.access_gives queue.old queue.new offload packet.now what bus.old bus.new counters.old counters.new }
 {
     let mut own = Words { words: counters };
-    Over::Delivery(deliver_in_words(queue, packet, bus, &mut own, ports)).op()
+    Over::Delivery(deliver_in_words(queue, packet, offload, bus, &mut own, ports)).op()
 }
 
 /// Asks the frontend for a notice as soon as it has posted `pages` rx slots, and looks whether it has by now, between two turns. Returns

@@ -8,7 +8,16 @@ use bpf_note::MapShape;
 use std::alloc::Global;
 use xen_back_tests::bench::{IFINDEX, QUEUE};
 use xen_host::{FrameOwners, Lists, Program, Queue, QueueParts};
-use xen_netif::NO_OFFERS;
+use xen_netif::{Accepts, NO_OFFERS, Offers};
+
+/// What its frontend accepts: blank checksums, and packets to segment over IPv4.
+pub const ACCEPTS: Accepts = Accepts {
+    blank_checksums: true,
+    segments: Offers {
+        gso_tcpv4: true,
+        gso_tcpv6: false,
+    },
+};
 
 /// The queue between two turns, of which both rings are at `start`. It is wired as that of `xen_back_tests`: the backend, domain 0, owns
 /// frame 0, and the frontend the others; frame 1 is its grant table, frame 17 its tx ring and frame 18 its rx ring.
@@ -30,6 +39,7 @@ pub fn shipped(alloc: Global, bytes: &[u8], shapes: &[MapShape], start: u32) -> 
         user: 0,
         port: 1,
         offers: NO_OFFERS,
+        accepts: ACCEPTS,
         ifindex: IFINDEX,
         queue: QUEUE,
         tx_index: start,

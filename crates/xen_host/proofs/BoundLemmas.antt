@@ -1,5 +1,6 @@
 -- How a turn, a delivery and a wait begin and end, and how many steps they take.
 use Rattle.std.proofs.Common.{◌≡◌, ℕ, ◌≤◌, true, List, [], ◌∷◌, ◌++◌, Option, None, Some, refl, length, arith}
+use Rattle.xen_netif.specs.declared.offload.RxOffload.{RxOffload}
 use Rattle.xen_steps.specs.Drive.{IsPageWant}
 use Rattle.xen_steps.specs.Event.{Event}
 use Rattle.xen_steps.specs.Steps.{Runs}
@@ -82,12 +83,13 @@ some_turn q st s t a h =
     let r = some_run (may_want q.wires) rest (turning_left e.wires e.state e.stage e.work h.is_here st.left) in
     (r.0, r.1, runs_gone (whole_turn q.wires s) rest t r.0 r.1 h.gone r.2)
 
-some_delivery : (q : EngineAt) → Stands q → (s : State) (packet : List ℕ) (t : List Event) (a : Option Ask) → IsDeliveringAt q s packet t a → (p : List Event) × (e : Arrival) × Runs (whole_delivery q.wires.vif s packet) (t ++ p) e
-some_delivery q st s packet t a h =
+some_delivery : (q : EngineAt) → Stands q → (s : State) (o : RxOffload) (packet : List ℕ) (t : List Event) (a : Option Ask) → IsDeliveringAt q s o packet t a →
+    (p : List Event) × (e : Arrival) × Runs (whole_delivery q.wires.vif q.wires.accepts s o packet) (t ++ p) e
+some_delivery q st s o packet t a h =
     let e = q in
     let rest = rest_of_delivery q.wires.vif e.state e.stage e.work in
     let r = some_run (IsPageWant (length e.wires.vif.owners.now)) rest (delivering_left e.wires e.state e.stage e.work h.0.is_here st.left) in
-    (r.0, r.1, runs_gone (whole_delivery q.wires.vif s packet) rest t r.0 r.1 h.0.gone r.2)
+    (r.0, r.1, runs_gone (whole_delivery q.wires.vif q.wires.accepts s o packet) rest t r.0 r.1 h.0.gone r.2)
 
 some_wait : (q : EngineAt) → Stands q → (s : State) (pages : ℕ) (packet : List ℕ) (t : List Event) (a : Option Ask) → IsWaitingAt q s pages packet t a → (p : List Event) × (e : Wait) × Runs (whole_wait q.wires.vif.rx s pages) (t ++ p) e
 some_wait q st s pages packet t a h =
@@ -109,10 +111,10 @@ abbrev pub TurnsAreShort : Type 0
 TurnsAreShort = (w : Wiring) (s : State) (p : List Event) (new : State) (u : Turned) → IsTurn w s p new u → effects p ≤ 33032
 
 abbrev pub DeliveriesAreRests : Type 0
-DeliveriesAreRests = (w : Wiring) (s : State) (packet : List ℕ) (p : List Event) (after : State) (what : Delivery) → Runs (whole_delivery w.vif s packet) p (after, what) → IsDelivery w s packet p after what
+DeliveriesAreRests = (w : Wiring) (s : State) (o : RxOffload) (packet : List ℕ) (p : List Event) (after : State) (what : Delivery) → Runs (whole_delivery w.vif w.accepts s o packet) p (after, what) → IsDelivery w s o packet p after what
 
 abbrev pub DeliveriesAreShort : Type 0
-DeliveriesAreShort = (w : Wiring) (s : State) (packet : List ℕ) (p : List Event) (after : State) (what : Delivery) → IsDelivery w s packet p after what → effects p ≤ 16484
+DeliveriesAreShort = (w : Wiring) (s : State) (o : RxOffload) (packet : List ℕ) (p : List Event) (after : State) (what : Delivery) → IsDelivery w s o packet p after what → effects p ≤ 16488
 
 abbrev pub WaitsAreRests : Type 0
 WaitsAreRests = (w : Wiring) (s : State) (pages : ℕ) (p : List Event) (after : State) (what : Awaited) → Runs (whole_wait w.vif.rx s pages) p (after, what) → IsAwaiting w s pages p after what
@@ -140,22 +142,22 @@ turn_few rests short q st s t (Notify port) h = turning_few rests short q st s t
 turn_few rests short q st s t (DeliveryOver x) h = turning_few rests short q st s t (DeliveryOver x) h
 turn_few rests short q st s t (WaitOver x) h = turning_few rests short q st s t (WaitOver x) h
 
-delivering_few : DeliveriesAreRests → DeliveriesAreShort → (q : EngineAt) → Stands q → (s : State) (packet : List ℕ) (t : List Event) (a : Option Ask) → IsDeliveringAt q s packet t a → effects t ≤ 16484
-delivering_few rests short q st s packet t a h =
-    let r = some_delivery q st s packet t a h in
-    front_few t r.0 16484 (short q.wires s packet (t ++ r.0) r.1.0 r.1.1 (rests q.wires s packet (t ++ r.0) r.1.0 r.1.1 r.2))
+delivering_few : DeliveriesAreRests → DeliveriesAreShort → (q : EngineAt) → Stands q → (s : State) (o : RxOffload) (packet : List ℕ) (t : List Event) (a : Option Ask) → IsDeliveringAt q s o packet t a → effects t ≤ 16488
+delivering_few rests short q st s o packet t a h =
+    let r = some_delivery q st s o packet t a h in
+    front_few t r.0 16488 (short q.wires s o packet (t ++ r.0) r.1.0 r.1.1 (rests q.wires s o packet (t ++ r.0) r.1.0 r.1.1 r.2))
 
-pub delivery_few : DeliveriesAreRests → DeliveriesAreShort → (q : EngineAt) → Stands q → (s : State) (packet : List ℕ) (t : List Event) (a : Ask) → DeliveryGoesAt q a s packet t → effects t ≤ 16484
-delivery_few rests short q st s packet t (DeliveryOver x) h = short q.wires s packet t q.state x h.0
-delivery_few rests short q st s packet t (Read at count) h = delivering_few rests short q st s packet t (Some (Read at count)) h
-delivery_few rests short q st s packet t (Entry at reference rights) h = delivering_few rests short q st s packet t (Some (Entry at reference rights)) h
-delivery_few rests short q st s packet t (Write at count) h = delivering_few rests short q st s packet t (Some (Write at count)) h
-delivery_few rests short q st s packet t (Store at word) h = delivering_few rests short q st s packet t (Some (Store at word)) h
-delivery_few rests short q st s packet t (StoreTwo at first second) h = delivering_few rests short q st s packet t (Some (StoreTwo at first second)) h
-delivery_few rests short q st s packet t (Push at word read) h = delivering_few rests short q st s packet t (Some (Push at word read)) h
-delivery_few rests short q st s packet t (Notify port) h = delivering_few rests short q st s packet t (Some (Notify port)) h
-delivery_few rests short q st s packet t (TurnOver x) h = delivering_few rests short q st s packet t (Some (TurnOver x)) h
-delivery_few rests short q st s packet t (WaitOver x) h = delivering_few rests short q st s packet t (Some (WaitOver x)) h
+pub delivery_few : DeliveriesAreRests → DeliveriesAreShort → (q : EngineAt) → Stands q → (s : State) (o : RxOffload) (packet : List ℕ) (t : List Event) (a : Ask) → DeliveryGoesAt q a s o packet t → effects t ≤ 16488
+delivery_few rests short q st s o packet t (DeliveryOver x) h = short q.wires s o packet t q.state x h.0
+delivery_few rests short q st s o packet t (Read at count) h = delivering_few rests short q st s o packet t (Some (Read at count)) h
+delivery_few rests short q st s o packet t (Entry at reference rights) h = delivering_few rests short q st s o packet t (Some (Entry at reference rights)) h
+delivery_few rests short q st s o packet t (Write at count) h = delivering_few rests short q st s o packet t (Some (Write at count)) h
+delivery_few rests short q st s o packet t (Store at word) h = delivering_few rests short q st s o packet t (Some (Store at word)) h
+delivery_few rests short q st s o packet t (StoreTwo at first second) h = delivering_few rests short q st s o packet t (Some (StoreTwo at first second)) h
+delivery_few rests short q st s o packet t (Push at word read) h = delivering_few rests short q st s o packet t (Some (Push at word read)) h
+delivery_few rests short q st s o packet t (Notify port) h = delivering_few rests short q st s o packet t (Some (Notify port)) h
+delivery_few rests short q st s o packet t (TurnOver x) h = delivering_few rests short q st s o packet t (Some (TurnOver x)) h
+delivery_few rests short q st s o packet t (WaitOver x) h = delivering_few rests short q st s o packet t (Some (WaitOver x)) h
 
 waiting_few : WaitsAreRests → (q : EngineAt) → Stands q → (s : State) (pages : ℕ) (packet : List ℕ) (t : List Event) (a : Option Ask) → IsWaitingAt q s pages packet t a → effects t ≤ 2
 waiting_few rests q st s pages packet t a h =

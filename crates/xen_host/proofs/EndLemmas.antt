@@ -2,6 +2,8 @@
 use Rattle.std.proofs.Common.{◌≡◌, ℕ, ◌⊎◌, inl, inr, List, [], ◌∷◌, ◌++◌, length, drop, refl, sym, subst, true}
 use Rattle.std.specs.Prelude.{◌/◌}
 use Rattle.xen_host.specs.declared.offload.Offload.{Offload}
+use Rattle.xen_netif.specs.declared.offload.RxOffload.{RxOffload}
+use Rattle.xen_netif.specs.declared.offload.RxOffload.TheVariants.{Whole}
 use Rattle.xen_page.specs.declared.place.Place.{Place}
 use Rattle.xen_steps.specs.Drive.{LedBy, IsPageWant}
 use Rattle.xen_steps.specs.Finish.{Finishes}
@@ -11,7 +13,8 @@ use Rattle.xen_steps.specs.Steps.{Steps}
 use Rattle.xen_steps.specs.declared.want.Want.{Want}
 use Rattle.xen_steps.proofs.FinishLemmas.{finishes_gone}
 use Rattle.xen_rx_fill.specs.Places.{rx_slot, rx_word, tx_slot, tx_word}
-use Rattle.xen_rx_fill.specs.Transmit.{after_targets, read_targets, targeted}
+use Rattle.xen_rx_fill.specs.Packets.{takes_extra}
+use Rattle.xen_rx_fill.specs.Transmit.{after_targets, read_targets, requested}
 use Rattle.xen_rx_fill.specs.declared.vif.Vif.{Vif}
 use Rattle.xen_turns.specs.Deliveries.{Arrival, arrived}
 use Rattle.xen_netif.specs.Chain.{Slot}
@@ -49,14 +52,14 @@ use Rattle.xen_host.proofs.StepLemmas.{AreInPages, all_within, last_within, page
 none : Place
 none = page_word 0 0
 
-pub reads_of_fill : (w : Vif) (x : ℕ) (f : Fill) (b : WorkAt) → (at : Place) × AsksReads at (reads_filling f) (rest_filling w x f b)
-reads_of_fill w x fill.Producer b = (rx_word w 0, (refl, λ a. tt))
-reads_of_fill w x (fill.Slot left) b = (rx_slot w (add32 x (length b.targets)) 0, asks_post w (add32 x (length b.targets)) (targeted b.targets (read_targets w x left)) (after_targets w x b.packet))
-reads_of_fill w x (fill.Grant left id at) b = (at, (refl, λ a. (refl, λ c. tt)))
-reads_of_fill w x (fill.Words i) b = (none, tt)
-reads_of_fill w x (fill.Respond grants i) b = (none, tt)
-reads_of_fill w x (fill.Push grants) b = (rx_word w 3, (refl, λ a. tt))
-reads_of_fill w x (fill.Notice grants) b = (none, tt)
+pub reads_of_fill : (w : Vif) (x : ℕ) (o : RxOffload) (f : Fill) (b : WorkAt) → (at : Place) × AsksReads at (reads_filling f) (rest_filling w x o f b)
+reads_of_fill w x o fill.Producer b = (rx_word w 0, (refl, λ a. tt))
+reads_of_fill w x o (fill.Slot left) b = (rx_slot w (add32 x (length b.targets)) 0, asks_post w (add32 x (length b.targets)) (requested w (takes_extra o (length b.targets)) b.targets (read_targets w x o left)) (after_targets w x o b.packet))
+reads_of_fill w x o (fill.Grant left id at) b = (at, (refl, λ a. (refl, λ c. tt)))
+reads_of_fill w x o (fill.Words i) b = (none, tt)
+reads_of_fill w x o (fill.Respond grants i) b = (none, tt)
+reads_of_fill w x o (fill.Push grants) b = (rx_word w 3, (refl, λ a. tt))
+reads_of_fill w x o (fill.Notice grants) b = (none, tt)
 
 reads_of_turn : (w : Wiring) (s : State) (g : Stage) (b : WorkAt) → is_turning g ≡ true → (at : Place) × AsksReads at (reads_in g) (rest_in w s g b)
 reads_of_turn w s stage.Ready b t = cc t
@@ -64,7 +67,7 @@ reads_of_turn w s stage.Announce b t = (tx_word w.vif 0, (refl, λ a. tt))
 reads_of_turn w s (stage.Slot left) b t = (tx_slot w.vif (add32 s.tx_index (length b.chain)) 0, asks_slot w (add32 s.tx_index (length b.chain)) (λ (slot : Slot). judged (b.chain ++ slot ∷ []) (standing (b.chain ++ slot ∷ [])) (read_slots w s.tx_index left (b.chain ++ slot ∷ []))) (after_scan w s))
 reads_of_turn w s (stage.Entry i at) b t = (at, (refl, λ a. (refl, λ c. tt)))
 reads_of_turn w s (stage.Page i f frame) b t = (page_word frame (f.offset / 4), asks_words f frame (f.offset / 4) (covered f) b.packet (copy w (drop i b.fragments)) (after_copy w s b.chain))
-reads_of_turn w s (stage.Fill f (purpose.Back n)) b t = let r = reads_of_fill w.vif s.rx_index f b in (r.0, reads_bind r.0 (reads_filling f) (rest_filling w.vif s.rx_index f b) (after_transmit w s b.chain b.packet n) r.1)
+reads_of_turn w s (stage.Fill f (purpose.Back n)) b t = let r = reads_of_fill w.vif s.rx_index Whole f b in (r.0, reads_bind r.0 (reads_filling f) (rest_filling w.vif s.rx_index Whole f b) (after_transmit w s b.chain b.packet n) r.1)
 reads_of_turn w s (stage.Fill f purpose.Delivery) b t = cc t
 reads_of_turn w s (stage.Respond a i) b t = (none, tt)
 reads_of_turn w s (stage.Push at kind) b t = (tx_word w.vif 3, (refl, λ a. tt))
@@ -80,7 +83,7 @@ reads_of_delivery w s (stage.Slot left) b t = cc t
 reads_of_delivery w s (stage.Entry i at) b t = cc t
 reads_of_delivery w s (stage.Page i f frame) b t = cc t
 reads_of_delivery w s (stage.Fill f (purpose.Back n)) b t = cc t
-reads_of_delivery w s (stage.Fill f purpose.Delivery) b t = let r = reads_of_fill w s.rx_index f b in (r.0, reads_bind r.0 (reads_filling f) (rest_filling w s.rx_index f b) (arrived s) r.1)
+reads_of_delivery w s (stage.Fill f purpose.Delivery) b t = let r = reads_of_fill w s.rx_index b.offload f b in (r.0, reads_bind r.0 (reads_filling f) (rest_filling w s.rx_index b.offload f b) (arrived s) r.1)
 reads_of_delivery w s (stage.Respond a i) b t = cc t
 reads_of_delivery w s (stage.Push at kind) b t = cc t
 reads_of_delivery w s (stage.Notice at kind) b t = cc t

@@ -2,6 +2,8 @@
 use Rattle.std.proofs.Common.{◌≡◌, ℕ, ◌<◌, List, [], ◌∷◌, ◌++◌, length, map, refl, sym, ap, ◌∙◌, subst, true}
 use Rattle.std.specs.Prelude.{None, Option, Some, IsSome}
 use Rattle.std.specs.Prelude.{◌^◌, Bool}
+use Rattle.xen_netif.specs.declared.offload.Accepts.{Accepts}
+use Rattle.xen_netif.specs.declared.offload.RxOffload.{RxOffload}
 use Rattle.xen_steps.specs.Drive.{LedBy, IsPageWant}
 use Rattle.xen_steps.specs.Event.{Read}
 use Rattle.xen_steps.specs.Steps.{next}
@@ -9,8 +11,8 @@ use Rattle.xen_steps.proofs.DriveLemmas.{gone_append}
 use Rattle.xen_rx_fill.specs.Places.{rx_word, tx_word}
 use Rattle.xen_rx_fill.specs.declared.vif.Vif.{Vif}
 use Rattle.xen_rx_fill.proofs.Bounds.{frame_inside}
-use Rattle.xen_turns.specs.Delivered.{is_frame}
-use Rattle.xen_turns.specs.Deliveries.{if_frame, unless_halted as delivery_by, whole_delivery}
+use Rattle.xen_turns.specs.Delivered.{IsDeliverable}
+use Rattle.xen_turns.specs.Deliveries.{if_frame, if_taken, unless_halted as delivery_by, whole_delivery}
 use Rattle.xen_turns.specs.Tree.{unless_halted as turn_by, whole_turn}
 use Rattle.xen_turns.specs.declared.turn.Halt.{Halt}
 use Rattle.xen_turns.specs.declared.wiring.Wiring.{Wiring}
@@ -145,7 +147,7 @@ stepped_at {was = was} {full = full} {gave = gave} {host = host} {host_after = h
           labels = a.led.ran.labels;
           history = a.led.ran.history;
           turn = turn_steps old new _ a.words went (given_words gave _ host a.mid a.words a.given) (given_length gave _ host a.mid a.words a.given) same a.led;
-          delivery = λ s packet trace asked token. absurd (cc (token.0.is_here, t.not_delivering));
+          delivery = λ s o packet trace asked token. absurd (cc (token.0.is_here, t.not_delivering));
           wait = λ s pages packet trace asked token. absurd (cc (token.0.is_here, t.not_waiting));
         }
     by (delivery t) =
@@ -168,8 +170,8 @@ stepped_at {was = was} {full = full} {gave = gave} {host = host} {host_after = h
           labels = [];
           history = t.counters;
           turn = λ s trace asked token. absurd (cc (token.is_here, t.not_turning));
-          delivery = λ s packet trace asked token.
-              (delivery_steps old new old.offload a.words (given_words gave _ host a.mid a.words a.given) (given_length gave _ host a.mid a.words a.given) same l s packet trace asked token, none t.counters);
+          delivery = λ s o packet trace asked token.
+              (delivery_steps old new old.offload a.words (given_words gave _ host a.mid a.words a.given) (given_length gave _ host a.mid a.words a.given) same l s o packet trace asked token, none t.counters);
           wait = λ s pages packet trace asked token. absurd (cc (token.0.is_here, t.not_waiting));
         }
     by (wait t) =
@@ -192,7 +194,7 @@ stepped_at {was = was} {full = full} {gave = gave} {host = host} {host_after = h
           labels = [];
           history = t.counters;
           turn = λ s trace asked token. absurd (cc (token.is_here, t.not_turning));
-          delivery = λ s packet trace asked token. absurd (cc (token.0.is_here, t.not_delivering));
+          delivery = λ s o packet trace asked token. absurd (cc (token.0.is_here, t.not_delivering));
           wait = λ s pages packet trace asked token.
               (wait_steps old new old.offload a.words (given_words gave _ host a.mid a.words a.given) (given_length gave _ host a.mid a.words a.given) same l s pages packet trace asked token, none t.counters);
         }
@@ -246,25 +248,28 @@ begun_at old new st producer small same l =
       turn = turn_goes new s (reads ++ did) l.last.ask l.left (subst (λ (x : Wiring). LedBy (whole_turn x s) (reads ++ did) l.left) (sym same) g) l.is_end;
     }
 
-delivery_led : (w : Vif) (s : State) (packet : List ℕ) (producer : ℕ) → producer < 2 ^ 32 → is_frame packet ≡ true → LedBy (whole_delivery w s packet) (first_read s.halt (Read (rx_word w 0) producer)) (next (delivery_by w s packet s.halt) producer)
-delivery_led w s packet producer small frame =
-    subst (λ (b : Bool). LedBy (if_frame w s packet b) (first_read s.halt (Read (rx_word w 0) producer)) (next (delivery_by w s packet s.halt) producer)) (sym frame) (by s.halt)
+delivery_led : (w : Vif) (accepts : Accepts) (s : State) (o : RxOffload) (packet : List ℕ) (producer : ℕ) → producer < 2 ^ 32 → IsDeliverable accepts o packet →
+    LedBy (whole_delivery w accepts s o packet) (first_read s.halt (Read (rx_word w 0) producer)) (next (delivery_by w s o packet s.halt) producer)
+delivery_led w accepts s o packet producer small d =
+    subst (λ (b : Bool). LedBy (if_frame w accepts s o packet b) (first_read s.halt (Read (rx_word w 0) producer)) (next (delivery_by w s o packet s.halt) producer)) (sym d.0)
+    (subst (λ (b : Bool). LedBy (if_taken w s o packet b) (first_read s.halt (Read (rx_word w 0) producer)) (next (delivery_by w s o packet s.halt) producer)) (sym d.1) (by s.halt))
   where
-    by : (x : Option Halt) → LedBy (delivery_by w s packet x) (first_read x (Read (rx_word w 0) producer)) (next (delivery_by w s packet x) producer)
-    by None = (next (delivery_by w s packet None) producer, (producer, (small, refl), refl), refl)
+    by : (x : Option Halt) → LedBy (delivery_by w s o packet x) (first_read x (Read (rx_word w 0) producer)) (next (delivery_by w s o packet x) producer)
+    by None = (next (delivery_by w s o packet None) producer, (producer, (small, refl), refl), refl)
     by (Some cause) = refl
 
 -- a delivery of this packet is to begin
-pub delivery_stands : (e : EngineAt) → Stands e → (producer : ℕ) (b : WorkAt) → producer < 2 ^ 32 → is_frame b.packet ≡ true → Stands (record e { stage = stage.Deliver producer; work = b })
-delivery_stands e st producer b small frame =
+pub delivery_stands : (e : EngineAt) → Stands e → (producer : ℕ) (b : WorkAt) → producer < 2 ^ 32 → IsDeliverable e.wires.accepts b.offload b.packet →
+    Stands (record e { stage = stage.Deliver producer; work = b })
+delivery_stands e st producer b small d =
     let w = e.wires.vif in
-    let whole = whole_delivery w e.state b.packet in
-    let rest = next (delivery_by w e.state b.packet e.state.halt) producer in
+    let whole = whole_delivery w e.wires.accepts e.state b.offload b.packet in
+    let rest = next (delivery_by w e.state b.offload b.packet e.state.halt) producer in
     record {
-      fits = frame;
+      fits = d.0;
       wired = st.wired;
       turns = st.turns;
-      left = finishes_gone (IsPageWant (length e.wires.vif.owners.now)) whole rest (first_read e.state.halt (Read (rx_word w 0) producer)) (arrives w e.state b.packet st.wired) (delivery_led w e.state b.packet producer small frame);
+      left = finishes_gone (IsPageWant (length e.wires.vif.owners.now)) whole rest (first_read e.state.halt (Read (rx_word w 0) producer)) (arrives w e.wires.accepts e.state b.offload b.packet st.wired) (delivery_led w e.wires.accepts e.state b.offload b.packet producer small d);
     }
 
 -- a wait is to begin
@@ -309,17 +314,20 @@ ready_at e h = by e.state e.stage h
     by s (stage.WaitLook pages) h = absurd (cc h)
 
 -- what is to begin: all of it is left
-pub delivery_begins : (e : EngineAt) (producer : ℕ) (b : WorkAt) (packet : List ℕ) → IsSome (resting_at e) → producer < 2 ^ 32 → b.packet ≡ packet → is_frame packet ≡ true →
-    IsBegunAt e (record e { stage = stage.Deliver producer; work = b }) producer packet
-delivery_begins e producer b packet h small is frame =
+pub delivery_begins : (e : EngineAt) (producer : ℕ) (b : WorkAt) (packet : List ℕ) → IsSome (resting_at e) → producer < 2 ^ 32 → b.packet ≡ packet → IsDeliverable e.wires.accepts b.offload packet →
+    IsBegunAt e (record e { stage = stage.Deliver producer; work = b }) producer b.offload packet
+delivery_begins e producer b packet h small is d =
     let w = e.wires.vif in
+    let o = b.offload in
     let s = e.state in
+    let accepts = e.wires.accepts in
     let reads = first_read s.halt (Read (rx_word w 0) producer) in
     record {
       rested = rests e (ready_at e h);
       delivering = (
         record {
-          gone = subst (λ (p : List ℕ). LedBy (whole_delivery w s p) reads (next (delivery_by w s b.packet s.halt) producer)) is (delivery_led w s b.packet producer small (ap is_frame is ∙ frame));
+          gone = subst (λ (p : List ℕ). LedBy (whole_delivery w accepts s o p) reads (next (delivery_by w s o b.packet s.halt) producer)) is
+              (delivery_led w accepts s o b.packet producer small (subst (λ (p : List ℕ). IsDeliverable accepts o p) (sym is) d));
           waits = refl;
           is_here = refl;
         },

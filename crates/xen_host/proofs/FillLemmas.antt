@@ -1,5 +1,6 @@
 -- A transmit that goes on, whatever it is for.
 use Rattle.std.proofs.Common.{◌≡◌, ℕ, true, List, [], ◌∷◌, ◌++◌, refl, ap, subst}
+use Rattle.xen_netif.specs.declared.offload.RxOffload.{RxOffload}
 use Rattle.xen_steps.specs.Drive.{LedBy}
 use Rattle.xen_steps.specs.Steps.{Steps, bind}
 use Rattle.xen_rx_fill.specs.declared.by_event.phase.Outcome.{Outcome}
@@ -14,7 +15,7 @@ use Rattle.xen_host.specs.Fed.{WaitsFor}
 use Rattle.xen_host.specs.HostLed.{FillLeads, HostLed}
 use Rattle.xen_host.specs.Hosts.{WasAskedAll, events_of, plain_all}
 use Rattle.xen_host.specs.Led.{Beside, DeliveryEnds, IsOn, TurnEnds, beside}
-use Rattle.xen_host.specs.Rest.{is_delivering, is_turning, reads_filling, reads_in, rest_filling, rest_in, rest_of_delivery}
+use Rattle.xen_host.specs.Rest.{is_delivering, is_turning, reads_filling, reads_in, rest_filling, rest_in, rest_of_delivery, rx_offload}
 use Rattle.xen_host.specs.Told.{IsToldAt, IsToldFilling}
 use Rattle.xen_host.specs.EngineAt.{EngineAt, WorkAt}
 use Rattle.xen_host.specs.declared.stage.Fill.{Fill}
@@ -84,12 +85,12 @@ with_targets b ts = record b { targets = ts }
 abbrev pub filling_at : EngineAt → List Target → Fill → Purpose → EngineAt
 filling_at q ts f p = record q { stage = stage.Fill f p; work = with_targets q.work ts }
 
-abbrev pub IsFillOn : EngineAt → List Target → Fill → Ask → Steps Outcome → Type 0
-IsFillOn q ts f a left =
-    (left ≡ rest_filling q.wires.vif q.state.rx_index f (with_targets q.work ts)) × IsToldFilling q.wires.vif.table.now f a × WaitsFor a (reads_filling f) left
+abbrev pub IsFillOn : EngineAt → List Target → RxOffload → Fill → Ask → Steps Outcome → Type 0
+IsFillOn q ts o f a left =
+    (left ≡ rest_filling q.wires.vif q.state.rx_index o f (with_targets q.work ts)) × IsToldFilling q.wires.vif.table.now f a × WaitsFor a (reads_filling f) left
 
 pub lift_fill : {H : Type 0} (was : H → Ask → List ℕ → H → Type 0) (full : H → Type 0) (p : Purpose) (q : EngineAt) (ts : List Target) (f : Fill) (x : Steps Outcome) (host host_after : H) →
-    HostLed was full (IsFillOn q ts f) q.offload x (filling_at q ts f p) host host_after → FillLeads was full p (beside q) x (filling_at q ts f p) host host_after
+    HostLed was full (IsFillOn q ts (rx_offload p q.work.offload) f) q.offload x (filling_at q ts f p) host host_after → FillLeads was full p (beside q) x (filling_at q ts f p) host host_after
 lift_fill was full (purpose.Back n) q ts f x host host_after h =
     let then = after_transmit q.wires q.state q.work.chain q.work.packet n in
     record {

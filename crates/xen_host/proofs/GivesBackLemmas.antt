@@ -5,6 +5,7 @@ use Rattle.bpf_note.specs.declared.op.Op.{Op}
 use Rattle.bpf_note.specs.declared.op.Op.TheVariants as op
 use Rattle.xen_netif.specs.Chain.{Slot}
 use Rattle.xen_netif.specs.declared.fragment.Fragment.{Fragment}
+use Rattle.xen_netif.specs.declared.offload.RxOffload.{RxOffload}
 use Rattle.xen_netif.specs.declared.status.Status.{Status}
 use Rattle.xen_page.specs.declared.fault.GrantFault.{GrantFault}
 use Rattle.xen_page.specs.declared.place.Place.{Place}
@@ -16,7 +17,7 @@ use Rattle.xen_steps.specs.Pages.{page_reads}
 use Rattle.xen_steps.specs.Places.{add32}
 use Rattle.xen_rx_fill.specs.Packets.{buffer_word, word_of, words}
 use Rattle.xen_rx_fill.specs.Places.{rx_word, tx_word}
-use Rattle.xen_rx_fill.specs.Sending.{AreTargets, IsPosted, IsRxRespond, IsTransmit, all, buffer_writes, is_posted, passing, refused, refusing, rx_overflow, rx_writes, sent, too_few}
+use Rattle.xen_rx_fill.specs.Sending.{AreTargets, IsPosted, IsRxRespond, IsTransmit, all, buffer_writes, for_extra, is_posted, passing, refused, refusing, rx_overflow, rx_writes, sent, too_few}
 use Rattle.xen_rx_fill.specs.Shared.{IsEntry, inside, notices, outside}
 use Rattle.xen_rx_fill.specs.declared.by_event.phase.Outcome.{Outcome}
 use Rattle.xen_rx_fill.specs.declared.target.Grants.{Grants}
@@ -97,11 +98,12 @@ calm_program (Some (op.Add m k j delta old) ∷ labels) = calm_program labels
 calm_posted : (w : Vif) (i : ℕ) (t : List Event) (id : ℕ) (r : Result ℕ GrantFault) → IsPosted w i t id r → IsCalm t
 calm_posted w i _ _ _ (is_posted a g t r k l e) = calm_entry w ReadWrite _ t r e
 
-calm_targets : (w : Vif) (x i left : ℕ) (t : List Event) (grants : Grants) (ts : List Target) → AreTargets w x i left t grants ts → IsCalm t
-calm_targets w x _ _ _ _ _ (all i) = tt
-calm_targets w x _ _ _ _ _ (refusing i left id t fault h) = calm_posted w (add32 x i) t id (Err fault) h
-calm_targets w x _ _ _ _ _ (passing i left id frame t u grants ts h more) =
-    calm_append t u (calm_posted w (add32 x i) t id (Ok frame) h) (calm_targets w x (i + 1) left u grants ts more)
+calm_targets : (w : Vif) (x : ℕ) (o : RxOffload) (i left : ℕ) (t : List Event) (grants : Grants) (ts : List Target) → AreTargets w x o i left t grants ts → IsCalm t
+calm_targets w x o _ _ _ _ _ (all i) = tt
+calm_targets w x o _ _ _ _ _ (refusing i left id t fault none h) = calm_posted w (add32 x i) t id (Err fault) h
+calm_targets w x o _ _ _ _ _ (passing i left id frame t u grants ts none h more) =
+    calm_append t u (calm_posted w (add32 x i) t id (Ok frame) h) (calm_targets w x o (i + 1) left u grants ts more)
+calm_targets w x o _ _ _ _ _ (for_extra i left a g u grants ts some k l more) = calm_targets w x o (i + 1) left u grants ts more
 
 -- ---- parts of the rings alone
 
@@ -127,14 +129,14 @@ of_respond w x slots st t h =
     subst (λ l. AllOfRings w.vif l) (sym h.2)
     (rings_append w.vif (response_writes w x 0 (responses st slots)) _ (of_responses w x 0 (responses st slots)) (inl refl, (inl refl, of_notices w.vif (is_due x (add32 x (length slots)) h.0))))
 
-of_replies : (w : Vif) (x : ℕ) (packet : List ℕ) (grants : Grants) (n i : ℕ) (ts : List Target) → AllOfRings w (rx_writes w x packet grants n i ts)
-of_replies w x packet grants n i [] = tt
-of_replies w x packet grants n i (t ∷ ts) = (inr refl, (inr refl, of_replies w x packet grants n (i + 1) ts))
+of_replies : (w : Vif) (x : ℕ) (o : RxOffload) (packet : List ℕ) (grants : Grants) (n i : ℕ) (ts : List Target) → AllOfRings w (rx_writes w x o packet grants n i ts)
+of_replies w x o packet grants n i [] = tt
+of_replies w x o packet grants n i (t ∷ ts) = (inr refl, (inr refl, of_replies w x o packet grants n (i + 1) ts))
 
-of_rx_respond : (w : Vif) (x : ℕ) (packet : List ℕ) (grants : Grants) (ts : List Target) (t : List Event) → IsRxRespond w x packet grants ts t → AllOfRings w t
-of_rx_respond w x packet grants ts t h =
+of_rx_respond : (w : Vif) (x : ℕ) (o : RxOffload) (packet : List ℕ) (grants : Grants) (ts : List Target) (t : List Event) → IsRxRespond w x o packet grants ts t → AllOfRings w t
+of_rx_respond w x o packet grants ts t h =
     subst (λ l. AllOfRings w l) (sym h.2)
-    (rings_append w (rx_writes w x packet grants (length ts) 0 ts) _ (of_replies w x packet grants (length ts) 0 ts) (inr refl, (inr refl, of_notices w (is_due x (add32 x (length ts)) h.0))))
+    (rings_append w (rx_writes w x o packet grants (length ts) 0 ts) _ (of_replies w x o packet grants (length ts) 0 ts) (inr refl, (inr refl, of_notices w (is_due x (add32 x (length ts)) h.0))))
 
 -- ---- the words of a packet, behind which responses are written
 
@@ -151,18 +153,18 @@ before_write w at v (Load m i j x ∷ t) b h = absurd b
 before_write w at v (Add m i j delta old ∷ t) b h = absurd b
 before_write w at v (Notify port ∷ t) b h = absurd b
 
-buffers_begin : (ts : List Target) (packet : List ℕ) (n k : ℕ) (u : List Event) → BeginsWithWrite u → BeginsWithWrite (buffer_writes ts packet n k ++ u)
-buffers_begin ts packet zero k u b = b
-buffers_begin ts packet (suc n) k u b = tt
+buffers_begin : (o : RxOffload) (ts : List Target) (packet : List ℕ) (n k : ℕ) (u : List Event) → BeginsWithWrite u → BeginsWithWrite (buffer_writes o ts packet n k ++ u)
+buffers_begin o ts packet zero k u b = b
+buffers_begin o ts packet (suc n) k u b = tt
 
-behind_buffers : (w : Vif) (ts : List Target) (packet : List ℕ) (n k : ℕ) (u : List Event) → BeginsWithWrite u → GivesBack w u → GivesBack w (buffer_writes ts packet n k ++ u)
-behind_buffers w ts packet zero k u b h = h
-behind_buffers w ts packet (suc n) k u b h =
-    before_write w (buffer_word ts k) (word_of packet k) (buffer_writes ts packet n (k + 1) ++ u) (buffers_begin ts packet n (k + 1) u b) (behind_buffers w ts packet n (k + 1) u b h)
+behind_buffers : (w : Vif) (o : RxOffload) (ts : List Target) (packet : List ℕ) (n k : ℕ) (u : List Event) → BeginsWithWrite u → GivesBack w u → GivesBack w (buffer_writes o ts packet n k ++ u)
+behind_buffers w o ts packet zero k u b h = h
+behind_buffers w o ts packet (suc n) k u b h =
+    before_write w (buffer_word o ts k) (word_of packet k) (buffer_writes o ts packet n (k + 1) ++ u) (buffers_begin o ts packet n (k + 1) u b) (behind_buffers w o ts packet n (k + 1) u b h)
 
-rx_begins : (w : Vif) (x : ℕ) (packet : List ℕ) (grants : Grants) (ts : List Target) (t u : List Event) → IsRxRespond w x packet grants ts t → BeginsWithWrite (t ++ u)
-rx_begins w x packet grants [] t u h = subst (λ l. BeginsWithWrite (l ++ u)) (sym h.2) tt
-rx_begins w x packet grants (s ∷ ts) t u h = subst (λ l. BeginsWithWrite (l ++ u)) (sym h.2) tt
+rx_begins : (w : Vif) (x : ℕ) (o : RxOffload) (packet : List ℕ) (grants : Grants) (ts : List Target) (t u : List Event) → IsRxRespond w x o packet grants ts t → BeginsWithWrite (t ++ u)
+rx_begins w x o packet grants [] t u h = subst (λ l. BeginsWithWrite (l ++ u)) (sym h.2) tt
+rx_begins w x o packet grants (s ∷ ts) t u h = subst (λ l. BeginsWithWrite (l ++ u)) (sym h.2) tt
 
 -- ---- the parts of a turn
 
@@ -191,19 +193,19 @@ behind_run w s t slots out u r h =
     apart p1 p2 p3 p4 =
         ap (λ l. p1 ++ (p2 ++ l)) (sym (append_assoc p3 p4 u)) ∙ ap (λ l. p1 ++ l) (sym (append_assoc p2 (p3 ++ p4) u)) ∙ sym (append_assoc p1 (p2 ++ (p3 ++ p4)) u)
 
-pub behind_transmit : (w : Vif) (x : ℕ) (packet : List ℕ) (t : List Event) (o : Outcome) (u : List Event) → IsTransmit w x packet t o → AllOfRings w u → GivesBack w (t ++ u)
-behind_transmit w x packet _ _ u (rx_overflow p l e) h = behind_one w (Read (rx_word w 0) p) u (λ f k. k) (of_rings w u h)
-behind_transmit w x packet _ _ u (too_few p m l e f) h = behind_one w (Read (rx_word w 0) p) u (λ f k. k) (of_rings w u h)
-behind_transmit w x packet _ _ u (refused p m p1 p2 ts l e f a r) h =
+pub behind_transmit : (w : Vif) (x : ℕ) (o : RxOffload) (packet : List ℕ) (t : List Event) (out : Outcome) (u : List Event) → IsTransmit w x o packet t out → AllOfRings w u → GivesBack w (t ++ u)
+behind_transmit w x o packet _ _ u (rx_overflow p l e) h = behind_one w (Read (rx_word w 0) p) u (λ f k. k) (of_rings w u h)
+behind_transmit w x o packet _ _ u (too_few p m l e f) h = behind_one w (Read (rx_word w 0) p) u (λ f k. k) (of_rings w u h)
+behind_transmit w x o packet _ _ u (refused p m p1 p2 ts l e f a r) h =
     behind_one w (Read (rx_word w 0) p) ((p1 ++ p2) ++ u) (λ f k. k)
     (subst (λ (l : List Event). GivesBack w l) (sym (append_assoc p1 p2 u))
-    (behind_calm w p1 (p2 ++ u) (calm_targets w x 0 _ p1 Refused ts a) (of_rings w (p2 ++ u) (rings_append w p2 u (of_rx_respond w x packet Refused ts p2 r) h))))
-behind_transmit w x packet _ _ u (sent p m p1 p2 ts l e f a r) h =
-    let filled = buffer_writes ts packet (words packet) 0 in
-    let rest = behind_buffers w ts packet (words packet) 0 (p2 ++ u) (rx_begins w x packet Passed ts p2 u r) (of_rings w (p2 ++ u) (rings_append w p2 u (of_rx_respond w x packet Passed ts p2 r) h)) in
+    (behind_calm w p1 (p2 ++ u) (calm_targets w x o 0 _ p1 Refused ts a) (of_rings w (p2 ++ u) (rings_append w p2 u (of_rx_respond w x o packet Refused ts p2 r) h))))
+behind_transmit w x o packet _ _ u (sent p m p1 p2 ts l e f a r) h =
+    let filled = buffer_writes o ts packet (words packet) 0 in
+    let rest = behind_buffers w o ts packet (words packet) 0 (p2 ++ u) (rx_begins w x o packet Passed ts p2 u r) (of_rings w (p2 ++ u) (rings_append w p2 u (of_rx_respond w x o packet Passed ts p2 r) h)) in
     behind_one w (Read (rx_word w 0) p) ((p1 ++ (filled ++ p2)) ++ u) (λ f k. k)
     (subst (λ (l : List Event). GivesBack w l) (sym (append_assoc p1 (filled ++ p2) u ∙ ap (λ l. p1 ++ l) (append_assoc filled p2 u)))
-    (behind_calm w p1 (filled ++ (p2 ++ u)) (calm_targets w x 0 _ p1 Passed ts a) rest))
+    (behind_calm w p1 (filled ++ (p2 ++ u)) (calm_targets w x o 0 _ p1 Passed ts a) rest))
 
 pub all_of : (w : Vif) (t : List Event) → GivesBack w (t ++ []) → GivesBack w t
 all_of w t h = subst (λ (l : List Event). GivesBack w l) (append-nil t) h
@@ -217,5 +219,5 @@ pushed_behind ring index t u h =
 pub pushed_respond : (w : Wiring) (x : ℕ) (slots : List Slot) (st : Status) (t : List Event) → IsRespond w x slots st t → HasPushed w.vif.tx (add32 x (length slots)) t
 pushed_respond w x slots st t h = record { before = response_writes w x 0 (responses st slots); event = h.0; after = notices w.vif (is_due x (add32 x (length slots)) h.0); joined = h.2 }
 
-pub pushed_rx : (w : Vif) (x : ℕ) (packet : List ℕ) (grants : Grants) (ts : List Target) (t : List Event) → IsRxRespond w x packet grants ts t → HasPushed w.rx (add32 x (length ts)) t
-pushed_rx w x packet grants ts t h = record { before = rx_writes w x packet grants (length ts) 0 ts; event = h.0; after = notices w (is_due x (add32 x (length ts)) h.0); joined = h.2 }
+pub pushed_rx : (w : Vif) (x : ℕ) (o : RxOffload) (packet : List ℕ) (grants : Grants) (ts : List Target) (t : List Event) → IsRxRespond w x o packet grants ts t → HasPushed w.rx (add32 x (length ts)) t
+pushed_rx w x o packet grants ts t h = record { before = rx_writes w x o packet grants (length ts) 0 ts; event = h.0; after = notices w (is_due x (add32 x (length ts)) h.0); joined = h.2 }

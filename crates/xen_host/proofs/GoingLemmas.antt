@@ -52,7 +52,7 @@ count_of (WaitOver x) n s w = absurd w
 
 pub count_due : (k : Task) (q : EngineAt) (a : Ask) (s : State) (t : List Event) → is_over a ≡ false → GoesOn k q a s t → IsCount a (reads_in q.stage)
 count_due turn q a s t o g = count_of a _ _ (turns_on q a s t o g).waits
-count_due (delivery packet) q a s t o g = count_of a _ _ (delivers_on q a s packet t o g).0.waits
+count_due (delivery left packet) q a s t o g = count_of a _ _ (delivers_on q a s left packet t o g).0.waits
 count_due (wait pages packet) q a s t o g = count_of a _ _ (waits_on q a s pages packet t o g).0.waits
 
 take_all : (n : ℕ) (l : List ℕ) → length l ≡ n → take n l ≡ l
@@ -272,8 +272,8 @@ module _ {B C : Type 0} (log : B → Option (List Access)) (gives : B → Access
         keeps = tt;
         goes = h.turn s t a (turns_on old a s t o g);
       }
-  moved (delivery packet) s old new before after host host_after h t a o g =
-      let d = h.delivery s packet t (Some a) (delivers_on old a s packet t o g) in
+  moved (delivery left packet) s old new before after host host_after h t a o g =
+      let d = h.delivery s left packet t (Some a) (delivers_on old a s left packet t o g) in
       record { ran = []; silent = refl; history = sym d.1; keeps = d.1; goes = d.0 }
   moved (wait pages packet) s old new before after host host_after h t a o g =
       let d = h.wait s pages packet t (Some a) (waits_on old a s pages packet t o g) in

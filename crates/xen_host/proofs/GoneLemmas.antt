@@ -1,5 +1,6 @@
 -- What a task over a bus has done once it has begun, how it ends, and how many steps it takes.
 use Rattle.std.proofs.Common.{◌≡◌, ℕ, ◌≤◌, ◌<◌, List, [], ◌∷◌, ◌++◌, Option, None, Some, refl, sym, ap, ◌∙◌, subst, length, arith, append_assoc}
+use Rattle.xen_netif.specs.declared.offload.RxOffload.{RxOffload}
 use Rattle.xen_page.specs.Access.{Performs}
 use Rattle.xen_page.specs.declared.access.Access.{Access}
 use Rattle.xen_page.proofs.AccessLemmas.{performs_none, performs_then}
@@ -49,12 +50,12 @@ module _ {B C : Type 0} (log : B → Option (List Access)) (gives : B → Access
       let f = front_few c.earlier x 33032 (turn_few rests short q c.stands s (c.earlier ++ x) c.last.ask c.goes) in
       omega (arith, k, f)
 
-  pub delivery_short : DeliveriesAreRests → DeliveriesAreShort → (s : State) (packet : List ℕ) (w : Wiring) (bus : B) (before : C) (n : ℕ) (q : EngineAt) (after : C) (host : OverBus B) →
-      IsGone log gives size did (delivery packet) s w bus before n q after host → n ≤ 16484
-  delivery_short rests short s packet w bus before n q after host c =
+  pub delivery_short : DeliveriesAreRests → DeliveriesAreShort → (s : State) (o : RxOffload) (packet : List ℕ) (w : Wiring) (bus : B) (before : C) (n : ℕ) (q : EngineAt) (after : C) (host : OverBus B) →
+      IsGone log gives size did (delivery o packet) s w bus before n q after host → n ≤ 16488
+  delivery_short rests short s o packet w bus before n q after host c =
       let x = did_by c.last.ask c.last.words in
       let k = c.some in
-      let f = front_few c.earlier x 16484 (delivery_few rests short q c.stands s packet (c.earlier ++ x) c.last.ask c.goes) in
+      let f = front_few c.earlier x 16488 (delivery_few rests short q c.stands s o packet (c.earlier ++ x) c.last.ask c.goes) in
       omega (arith, k, f)
 
   pub wait_short : WaitsAreRests → (s : State) (pages : ℕ) (packet : List ℕ) (w : Wiring) (bus : B) (before : C) (n : ℕ) (q : EngineAt) (after : C) (host : OverBus B) →
@@ -115,18 +116,18 @@ module _ {B C : Type 0} (log : B → Option (List Access)) (gives : B → Access
   unanswered : (n : ℕ) (words : List ℕ) (host mid : OverBus B) → n ≡ 0 → WasGiven (HasRead log gives size) n host words mid → mid ≡ host
   unanswered n words host mid e g = (subst (λ m. WasGiven (HasRead log gives size) m host words mid) e g).1
 
-  pub delivery_begun : (old mid q : EngineAt) (packet : List ℕ) (bus : B) (before after : C) (producer : ℕ) (host host_after : OverBus B) → size host.bus.now ≡ length old.wires.vif.owners.now → host.over ≡ None →
-      Performs log gives bus (accesses (first_read old.state.halt (event.Read (rx_word old.wires.vif 0) producer))) host.bus.now → IsBegunAt old mid producer packet → Stands q →
+  pub delivery_begun : (old mid q : EngineAt) (o : RxOffload) (packet : List ℕ) (bus : B) (before after : C) (producer : ℕ) (host host_after : OverBus B) → size host.bus.now ≡ length old.wires.vif.owners.now → host.over ≡ None →
+      Performs log gives bus (accesses (first_read old.state.halt (event.Read (rx_word old.wires.vif 0) producer))) host.bus.now → IsBegunAt old mid producer o packet → Stands q →
       StepsOnBus log gives size did mid q before after host host_after →
-      IsGone log gives size did (delivery packet) old.state old.wires bus before 0 q after host_after
-  delivery_begun old mid q packet bus before after producer host host_after sized free performed b st h =
+      IsGone log gives size did (delivery o packet) old.state old.wires bus before 0 q after host_after
+  delivery_begun old mid q o packet bus before after producer host host_after sized free performed b st h =
       let s = old.state in
       let at = event.Read (rx_word old.wires.vif 0) producer in
-      let d = h.delivery s packet (first_read s.halt at) None b.delivering in
+      let d = h.delivery s o packet (first_read s.halt at) None b.delivering in
       let same = unanswered (reads_in mid.stage) h.words host h.mid b.delivering.0.waits h.given in
       let asked = subst (λ (x : OverBus B). WasAskedAll (IsMade log gives size) x (h.first ++ h.last ∷ []) host_after) same h.asked in
       let within = subst (λ (v : Wiring). AllHeld (h.first ++ h.last ∷ []) → AllInPages (length v.vif.owners.now) (asks_of (h.first ++ h.last ∷ []))) b.wires h.within in
-      begins (delivery packet) s old.wires bus before after q (first_read s.halt at) h.first h.last host host_after performed (first_none s.halt at refl) sized free asked h.take_none h.sized within (h.wires ∙ b.wires) d.1 d.1 d.0 st
+      begins (delivery o packet) s old.wires bus before after q (first_read s.halt at) h.first h.last host host_after performed (first_none s.halt at refl) sized free asked h.take_none h.sized within (h.wires ∙ b.wires) d.1 d.1 d.0 st
 
   pub wait_begun : (old mid q : EngineAt) (pages : ℕ) (bus : B) (before after : C) (host host_after : OverBus B) → size host.bus.now ≡ length old.wires.vif.owners.now → host.over ≡ None →
       host.bus.now ≡ bus → IsWaitBegunAt old mid pages → Stands q →
@@ -196,20 +197,20 @@ module _ {B C : Type 0} (log : B → Option (List Access)) (gives : B → Access
       by (Push at word read) o p h g = absurd (cc o)
       by (Notify port) o p h g = absurd (cc o)
 
-  pub delivery_over : (old : EngineAt) (packet : List ℕ) (bus : B) (before : C) (n : ℕ) (q : EngineAt) (after : C) (host : OverBus B) (what : Over) →
-      IsGone log gives size did (delivery packet) old.state old.wires bus before n q after host → host.over ≡ Some what →
-      (outcome : Delivery) × (ask_of what ≡ DeliveryOver outcome) × HasDeliveredAt log gives old q packet outcome bus host.bus.now before after
-  delivery_over old packet bus before n q after host what c e = by c.last.ask (sym c.over ∙ e) c.performed c.goes
+  pub delivery_over : (old : EngineAt) (o : RxOffload) (packet : List ℕ) (bus : B) (before : C) (n : ℕ) (q : EngineAt) (after : C) (host : OverBus B) (what : Over) →
+      IsGone log gives size did (delivery o packet) old.state old.wires bus before n q after host → host.over ≡ Some what →
+      (outcome : Delivery) × (ask_of what ≡ DeliveryOver outcome) × HasDeliveredAt log gives old q o packet outcome bus host.bus.now before after
+  delivery_over old o packet bus before n q after host what c e = by c.last.ask (sym c.over ∙ e) c.performed c.goes
     where
-      by : (a : Ask) → over_after a None ≡ Some what → Performs log gives bus (accesses (c.earlier ++ did_by a c.last.words)) host.bus.now → DeliveryGoesAt q a old.state packet (c.earlier ++ did_by a c.last.words) →
-          (outcome : Delivery) × (ask_of what ≡ DeliveryOver outcome) × HasDeliveredAt log gives old q packet outcome bus host.bus.now before after
-      by (DeliveryOver x) o p g =
-          let same : over.Delivery x ≡ what = cc o in (
+      by : (a : Ask) → over_after a None ≡ Some what → Performs log gives bus (accesses (c.earlier ++ did_by a c.last.words)) host.bus.now → DeliveryGoesAt q a old.state o packet (c.earlier ++ did_by a c.last.words) →
+          (outcome : Delivery) × (ask_of what ≡ DeliveryOver outcome) × HasDeliveredAt log gives old q o packet outcome bus host.bus.now before after
+      by (DeliveryOver x) e p g =
+          let same : over.Delivery x ≡ what = cc e in (
             x,
             ap (λ (y : Over). ask_of y) (sym same),
             record {
               trace = c.earlier ++ [];
-              is_delivery = subst (λ (w : Wiring). IsDelivery w old.state packet (c.earlier ++ []) q.state x) c.wires g.0;
+              is_delivery = subst (λ (w : Wiring). IsDelivery w old.state o packet (c.earlier ++ []) q.state x) c.wires g.0;
               performed = p;
               counters = c.keeps;
               copied = λ f. g.2;
@@ -217,15 +218,15 @@ module _ {B C : Type 0} (log : B → Option (List Access)) (gives : B → Access
               wires = c.wires;
             },
           )
-      by (TurnOver x) o p g = absurd g.0.waits
-      by (WaitOver x) o p g = absurd g.0.waits
-      by (Read at count) o p g = absurd (cc o)
-      by (Entry at reference rights) o p g = absurd (cc o)
-      by (Write at count) o p g = absurd (cc o)
-      by (Store at word) o p g = absurd (cc o)
-      by (StoreTwo at first second) o p g = absurd (cc o)
-      by (Push at word read) o p g = absurd (cc o)
-      by (Notify port) o p g = absurd (cc o)
+      by (TurnOver x) e p g = absurd g.0.waits
+      by (WaitOver x) e p g = absurd g.0.waits
+      by (Read at count) e p g = absurd (cc e)
+      by (Entry at reference rights) e p g = absurd (cc e)
+      by (Write at count) e p g = absurd (cc e)
+      by (Store at word) e p g = absurd (cc e)
+      by (StoreTwo at first second) e p g = absurd (cc e)
+      by (Push at word read) e p g = absurd (cc e)
+      by (Notify port) e p g = absurd (cc e)
 
   pub wait_over : (old : EngineAt) (pages : ℕ) (bus : B) (before : C) (n : ℕ) (q : EngineAt) (after : C) (host : OverBus B) (what : Over) →
       IsGone log gives size did (wait pages (packet_at old)) old.state old.wires bus before n q after host → host.over ≡ Some what →

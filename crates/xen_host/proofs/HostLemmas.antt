@@ -339,10 +339,10 @@ module _ (went : List (Option Operation) → Type 0) (same : Type 0) (old new : 
             let read = ap (λ l. read_by asked l) answered.0 ∙ read_same asked (reads_in g) _ lent token.waits in
             let ran = map event_of d.labels in
             subst (λ (t : List Event). TurnGoesOn new last s (trace ++ t)) (ap (λ r. r ++ (ran ++ events_of all)) read ∙ ap (λ e. read_by asked lent ++ (ran ++ e)) did) (d.turn s trace asked token);
-        delivery = λ s packet trace asked token.
+        delivery = λ s o packet trace asked token.
             let read = ap (λ l. read_by_some asked l) answered.0 ∙ some_same asked (reads_in g) _ lent token.0.waits in
-            let r = d.delivery s packet trace asked token in
-            (subst (λ (t : List Event). DeliveryGoesOn new last s packet (trace ++ t)) (ap (λ r. r ++ events_of all) read ∙ ap (λ e. read_by_some asked lent ++ e) did) r.0, r.1);
+            let r = d.delivery s o packet trace asked token in
+            (subst (λ (t : List Event). DeliveryGoesOn new last s o packet (trace ++ t)) (ap (λ r. r ++ events_of all) read ∙ ap (λ e. read_by_some asked lent ++ e) did) r.0, r.1);
         wait = λ s pages packet trace asked token.
             let read = ap (λ l. read_by_some asked l) answered.0 ∙ some_same asked (reads_in g) _ lent token.0.waits in
             let r = d.wait s pages packet trace asked token in

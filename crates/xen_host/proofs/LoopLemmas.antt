@@ -1,8 +1,10 @@
 -- A host's loop ends: each step makes an access or gives a notice, or is the last.
-use Rattle.std.proofs.Common.{◌≡◌, ℕ, zero, suc, ◌+◌, ◌*◌, ◌≤◌, true, List, [], ◌∷◌, ◌++◌, length, map, refl, sym, ap, ◌∙◌, subst, arith}
+use Rattle.std.proofs.Common.{◌≡◌, ℕ, zero, suc, ◌+◌, ◌*◌, ◌≤◌, Bool, true, false, List, [], ◌∷◌, ◌++◌, length, map, refl, sym, ap, ◌∙◌, subst, arith}
 use Rattle.std.specs.Prelude.{Option, None, Some, IsSome, replicate}
 use Rattle.std.proofs.lemmas.List.{length-replicate}
 use Rattle.std.proofs.lemmas.Bool.Decides.{nat_tests}
+use Rattle.xen_netif.specs.Offloads.{has_extra}
+use Rattle.xen_netif.specs.declared.offload.RxOffload.{RxOffload}
 use Rattle.xen_steps.specs.Drive.{Goes, IsPageWant, LedBy}
 use Rattle.xen_steps.specs.Event.{Event, Read, Write}
 use Rattle.xen_steps.specs.Places.{add32, page_word}
@@ -13,11 +15,11 @@ use Rattle.xen_rx_fill.specs.Places.{rx_word, tx_word}
 use Rattle.xen_rx_fill.specs.Sending.{IsTransmit}
 use Rattle.xen_rx_fill.specs.declared.by_event.phase.Outcome.{Outcome}
 use Rattle.xen_rx_fill.specs.declared.by_event.phase.Outcome.TheVariants as outcome
-use Rattle.xen_rx_fill.proofs.Figures.{most_transmit, n_transmit}
+use Rattle.xen_rx_fill.proofs.Figures.{extras, most_transmit, n_transmit}
 use Rattle.xen_rx_fill.proofs.Bounds.{frame_inside}
 use Rattle.xen_turns.specs.Awaited.{IsAwaiting}
 use Rattle.xen_turns.specs.Awaited as awaited
-use Rattle.xen_turns.specs.Delivered.{IsDelivery, is_frame}
+use Rattle.xen_turns.specs.Delivered.{IsDeliverable, IsDelivery, is_frame}
 use Rattle.xen_turns.specs.Delivered as delivered
 use Rattle.xen_turns.specs.Deliveries.{whole_delivery}
 use Rattle.xen_turns.specs.Program.{event_of}
@@ -156,61 +158,63 @@ turn_step k s q next c t (Some a) p z =
 
 -- ---- a delivery
 
-abbrev pub delivery_weighs : Option Halt → ℕ
-delivery_weighs None = 16484
-delivery_weighs (Some cause) = 0
+abbrev pub delivery_weighs : RxOffload → Option Halt → ℕ
+delivery_weighs o None = 16484 + 4 * extras (has_extra o)
+delivery_weighs o (Some cause) = 0
 
 is_short : (packet : List ℕ) → is_frame packet ≡ true → length packet ≤ 65535
 is_short packet f = grind (arith, nat_tests)
 
-sent_light : (w : Wiring) (s : State) (packet : List ℕ) (p : List Event) (o : Outcome) → is_frame packet ≡ true → s.halt ≡ None → IsTransmit w.vif s.rx_index packet p o →
-    weight p ≤ delivery_weighs s.halt
-sent_light w s packet p o f h t =
-    let l : weight p ≤ 16484 = omega (arith, n_transmit w.vif s.rx_index packet p o (is_short packet f) t, (most_transmit w.vif s.rx_index packet p o t).told) in
-    subst (λ (x : Option Halt). weight p ≤ delivery_weighs x) (sym h) l
+sent_light : (w : Wiring) (s : State) (o : RxOffload) (packet : List ℕ) (p : List Event) (out : Outcome) → IsDeliverable w.accepts o packet → s.halt ≡ None → IsTransmit w.vif s.rx_index o packet p out →
+    weight p ≤ delivery_weighs o s.halt
+sent_light w s o packet p out f h t =
+    let l : weight p ≤ 16484 + 4 * extras (has_extra o) = omega (arith, n_transmit w.vif s.rx_index o packet p out (is_short packet f.0) t, (most_transmit w.vif s.rx_index o packet p out t).told) in
+    subst (λ (x : Option Halt). weight p ≤ delivery_weighs o x) (sym h) l
 
-delivery_light : (w : Wiring) (s : State) (packet : List ℕ) (p : List Event) (after : State) (what : Delivery) → IsDelivery w s packet p after what → weight p ≤ delivery_weighs s.halt
-delivery_light w s packet _ _ _ (delivered.no_frame f) = omega arith
-delivery_light w s packet _ _ _ (delivered.still_halted cause f h) = omega arith
-delivery_light w s packet _ _ _ (delivered.overflown p f h t) = sent_light w s packet p outcome.Overflow f h t
-delivery_light w s packet _ _ _ (delivered.few p f h t) = sent_light w s packet p outcome.TooFew f h t
-delivery_light w s packet _ _ _ (delivered.refused p used f h t) = sent_light w s packet p (outcome.Refused used) f h t
-delivery_light w s packet _ _ _ (delivered.sent p used f h t) = sent_light w s packet p (outcome.Sent used) f h t
+delivery_light : (w : Wiring) (s : State) (o : RxOffload) (packet : List ℕ) (p : List Event) (after : State) (what : Delivery) → IsDelivery w s o packet p after what → weight p ≤ delivery_weighs o s.halt
+delivery_light w s o packet _ _ _ (delivered.no_frame f) = omega arith
+delivery_light w s o packet _ _ _ (delivered.not_accepted f t) = omega arith
+delivery_light w s o packet _ _ _ (delivered.still_halted cause f h) = omega arith
+delivery_light w s o packet _ _ _ (delivered.overflown p f h t) = sent_light w s o packet p outcome.Overflow f h t
+delivery_light w s o packet _ _ _ (delivered.few p f h t) = sent_light w s o packet p outcome.TooFew f h t
+delivery_light w s o packet _ _ _ (delivered.refused p used f h t) = sent_light w s o packet p (outcome.Refused used) f h t
+delivery_light w s o packet _ _ _ (delivered.sent p used f h t) = sent_light w s o packet p (outcome.Sent used) f h t
 
-abbrev pub OnDelivery : State → List ℕ → Queue → List Event → Option Ask → Type 0
-OnDelivery s packet q t o = IsDelivering q s packet t o
+abbrev pub OnDelivery : State → RxOffload → List ℕ → Queue → List Event → Option Ask → Type 0
+OnDelivery s o packet q t a = IsDelivering q s o packet t a
 
-on_delivery_light : (s : State) (packet : List ℕ) (q : Queue) (t : List Event) (o : Option Ask) → IsDelivering q s packet t o → weight t ≤ delivery_weighs s.halt
-on_delivery_light s packet q t o h =
+on_delivery_light : (s : State) (o : RxOffload) (packet : List ℕ) (q : Queue) (t : List Event) (a : Option Ask) → IsDelivering q s o packet t a → weight t ≤ delivery_weighs o s.halt
+on_delivery_light s o packet q t a h =
     let w = (seen q).wires.vif in
     let e = seen q in
     let within = IsPageWant (length e.wires.vif.owners.now) in
-    let whole = whole_delivery w s packet in
+    let accepts = (seen q).wires.accepts in
+    let whole = whole_delivery w accepts s o packet in
     let rest = rest_of_delivery w e.state e.stage e.work in
-    let r = some_run within rest (finishes_gone within whole rest t (arrives w s packet q.wired) h.0.gone) in
-    begins t r.0 _ (delivery_light (wiring q) s packet (t ++ r.0) r.1.0 r.1.1 (delivery_rows (wiring q) s packet (t ++ r.0) r.1.0 r.1.1 (runs_gone whole rest t r.0 (r.1.0, r.1.1) h.0.gone r.2)))
+    let r = some_run within rest (finishes_gone within whole rest t (arrives w accepts s o packet q.wired) h.0.gone) in
+    begins t r.0 _ (delivery_light (wiring q) s o packet (t ++ r.0) r.1.0 r.1.1 (delivery_rows (wiring q) s o packet (t ++ r.0) r.1.0 r.1.1 (runs_gone whole rest t r.0 (r.1.0, r.1.1) h.0.gone r.2)))
 
-on_delivery : (s : State) (packet : List ℕ) (q : Queue) (a : Ask) (t : List Event) → DeliveryGoesOn q a s packet t → (most v : ℕ) → (weight t ≤ delivery_weighs s.halt → v ≤ most) →
-    IsSized a → (IsAsked a → v + 1 ≤ weight t + owed a) → After (OnDelivery s packet) most v q
-on_delivery s packet q (ask.DeliveryOver what) t h most v l z more = over (is_some (resting q) q.engine.state h.1) (l (delivery_light (wiring q) s packet t _ _ h.0))
-on_delivery s packet q (ask.TurnOver kind) t h most v l z more = absurd h.0.waits
-on_delivery s packet q (ask.WaitOver what) t h most v l z more = absurd h.0.waits
-on_delivery s packet q (ask.Read at count) t h most v l z more = goes t (ask.Read at count) h z (more tt)
-on_delivery s packet q (ask.Entry at reference rights) t h most v l z more = goes t (ask.Entry at reference rights) h z (more tt)
-on_delivery s packet q (ask.Write at count) t h most v l z more = goes t (ask.Write at count) h z (more tt)
-on_delivery s packet q (ask.Store at word) t h most v l z more = goes t (ask.Store at word) h z (more tt)
-on_delivery s packet q (ask.StoreTwo at one two) t h most v l z more = goes t (ask.StoreTwo at one two) h z (more tt)
-on_delivery s packet q (ask.Push at word read) t h most v l z more = goes t (ask.Push at word read) h z (more tt)
-on_delivery s packet q (ask.Notify port) t h most v l z more = goes t (ask.Notify port) h z (more tt)
+on_delivery : (s : State) (o : RxOffload) (packet : List ℕ) (q : Queue) (a : Ask) (t : List Event) → DeliveryGoesOn q a s o packet t → (most v : ℕ) → (weight t ≤ delivery_weighs o s.halt → v ≤ most) →
+    IsSized a → (IsAsked a → v + 1 ≤ weight t + owed a) → After (OnDelivery s o packet) most v q
+on_delivery s o packet q (ask.DeliveryOver what) t h most v l z more = over (is_some (resting q) q.engine.state h.1) (l (delivery_light (wiring q) s o packet t _ _ h.0))
+on_delivery s o packet q (ask.TurnOver kind) t h most v l z more = absurd h.0.waits
+on_delivery s o packet q (ask.WaitOver what) t h most v l z more = absurd h.0.waits
+on_delivery s o packet q (ask.Read at count) t h most v l z more = goes t (ask.Read at count) h z (more tt)
+on_delivery s o packet q (ask.Entry at reference rights) t h most v l z more = goes t (ask.Entry at reference rights) h z (more tt)
+on_delivery s o packet q (ask.Write at count) t h most v l z more = goes t (ask.Write at count) h z (more tt)
+on_delivery s o packet q (ask.Store at word) t h most v l z more = goes t (ask.Store at word) h z (more tt)
+on_delivery s o packet q (ask.StoreTwo at one two) t h most v l z more = goes t (ask.StoreTwo at one two) h z (more tt)
+on_delivery s o packet q (ask.Push at word read) t h most v l z more = goes t (ask.Push at word read) h z (more tt)
+on_delivery s o packet q (ask.Notify port) t h most v l z more = goes t (ask.Notify port) h z (more tt)
 
-delivery_step : (s : State) (packet : List ℕ) (q next : Queue) (c : IsStep q next) (t : List Event) (o : Option Ask) → OnDelivery s packet q t o → IsSizedSome o →
-    After (OnDelivery s packet) (delivery_weighs s.halt) (weight t + owed_some o) next
-delivery_step s packet q next c t o p z =
-    let reads = read_by_some o c.lent in
-    let pays = paid_some o c.lent (some q next c) z in
+delivery_step : (s : State) (o : RxOffload) (packet : List ℕ) (q next : Queue) (c : IsStep q next) (t : List Event) (a : Option Ask) → OnDelivery s o packet q t a → IsSizedSome a →
+    After (OnDelivery s o packet) (delivery_weighs o s.halt) (weight t + owed_some a) next
+delivery_step s o packet q next c t a p z =
+    let reads = read_by_some a c.lent in
+    let pays = paid_some a c.lent (some q next c) z in
     let rest = did_all c.stepped.first c.lent_after ++ did_by c.stepped.last c.lent_after in
-    on_delivery s packet next c.stepped.last (traced q next c t reads []) (c.stepped.delivery s packet t o p).0 (delivery_weighs s.halt) (weight t + owed_some o)
-    (ends t reads rest (owed_some o) (delivery_weighs s.halt) pays) (sized q next c) (adds q next c t reads [] (owed_some o) pays)
+    on_delivery s o packet next c.stepped.last (traced q next c t reads []) (c.stepped.delivery s o packet t a p).0 (delivery_weighs o s.halt) (weight t + owed_some a)
+    (ends t reads rest (owed_some a) (delivery_weighs o s.halt) pays) (sized q next c) (adds q next c t reads [] (owed_some a) pays)
 
 -- ---- a wait
 
@@ -339,15 +343,24 @@ turns_few k old begun new most producer ops ops_after count n h steps =
     by None l = omega (arith, l)
     by (Some cause) l = omega (arith, l)
 
-pub deliveries_few : (old begun new : Queue) (producer : ℕ) (packet : List ℕ) (n : ℕ) → IsBegun old begun producer packet → AreSteps n begun new → n ≤ 16484
-deliveries_few old begun new producer packet n h steps =
+pub deliveries_few : (old begun new : Queue) (producer : ℕ) (o : RxOffload) (packet : List ℕ) (n : ℕ) → IsBegun old begun producer o packet → AreSteps n begun new → n ≤ 16484 + 4 * extras (has_extra o)
+deliveries_few old begun new producer o packet n h steps =
     let s = old.engine.state in
     let reads = first_read s.halt (Read (rx_word (wiring old).vif 0) producer) in
-    by s.halt (few (OnDelivery s packet) (delivery_weighs s.halt) (on_delivery_light s packet) (delivery_step s packet) n begun new steps reads None h.delivering tt)
+    by s.halt (few (OnDelivery s o packet) (delivery_weighs o s.halt) (on_delivery_light s o packet) (delivery_step s o packet) n begun new steps reads None h.delivering tt)
   where
-    by : (o : Option Halt) → n + (weight (first_read o (Read (rx_word (wiring old).vif 0) producer)) + 0) ≤ delivery_weighs o + 1 → n ≤ 16484
+    by : (x : Option Halt) → n + (weight (first_read x (Read (rx_word (wiring old).vif 0) producer)) + 0) ≤ delivery_weighs o x + 1 → n ≤ 16484 + 4 * extras (has_extra o)
     by None l = omega (arith, l)
     by (Some cause) l = omega (arith, l)
+
+-- with an extra or not
+pub extra_steps : (b : Bool) (n : ℕ) → n ≤ 16484 + 4 * extras b → n ≤ 16488
+extra_steps true n h = omega (arith, h)
+extra_steps false n h = omega (arith, h)
+
+pub plain_steps : (b : Bool) (n : ℕ) → b ≡ false → n ≤ 16484 + 4 * extras b → n ≤ 16484
+plain_steps true n e h = cc
+plain_steps false n e h = omega (arith, h)
 
 first_wait : (old next : Queue) (c : IsStep old next) (s : State) (pages : ℕ) (packet : List ℕ) → IsWaiting old s pages packet [] None → After (OnWait s pages packet) 2 1 next
 first_wait old next c s pages packet p =

@@ -69,7 +69,7 @@ stepped_also also also_same f h d = record {
   labels = d.labels;
   history = f d.labels d.history;
   turn = d.turn;
-  delivery = λ s packet trace asked token. let r = d.delivery s packet trace asked token in (r.0, h r.1);
+  delivery = λ s o packet trace asked token. let r = d.delivery s o packet trace asked token in (r.0, h r.1);
   wait = λ s pages packet trace asked token. let r = d.wait s pages packet trace asked token in (r.0, h r.1);
 }
 

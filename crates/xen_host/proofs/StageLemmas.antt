@@ -2,6 +2,8 @@
 use Rattle.std.proofs.Common.{◌≡◌, ℕ, zero, suc, List, [], ◌∷◌, length, refl, sym, ap, subst, true, false}
 use Rattle.std.specs.Prelude.{Option}
 use Rattle.bpf_note.specs.declared.op.Op.{Op as Operation}
+use Rattle.xen_netif.specs.declared.offload.RxOffload.{RxOffload}
+use Rattle.xen_netif.specs.declared.offload.RxOffload.TheVariants.{Whole}
 use Rattle.xen_page.specs.Mapping.{frame_place}
 use Rattle.xen_page.specs.declared.place.Place.{Place}
 use Rattle.xen_steps.specs.Pages.{AreWords}
@@ -31,11 +33,11 @@ fed_bind at (done x) f (v ∷ vs) h = cc h.0
 fed_bind at (ask w k) f (v ∷ vs) h = fed_bind (frame_place at) (k v) f vs (h.1 v)
 fed_bind at never f (v ∷ vs) h = cc h.0
 
-fed_fill : {B : Type 0} (q : EngineAt) (f : Fill) (then : Outcome → Steps B) (words : List ℕ) → length words ≡ reads_filling f →
-    bind (fed (rest_filling q.wires.vif q.state.rx_index f q.work) words) then ≡ fed {A = B} (bind (rest_filling q.wires.vif q.state.rx_index f q.work) then) words
-fed_fill q f then words e =
-    let s = rest_filling q.wires.vif q.state.rx_index f q.work in
-    let r = reads_of_fill q.wires.vif q.state.rx_index f q.work in
+fed_fill : {B : Type 0} (q : EngineAt) (o : RxOffload) (f : Fill) (then : Outcome → Steps B) (words : List ℕ) → length words ≡ reads_filling f →
+    bind (fed (rest_filling q.wires.vif q.state.rx_index o f q.work) words) then ≡ fed {A = B} (bind (rest_filling q.wires.vif q.state.rx_index o f q.work) then) words
+fed_fill q o f then words e =
+    let s = rest_filling q.wires.vif q.state.rx_index o f q.work in
+    let r = reads_of_fill q.wires.vif q.state.rx_index o f q.work in
     sym (fed_bind r.0 s then words (subst (λ k. AsksReads r.0 k s) (sym e) r.1))
 
 pub given_length : {H : Type 0} (gave : H → List ℕ → H → Type 0) (n : ℕ) (host mid : H) (words : List ℕ) → WasGiven gave n host words mid → length words ≡ n
@@ -48,14 +50,14 @@ fill_goes was full gave f (purpose.Back n) old new went host host_after none h =
   words = h.words;
   mid = h.mid;
   given = h.given;
-  led = ran_led _ _ _ _ _ _ _ _ _ none (fed_fill old f (after_transmit old.wires old.state old.work.chain old.work.packet n) h.words (given_length gave _ host h.mid h.words h.given)) h.led;
+  led = ran_led _ _ _ _ _ _ _ _ _ none (fed_fill old Whole f (after_transmit old.wires old.state old.work.chain old.work.packet n) h.words (given_length gave _ host h.mid h.words h.given)) h.led;
 }
 fill_goes was full gave f purpose.Delivery old new went host host_after none h = (
   record {
     words = h.words;
     mid = h.mid;
     given = h.given;
-    led = asked_from _ _ _ _ _ _ _ _ _ (fed_fill old f (arrived old.state) h.words (given_length gave _ host h.mid h.words h.given)) h.led;
+    led = asked_from _ _ _ _ _ _ _ _ _ (fed_fill old old.work.offload f (arrived old.state) h.words (given_length gave _ host h.mid h.words h.given)) h.led;
   },
   none,
 )

@@ -1,6 +1,7 @@
 -- What an engine is about: it goes on, and it is busy until it is over.
 use Rattle.std.proofs.Common.{◌≡◌, ℕ, true, false, List, Option, Some, None, refl, ◌∙◌}
 use Rattle.std.specs.Prelude.{IsSome}
+use Rattle.xen_netif.specs.declared.offload.RxOffload.{RxOffload}
 use Rattle.xen_steps.specs.Event.{Event}
 use Rattle.xen_turns.specs.declared.state.State.{State}
 use Rattle.xen_host.specs.Asks.{Ask, Read, Entry, Write, Store, StoreTwo, Push, Notify, TurnOver, DeliveryOver, WaitOver}
@@ -27,17 +28,17 @@ turns_on q (TurnOver x) s t n h = absurd (cc n)
 turns_on q (DeliveryOver x) s t n h = h
 turns_on q (WaitOver x) s t n h = h
 
-pub delivers_on : (q : EngineAt) (a : Ask) (s : State) (packet : List ℕ) (t : List Event) → is_over a ≡ false → DeliveryGoesAt q a s packet t → IsDeliveringAt q s packet t (Some a)
-delivers_on q (Read at count) s packet t n h = h
-delivers_on q (Entry at reference rights) s packet t n h = h
-delivers_on q (Write at count) s packet t n h = h
-delivers_on q (Store at word) s packet t n h = h
-delivers_on q (StoreTwo at first second) s packet t n h = h
-delivers_on q (Push at word read) s packet t n h = h
-delivers_on q (Notify port) s packet t n h = h
-delivers_on q (TurnOver x) s packet t n h = h
-delivers_on q (DeliveryOver x) s packet t n h = absurd (cc n)
-delivers_on q (WaitOver x) s packet t n h = h
+pub delivers_on : (q : EngineAt) (a : Ask) (s : State) (o : RxOffload) (packet : List ℕ) (t : List Event) → is_over a ≡ false → DeliveryGoesAt q a s o packet t → IsDeliveringAt q s o packet t (Some a)
+delivers_on q (Read at count) s o packet t n h = h
+delivers_on q (Entry at reference rights) s o packet t n h = h
+delivers_on q (Write at count) s o packet t n h = h
+delivers_on q (Store at word) s o packet t n h = h
+delivers_on q (StoreTwo at first second) s o packet t n h = h
+delivers_on q (Push at word read) s o packet t n h = h
+delivers_on q (Notify port) s o packet t n h = h
+delivers_on q (TurnOver x) s o packet t n h = h
+delivers_on q (DeliveryOver x) s o packet t n h = absurd (cc n)
+delivers_on q (WaitOver x) s o packet t n h = h
 
 pub waits_on : (q : EngineAt) (a : Ask) (s : State) (pages : ℕ) (packet : List ℕ) (t : List Event) → is_over a ≡ false → WaitGoesAt q a s pages packet t → IsWaitingAt q s pages packet t (Some a)
 waits_on q (Read at count) s pages packet t n h = h
@@ -95,15 +96,15 @@ waiting_busy s (stage.Deliver producer) t = refl
 waiting_busy s (stage.Wait pages) t = refl
 waiting_busy s (stage.WaitLook pages) t = refl
 
-pub begun_delivery_busy : (q : EngineAt) (s : State) (packet : List ℕ) (t : List Event) (a : Option Ask) → IsDeliveringAt q s packet t a → resting_at q ≡ None
-begun_delivery_busy q s packet t a h = delivering_busy q.state q.stage h.0.is_here
+pub begun_delivery_busy : (q : EngineAt) (s : State) (o : RxOffload) (packet : List ℕ) (t : List Event) (a : Option Ask) → IsDeliveringAt q s o packet t a → resting_at q ≡ None
+begun_delivery_busy q s o packet t a h = delivering_busy q.state q.stage h.0.is_here
 
 pub begun_wait_busy : (q : EngineAt) (s : State) (pages : ℕ) (packet : List ℕ) (t : List Event) (a : Option Ask) → IsWaitingAt q s pages packet t a → resting_at q ≡ None
 begun_wait_busy q s pages packet t a h = waiting_busy q.state q.stage h.0.is_here
 
 pub is_busy : (k : Task) (q : EngineAt) (a : Ask) (s : State) (t : List Event) → is_over a ≡ false → GoesOn k q a s t → resting_at q ≡ None
 is_busy turn q a s t n h = turning_busy q.state q.stage (turns_on q a s t n h).is_here
-is_busy (delivery packet) q a s t n h = begun_delivery_busy q s packet t (Some a) (delivers_on q a s packet t n h)
+is_busy (delivery o packet) q a s t n h = begun_delivery_busy q s o packet t (Some a) (delivers_on q a s o packet t n h)
 is_busy (wait pages packet) q a s t n h = begun_wait_busy q s pages packet t (Some a) (waits_on q a s pages packet t n h)
 
 pub at_rest : (q : EngineAt) → IsSome (resting_at q) → resting_at q ≡ Some q.state
@@ -127,5 +128,5 @@ at_rest q h = rests q.state q.stage h
 
 pub keeps_then : {C : Type 0} (k : Task) (a b c : C) → KeepsAll k a b → KeepsAll k b c → KeepsAll k a c
 keeps_then turn a b c g h = tt
-keeps_then (delivery packet) a b c g h = h ∙ g
+keeps_then (delivery o packet) a b c g h = h ∙ g
 keeps_then (wait pages packet) a b c g h = h ∙ g

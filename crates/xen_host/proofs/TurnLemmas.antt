@@ -3,6 +3,7 @@ use Rattle.std.proofs.Common.{◌≡◌, ℕ, List, [], ◌∷◌, ◌++◌, len
 use Rattle.std.specs.Prelude.{Option, Some, None}
 use Rattle.bpf_note.specs.declared.op.Op.{Op as Operation}
 use Rattle.xen_host.specs.declared.offload.Offload.{Offload}
+use Rattle.xen_netif.specs.declared.offload.RxOffload.{RxOffload}
 use Rattle.xen_steps.specs.Drive.{LedBy}
 use Rattle.xen_steps.specs.Event.{Event}
 use Rattle.xen_steps.specs.Pages.{AreWords}
@@ -63,19 +64,20 @@ turn_goes q s t (ask.Notify port) left g e = under_way _ _ left _ _ t (ask.Notif
 turn_goes q s t (ask.DeliveryOver what) left g e = under_way _ _ left _ _ t (ask.DeliveryOver what) g e
 turn_goes q s t (ask.WaitOver what) left g e = under_way _ _ left _ _ t (ask.WaitOver what) g e
 
-pub delivery_goes : (q : EngineAt) (s : State) (packet : List ℕ) (t : List Event) (last : Ask) (left : Steps Arrival) → LedBy (whole_delivery q.wires.vif s packet) t left → DeliveryEnds packet q last left → DeliveryGoesAt q last s packet t
-delivery_goes q s packet t (ask.DeliveryOver what) left g e =
-    let row = delivery_rows q.wires s packet t q.state what (runs_of_gone (whole_delivery q.wires.vif s packet) left t (q.state, what) g e.0) in
+pub delivery_goes : (q : EngineAt) (s : State) (o : RxOffload) (packet : List ℕ) (t : List Event) (last : Ask) (left : Steps Arrival) → LedBy (whole_delivery q.wires.vif q.wires.accepts s o packet) t left → DeliveryEnds packet q last left →
+    DeliveryGoesAt q last s o packet t
+delivery_goes q s o packet t (ask.DeliveryOver what) left g e =
+    let row = delivery_rows q.wires s o packet t q.state what (runs_of_gone (whole_delivery q.wires.vif q.wires.accepts s o packet) left t (q.state, what) g e.0) in
     (row, rests q e.1, packet_there q e.1 ∙ e.2)
-delivery_goes q s packet t (ask.Read at count) left g e = (under_way _ _ left _ _ t (ask.Read at count) g e.0, e.1)
-delivery_goes q s packet t (ask.Entry at reference rights) left g e = (under_way _ _ left _ _ t (ask.Entry at reference rights) g e.0, e.1)
-delivery_goes q s packet t (ask.Write at count) left g e = (under_way _ _ left _ _ t (ask.Write at count) g e.0, e.1)
-delivery_goes q s packet t (ask.Store at word) left g e = (under_way _ _ left _ _ t (ask.Store at word) g e.0, e.1)
-delivery_goes q s packet t (ask.StoreTwo at x y) left g e = (under_way _ _ left _ _ t (ask.StoreTwo at x y) g e.0, e.1)
-delivery_goes q s packet t (ask.Push at word read) left g e = (under_way _ _ left _ _ t (ask.Push at word read) g e.0, e.1)
-delivery_goes q s packet t (ask.Notify port) left g e = (under_way _ _ left _ _ t (ask.Notify port) g e.0, e.1)
-delivery_goes q s packet t (ask.TurnOver k) left g e = (under_way _ _ left _ _ t (ask.TurnOver k) g e.0, e.1)
-delivery_goes q s packet t (ask.WaitOver what) left g e = (under_way _ _ left _ _ t (ask.WaitOver what) g e.0, e.1)
+delivery_goes q s o packet t (ask.Read at count) left g e = (under_way _ _ left _ _ t (ask.Read at count) g e.0, e.1)
+delivery_goes q s o packet t (ask.Entry at reference rights) left g e = (under_way _ _ left _ _ t (ask.Entry at reference rights) g e.0, e.1)
+delivery_goes q s o packet t (ask.Write at count) left g e = (under_way _ _ left _ _ t (ask.Write at count) g e.0, e.1)
+delivery_goes q s o packet t (ask.Store at word) left g e = (under_way _ _ left _ _ t (ask.Store at word) g e.0, e.1)
+delivery_goes q s o packet t (ask.StoreTwo at x y) left g e = (under_way _ _ left _ _ t (ask.StoreTwo at x y) g e.0, e.1)
+delivery_goes q s o packet t (ask.Push at word read) left g e = (under_way _ _ left _ _ t (ask.Push at word read) g e.0, e.1)
+delivery_goes q s o packet t (ask.Notify port) left g e = (under_way _ _ left _ _ t (ask.Notify port) g e.0, e.1)
+delivery_goes q s o packet t (ask.TurnOver k) left g e = (under_way _ _ left _ _ t (ask.TurnOver k) g e.0, e.1)
+delivery_goes q s o packet t (ask.WaitOver what) left g e = (under_way _ _ left _ _ t (ask.WaitOver what) g e.0, e.1)
 
 pub wait_goes : (q : EngineAt) (s : State) (pages : ℕ) (packet : List ℕ) (t : List Event) (last : Ask) (left : Steps Wait) → LedBy (whole_wait q.wires.vif.rx s pages) t left → WaitEnds packet q last left → WaitGoesAt q last s pages packet t
 wait_goes q s pages packet t (ask.WaitOver what) left g e =
@@ -115,16 +117,16 @@ turn_steps old new offload words went below n same h s trace asked token =
 -- A step of a delivery.
 pub delivery_steps : {H : Type 0} {was : H → Ask → List ℕ → H → Type 0} {full : H → Type 0} {host host_after : H} (old new : EngineAt) (offload : Offload) (words : List ℕ) → AreWords words → length words ≡ reads_in old.stage →
     new.wires ≡ old.wires → (h : DeliveryLeads was full offload old.work.packet (fed (rest_of_delivery old.wires.vif old.state old.stage old.work) words) new host host_after) →
-    (s : State) (packet : List ℕ) (trace : List Event) (asked : Option Ask) → IsDeliveringAt old s packet trace asked →
-    DeliveryGoesAt new h.last.ask s packet (trace ++ (read_by_some asked words ++ events_of (h.first ++ h.last ∷ [])))
-delivery_steps old new offload words below n same h s packet trace asked token =
+    (s : State) (o : RxOffload) (packet : List ℕ) (trace : List Event) (asked : Option Ask) → IsDeliveringAt old s o packet trace asked →
+    DeliveryGoesAt new h.last.ask s o packet (trace ++ (read_by_some asked words ++ events_of (h.first ++ h.last ∷ [])))
+delivery_steps old new offload words below n same h s o packet trace asked token =
     let e = old in
     let rest = rest_of_delivery old.wires.vif e.state e.stage e.work in
     let did = events_of (h.first ++ h.last ∷ []) in
     let t = trace ++ (read_by_some asked words ++ did) in
-    let g = gone_append (whole_delivery old.wires.vif s packet) rest h.left trace (read_by_some asked words ++ did) token.0.gone
+    let g = gone_append (whole_delivery old.wires.vif old.wires.accepts s o packet) rest h.left trace (read_by_some asked words ++ did) token.0.gone
     (gone_append rest (fed rest words) h.left (read_by_some asked words) did (some_led asked (reads_in e.stage) rest words below n token.0.waits) h.gone) in
-    delivery_goes new s packet t h.last.ask h.left (subst (λ (x : Wiring). LedBy (whole_delivery x.vif s packet) t h.left) (sym same) g)
+    delivery_goes new s o packet t h.last.ask h.left (subst (λ (x : Wiring). LedBy (whole_delivery x.vif x.accepts s o packet) t h.left) (sym same) g)
     (subst (λ p. DeliveryEnds p new h.last.ask h.left) token.1 h.is_end)
 
 -- A step of a wait.

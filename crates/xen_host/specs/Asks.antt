@@ -47,6 +47,7 @@ delivered_op delivery.FewSlots = over 5 0 0
 delivered_op (delivery.Refused slots) = over 6 0 slots
 delivered_op (delivery.Halted cause) = over 7 (halt_number cause) 0
 delivered_op delivery.NoFrame = over 8 0 0
+delivered_op delivery.NotAccepted = over 12 0 0
 
 -- What became of a wait for rx slots.
 abbrev pub awaited_op : Awaited → Op

@@ -1,14 +1,15 @@
 -- Stated: claims rest on this file.
 -- A whole turn, a whole delivery and a whole wait of an engine over a bus.
-use Rattle.std.specs.Prelude.{ℕ, ◌≡◌, true, false, List, [], Option, Some, map}
+use Rattle.std.specs.Prelude.{ℕ, ◌≡◌, false, List, [], Option, Some, map}
 use Rattle.bpf_note.specs.declared.op.Op.{Op as Operation}
 use Rattle.xdp_program.specs.Tallies.{Went}
+use Rattle.xen_netif.specs.declared.offload.RxOffload.{RxOffload}
 use Rattle.xen_page.specs.Access.{Performs}
 use Rattle.xen_page.specs.declared.access.Access.{Access}
 use Rattle.xen_steps.specs.Drive.{accesses}
 use Rattle.xen_steps.specs.Event.{Event}
 use Rattle.xen_turns.specs.Awaited.{IsAwaiting}
-use Rattle.xen_turns.specs.Delivered.{IsDelivery, is_frame}
+use Rattle.xen_turns.specs.Delivered.{IsDeliverable, IsDelivery}
 use Rattle.xen_turns.specs.Drive.{labels}
 use Rattle.xen_turns.specs.Turned.{turned}
 use Rattle.xen_turns.specs.Turns.{IsTurn}
@@ -34,12 +35,12 @@ pub record HasTurnedAt {B C : Type 0} (log : B → Option (List Access)) (gives 
 -- A delivery is over. Its events are a row of the table of deliveries; the bus went through their accesses and no others, and no counter
 -- changed.
 pub record HasDeliveredAt {B C : Type 0} (log : B → Option (List Access)) (gives : B → Access → B → Type 0) (old new : EngineAt)
-    (packet : List ℕ) (what : Delivery) (bus bus' : B) (before after : C) : Type 0 where
+    (o : RxOffload) (packet : List ℕ) (what : Delivery) (bus bus' : B) (before after : C) : Type 0 where
   pub trace : List Event
-  pub is_delivery : IsDelivery old.wires old.state packet trace new.state what
+  pub is_delivery : IsDelivery old.wires old.state o packet trace new.state what
   pub performed : Performs log gives bus (accesses trace) bus'
   pub counters : after ≡ before
-  pub copied : is_frame packet ≡ true → packet_at new ≡ packet
+  pub copied : IsDeliverable old.wires.accepts o packet → packet_at new ≡ packet
   pub rests : resting_at new ≡ Some new.state
   pub wires : new.wires ≡ old.wires
 

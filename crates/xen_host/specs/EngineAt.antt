@@ -4,6 +4,7 @@ use Rattle.std.specs.Prelude.{ℕ, List}
 use Rattle.xen_netif.specs.Chain.{Slot}
 use Rattle.xen_host.specs.declared.offload.Offload.{Offload}
 use Rattle.xen_netif.specs.declared.fragment.Fragment.{Fragment}
+use Rattle.xen_netif.specs.declared.offload.RxOffload.{RxOffload}
 use Rattle.xen_rx_fill.specs.declared.target.Target.{Target}
 use Rattle.xen_turns.specs.declared.state.State.{State}
 use Rattle.xen_turns.specs.declared.wiring.Wiring.{Wiring}
@@ -11,15 +12,16 @@ use Rattle.xen_host.specs.declared.engine.Engine.{Engine}
 use Rattle.xen_host.specs.declared.stage.Stage.{Stage}
 use Rattle.xen_host.specs.declared.work.Work.{Work}
 
--- What a turn has come to, with its packet.
+-- What a turn has come to, with its packet, and what a delivery's leaves to the frontend.
 pub record WorkAt : Type 0 where
   pub chain : List Slot
   pub fragments : List Fragment
   pub targets : List Target
   pub packet : List ℕ
+  pub offload : RxOffload
 
 abbrev pub work_at : List ℕ → Work → WorkAt
-work_at packet b = record { chain = b.chain; fragments = b.fragments.items; targets = b.targets; packet = packet }
+work_at packet b = record { chain = b.chain; fragments = b.fragments.items; targets = b.targets; packet = packet; offload = b.offload }
 
 pub record EngineAt : Type 0 where
   pub wires : Wiring

@@ -30,8 +30,8 @@ pub record HasPageRoom (b : WorkAt) (i : ℕ) (f : Fragment) : Type 0 where
   pub room : length b.packet + f.size + sum_by fragment_size (drop i b.fragments) ≤ 65535
 
 abbrev pub FillFits : Fill → WorkAt → Type 0
-FillFits (fill.Slot left) b = length b.targets + left < 16
-FillFits (fill.Grant left id at) b = length b.targets + left < 16
+FillFits (fill.Slot left) b = length b.targets + left < 17
+FillFits (fill.Grant left id at) b = length b.targets + left < 17
 FillFits (fill.Words i) b = i ≤ 16
 FillFits (fill.Respond grants i) b = i ≤ length b.targets
 FillFits f b = Unit {0}

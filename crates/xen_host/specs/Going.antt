@@ -31,7 +31,7 @@ Counted did t before after = Went did before after (map Some (labels t))
 -- How the counters may have changed.
 abbrev pub KeepsAll : {C : Type 0} → Task → C → C → Type 0
 KeepsAll turn before after = Unit {0}
-KeepsAll (delivery packet) before after = after ≡ before
+KeepsAll (delivery o packet) before after = after ≡ before
 KeepsAll (wait pages packet) before after = after ≡ before
 
 -- What was done since a task began in this state: the bus went through the accesses, and the counters through the operations. What was

@@ -6,6 +6,7 @@ use Rattle.xen_netif.specs.Chain.{Slot}
 use Rattle.xen_netif.specs.Copy.{bytes_from}
 use Rattle.xen_netif.specs.declared.fragment.Fragment.{Fragment}
 use Rattle.xen_host.specs.declared.offload.Offload.{Offload}
+use Rattle.xen_netif.specs.declared.offload.RxOffload.{RxOffload}
 use Rattle.xen_steps.specs.Drive.{LedBy}
 use Rattle.xen_steps.specs.Pages.{AreWords, covered}
 use Rattle.xen_steps.specs.Steps.{Steps, bind}
@@ -23,7 +24,7 @@ use Rattle.xen_host.specs.Fits.{Fits}
 use Rattle.xen_host.specs.Hosts.{Asked, WasAskedAll, WasGiven, asks_of, events_of, plain_all}
 use Rattle.xen_host.specs.Led.{Beside, DeliveryEnds, TurnEnds, WaitEnds, beside}
 use Rattle.xen_host.specs.Ran.{HasRunThrough}
-use Rattle.xen_host.specs.Rest.{offload_after, reads_filling, reads_in, rest_filling, rest_in, rest_of_delivery, rest_of_wait}
+use Rattle.xen_host.specs.Rest.{offload_after, reads_filling, reads_in, rest_filling, rest_in, rest_of_delivery, rest_of_wait, rx_offload}
 use Rattle.xen_host.specs.EngineAt.{EngineAt}
 use Rattle.xen_host.specs.declared.stage.Answer.{Answer}
 use Rattle.xen_host.specs.declared.stage.Fill.{Fill}
@@ -92,10 +93,10 @@ HasResponded was free full w chain a from left host host_after =
     SaidSome was free full (stores w a.at.tx_index (responses a.status chain) from) from (length chain) left host host_after
 
 -- The responses to its rx slots.
-abbrev pub HasReplied : {H : Type 0} → (H → Ask → List ℕ → H → Type 0) → (free full : H → Type 0) → EngineAt → Grants → ℕ → Option ℕ →
+abbrev pub HasReplied : {H : Type 0} → (H → Ask → List ℕ → H → Type 0) → (free full : H → Type 0) → EngineAt → RxOffload → Grants → ℕ → Option ℕ →
     (host host_after : H) → Type 0
-HasReplied was free full e grants from left host host_after =
-    SaidSome was free full (replies e.wires.vif e.state.rx_index e.work.packet grants e.work.targets from) from
+HasReplied was free full e o grants from left host host_after =
+    SaidSome was free full (replies e.wires.vif e.state.rx_index o e.work.packet grants e.work.targets from) from
     (length e.work.targets) left host host_after
 
 -- ---- answers
@@ -123,7 +124,7 @@ abbrev pub FillGoesOn : {H : Type 0} → (H → Ask → List ℕ → H → Type 
     (old new : EngineAt) → (host host_after : H) → Type 0
 FillGoesOn was full gave f p old new host host_after =
     AfterAnswer gave (reads_filling f) (λ words mid. FillLeads was full p (beside old)
-    (fed (rest_filling old.wires.vif old.state.rx_index f old.work) words) new mid host_after) host
+    (fed (rest_filling old.wires.vif old.state.rx_index (rx_offload p old.work.offload) f old.work) words) new mid host_after) host
 
 -- ---- a step
 
@@ -136,8 +137,8 @@ GoesOnAt was full gave (stage.Fill f purpose.Delivery) old new went host host_af
     (fed (rest_of_delivery old.wires.vif old.state (stage.Fill f purpose.Delivery) old.work) words) new mid host_after) host ×
     went []
 GoesOnAt was full gave (stage.Deliver producer) old new went host host_after =
-    DeliveryLeads was full old.offload old.work.packet (rest_of_delivery old.wires.vif old.state (stage.Deliver producer)
-    old.work) new host host_after × went []
+    DeliveryLeads was full old.offload old.work.packet (rest_of_delivery old.wires.vif old.state
+    (stage.Deliver producer) old.work) new host host_after × went []
 GoesOnAt was full gave (stage.Wait pages) old new went host host_after =
     WaitLeads was full old.offload old.work.packet (rest_of_wait old.wires.vif.rx old.state (stage.Wait pages)) new host host_after ×
     went []

@@ -3,6 +3,7 @@
 use Rattle.std.specs.Prelude.{ℕ, ◌≡◌, ◌≢◌, ◌<◌, ◌≤◌, List, [], Option, None, Some, Contains, length, slice_get}
 use Rattle.bpf_lists.specs.declared.list.MapList.{MapList}
 use Rattle.bpf_verify.specs.Consistent.{Accepted}
+use Rattle.xen_netif.specs.declared.offload.Accepts.{Accepts}
 use Rattle.xen_netif.specs.declared.segments.Offers.{Offers}
 use Rattle.xen_page.specs.Table.{IsTable}
 use Rattle.xen_page.specs.declared.owners.OwnersFault.{OwnersFault}
@@ -29,6 +30,7 @@ pub record Given : Type 0 where
   pub user : ℕ
   pub port : ℕ
   pub offers : Offers
+  pub accepts : Accepts
   pub ifindex : ℕ
   pub queue : ℕ
   pub tx_index : ℕ
@@ -46,6 +48,7 @@ given_of p =
       user = p.user;
       port = p.port;
       offers = p.offers;
+      accepts = p.accepts;
       ifindex = p.ifindex;
       queue = p.queue;
       tx_index = p.tx_index;
@@ -79,6 +82,7 @@ pub record IsWiredTo (program : Accepted) (lists : List (Option MapList)) (g : G
   pub user : w.user ≡ g.user
   pub port : w.port ≡ g.port
   pub offers : w.offers ≡ g.offers
+  pub accepts : w.accepts ≡ g.accepts
   pub program_is : w.program ≡ program
   pub lists_are : w.lists ≡ lists
   pub ifindex : w.ifindex ≡ g.ifindex

@@ -5,6 +5,7 @@ use Rattle.bpf_note.specs.declared.op.Op.{Op as Operation}
 use Rattle.bpf_maps.specs.Seats.{SeatView}
 use Rattle.xdp_program.specs.Ran.{IsHistory}
 use Rattle.xdp_program.specs.Tallies.{HasGrown}
+use Rattle.xen_netif.specs.declared.offload.RxOffload.{RxOffload}
 use Rattle.xen_steps.specs.Event.{Event, Read}
 use Rattle.xen_rx_fill.specs.Places.{tx_word}
 use Rattle.xen_turns.specs.Program.{event_of}
@@ -56,8 +57,9 @@ pub record SteppedOver {H : Type 0} (was : H → Ask → List ℕ → H → Type
   pub history : went labels
   pub turn : (s : State) (trace : List Event) (asked : Ask) → IsTurning old s trace asked →
       TurnGoesOn new last.ask s (trace ++ (read_by asked words ++ (map event_of labels ++ events_of (first ++ last ∷ []))))
-  pub delivery : (s : State) (packet : List ℕ) (trace : List Event) (asked : Option Ask) → IsDelivering old s packet trace asked →
-      DeliveryGoesOn new last.ask s packet (trace ++ (read_by_some asked words ++ events_of (first ++ last ∷ []))) × same
+  pub delivery : (s : State) (o : RxOffload) (packet : List ℕ) (trace : List Event) (asked : Option Ask) →
+      IsDelivering old s o packet trace asked →
+      DeliveryGoesOn new last.ask s o packet (trace ++ (read_by_some asked words ++ events_of (first ++ last ∷ []))) × same
   pub wait : (s : State) (pages : ℕ) (packet : List ℕ) (trace : List Event) (asked : Option Ask) → IsWaiting old s pages packet trace asked →
       WaitGoesOn new last.ask s pages packet (trace ++ (read_by_some asked words ++ events_of (first ++ last ∷ []))) × same
 

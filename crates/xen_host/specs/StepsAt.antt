@@ -2,6 +2,7 @@
 -- A turn's beginning and a step of an engine, over any host: what it answered, what it was asked, and where these lead.
 use Rattle.std.specs.Prelude.{ℕ, ◌≡◌, ◌⊎◌, false, List, [], ◌∷◌, ◌++◌, Option, length, map}
 use Rattle.bpf_note.specs.declared.op.Op.{Op as Operation}
+use Rattle.xen_netif.specs.declared.offload.RxOffload.{RxOffload}
 use Rattle.xen_steps.specs.Event.{Event, Read}
 use Rattle.xen_rx_fill.specs.Places.{tx_word}
 use Rattle.xen_turns.specs.Program.{event_of}
@@ -51,7 +52,8 @@ pub record StepsAt {H : Type 0} (was : H → Ask → List ℕ → H → Type 0) 
   pub history : went labels
   pub turn : (s : State) (trace : List Event) (asked : Ask) → IsTurningAt old s trace asked →
       TurnGoesAt new last.ask s (trace ++ (read_by asked words ++ (map event_of labels ++ events_of (first ++ last ∷ []))))
-  pub delivery : (s : State) (packet : List ℕ) (trace : List Event) (asked : Option Ask) → IsDeliveringAt old s packet trace asked →
-      DeliveryGoesAt new last.ask s packet (trace ++ (read_by_some asked words ++ events_of (first ++ last ∷ []))) × same
+  pub delivery : (s : State) (o : RxOffload) (packet : List ℕ) (trace : List Event) (asked : Option Ask) →
+      IsDeliveringAt old s o packet trace asked →
+      DeliveryGoesAt new last.ask s o packet (trace ++ (read_by_some asked words ++ events_of (first ++ last ∷ []))) × same
   pub wait : (s : State) (pages : ℕ) (packet : List ℕ) (trace : List Event) (asked : Option Ask) → IsWaitingAt old s pages packet trace asked →
       WaitGoesAt new last.ask s pages packet (trace ++ (read_by_some asked words ++ events_of (first ++ last ∷ []))) × same

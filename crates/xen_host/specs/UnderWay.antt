@@ -1,6 +1,7 @@
 -- Stated: claims rest on this file.
 -- What is under way in an engine, in the asks that its host was asked and the events that they are.
 use Rattle.std.specs.Prelude.{ℕ, ◌≡◌, Bool, true, false, List, [], ◌∷◌, Option, None, Some}
+use Rattle.xen_netif.specs.declared.offload.RxOffload.{RxOffload}
 use Rattle.xen_steps.specs.Drive.{LedBy}
 use Rattle.xen_steps.specs.Event.{Event, Read}
 use Rattle.xen_steps.specs.Steps.{Steps}
@@ -61,9 +62,9 @@ IsTurningAt e s trace asked =
     IsUnderWay (whole_turn e.wires s) (rest_in e.wires e.state e.stage e.work) (reads_in e.stage) (is_turning e.stage) trace (Some asked)
 
 -- A delivery of this packet has. Before its first step nothing was asked.
-abbrev pub IsDeliveringAt : EngineAt → State → List ℕ → List Event → Option Ask → Type 0
-IsDeliveringAt e s packet trace asked =
-    IsUnderWay (whole_delivery e.wires.vif s packet) (rest_of_delivery e.wires.vif e.state e.stage e.work) (reads_in e.stage)
+abbrev pub IsDeliveringAt : EngineAt → State → RxOffload → List ℕ → List Event → Option Ask → Type 0
+IsDeliveringAt e s o packet trace asked =
+    IsUnderWay (whole_delivery e.wires.vif e.wires.accepts s o packet) (rest_of_delivery e.wires.vif e.state e.stage e.work) (reads_in e.stage)
     (is_delivering e.stage) trace asked × (e.work.packet ≡ packet)
 
 -- A wait for `pages` slots has come so far: these events, and what was asked last. This packet stays beside it.
@@ -81,10 +82,10 @@ TurnGoesAt e (TurnOver kind) s trace =
 TurnGoesAt e asked s trace = IsTurningAt e s trace asked
 
 -- A delivery goes on; or its events are a row of the table of deliveries, and its packet is there.
-abbrev pub DeliveryGoesAt : EngineAt → Ask → State → List ℕ → List Event → Type 0
-DeliveryGoesAt e (DeliveryOver what) s packet trace =
-    IsDelivery e.wires s packet trace e.state what × (resting_at e ≡ Some e.state) × (packet_at e ≡ packet)
-DeliveryGoesAt e asked s packet trace = IsDeliveringAt e s packet trace (Some asked)
+abbrev pub DeliveryGoesAt : EngineAt → Ask → State → RxOffload → List ℕ → List Event → Type 0
+DeliveryGoesAt e (DeliveryOver what) s o packet trace =
+    IsDelivery e.wires s o packet trace e.state what × (resting_at e ≡ Some e.state) × (packet_at e ≡ packet)
+DeliveryGoesAt e asked s o packet trace = IsDeliveringAt e s o packet trace (Some asked)
 
 -- A wait goes on; or its events are a row of the table of waits, and the packet before it is there.
 abbrev pub WaitGoesAt : EngineAt → Ask → State → ℕ → List ℕ → List Event → Type 0
@@ -100,9 +101,9 @@ first_read (Some cause) e = []
 -- ---- what begins
 
 -- A delivery is to begin, with what was read of the rx producer: all of it is left.
-pub record IsBegunAt (old new : EngineAt) (producer : ℕ) (packet : List ℕ) : Type 0 where
+pub record IsBegunAt (old new : EngineAt) (producer : ℕ) (o : RxOffload) (packet : List ℕ) : Type 0 where
   pub rested : resting_at old ≡ Some old.state
-  pub delivering : IsDeliveringAt new old.state packet (first_read old.state.halt (Read (rx_word old.wires.vif 0) producer)) None
+  pub delivering : IsDeliveringAt new old.state o packet (first_read old.state.halt (Read (rx_word old.wires.vif 0) producer)) None
   pub wires : new.wires ≡ old.wires
   pub offload : new.offload ≡ old.offload
 

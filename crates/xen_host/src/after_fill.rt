@@ -79,7 +79,7 @@ impl Engine {
     )
         requires free { H.is_free host.old }
         ensures led { DeliveryLeads H.was_asked H.is_full self.old.offload (R.held packet.old) (next (unless_halted (W.wiring wires.now).vif
-            self.old.state (R.held packet.old) self.old.state.halt) producer) (engine_at (W.wiring wires.now) (R.held packet.new) self.new) host.old
+            self.old.state self.old.work.offload (R.held packet.old) self.old.state.halt) producer) (engine_at (W.wiring wires.now) (R.held packet.new) self.new) host.old
             host.new }
     {
         match self.state.halt {

@@ -8,7 +8,9 @@ ghost use Rattle.xen_host.specs.Queues.{resting, seen, wired_to};
 
 use crate::queue::Queue;
 use crate::room::hold;
+use crate::taking::is_taken;
 use xdp_program::Tallies;
+use xen_netif::RxOffload;
 use xen_page::Bus;
 use xen_ring::Ports;
 use xen_turns::decisions::can_be_delivered;
@@ -38,10 +40,11 @@ impl Queue {
     }
 
     /// Delivers a packet of the host's own to the frontend, between two turns, and returns what became of it. The packet is copied, into
-    /// the room that the queue has for one.
+    /// the room that the queue has for one. It leaves `offload` to the frontend.
     pub fn drive_delivery<T: Tallies, B: Bus>(
         &mut self,
         packet: &[u8],
+        offload: RxOffload,
         counters: &mut T,
         bus: &mut B,
         ports: &Ports,
@@ -51,7 +54,7 @@ impl Queue {
         requires serving { (labels : List (Option Operation)) (after : T) → Went (T.did (wired_to self.old).program.shapes) counters.old after
             labels → T.serves (wired_to self.old).program.shapes after }
         ensures size { B.size bus.new ≡ B.size bus.old }
-        ensures delivered { HasDeliveredAt B.log B.access_gives (seen self.old) (seen self.new) packet.now result bus.old bus.new
+        ensures delivered { HasDeliveredAt B.log B.access_gives (seen self.old) (seen self.new) offload packet.now result bus.old bus.new
             counters.old counters.new }
         ensures wires { wired_to self.new ≡ wired_to self.old }
         ensures share { self.new.share ≡ self.old.share }
@@ -59,9 +62,11 @@ impl Queue {
         if !can_be_delivered(packet) {
             return Delivery::NoFrame;
         }
+        if !is_taken(&self.wires.accepts, &offload, packet) {
+            return Delivery::NotAccepted;
+        }
         hold(packet, &mut self.packet);
-        self.engine
-            .deliver_held(&self.wires, &mut self.packet, counters, bus, ports)
+        self.engine.deliver_held(offload, &self.wires, &mut self.packet, counters, bus, ports)
     }
 
     /// Asks the frontend for a notice as soon as it has posted `pages` rx slots, and looks whether it has by now, between two turns.

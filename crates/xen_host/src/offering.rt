@@ -1,8 +1,8 @@
-//! What a queue offers, which becomes other between two turns.
+//! What a queue offers, and what its frontend accepts, which become others between two turns.
 
 use crate::queue::Queue;
 use crate::stage::Stage;
-use xen_netif::Offers;
+use xen_netif::{Accepts, Offers};
 
 /// The answer to offers that are to become a queue's.
 #[derive(Clone, Copy, Debug, PartialEq, Eq)]
@@ -13,7 +13,17 @@ pub enum Offering {
     Busy,
 }
 
+/// The answer to what a frontend accepts, which is to become a queue's.
+#[derive(Clone, Copy, Debug, PartialEq, Eq)]
+pub enum Accepting {
+    /// The next delivery may leave it to the frontend.
+    Accepted,
+    /// A turn, a delivery or a wait is under way.
+    Busy,
+}
+
 impl Queue {
+    ghost use Rattle.xen_host.specs.Accepted.{IsAccepting};
     ghost use Rattle.xen_host.specs.Offered.{IsOffering};
 
     /// Makes these offers in place of its own, between two turns.
@@ -26,6 +36,19 @@ impl Queue {
                 Offering::Offered
             }
             _ => Offering::Busy,
+        }
+    }
+
+    /// Has the frontend accept this in place of what it accepted, between two turns.
+    pub fn accept(&mut self, accepts: Accepts) -> Accepting
+        ensures { IsAccepting self.old self.new accepts result }
+    {
+        match self.engine.stage {
+            Stage::Ready => {
+                self.wires.set_accepts(accepts);
+                Accepting::Accepted
+            }
+            _ => Accepting::Busy,
         }
     }
 }

@@ -9,6 +9,7 @@ ghost use Rattle.xen_host.specs.Chained.{reply};
 ghost use Rattle.xen_host.specs.EngineAt.{engine_at};
 ghost use Rattle.xen_host.specs.HostLed.{FillLeads, HasReplied};
 ghost use Rattle.xen_host.specs.Led.{beside};
+ghost use Rattle.xen_host.specs.Rest.{rx_offload};
 
 use crate::engine::Engine;
 use crate::host::Host;
@@ -16,7 +17,7 @@ use crate::room::Room;
 use crate::stage::{Fill, Purpose, Stage};
 use crate::wires::Wires;
 use xen_ring::{RSP_EVENT, RSP_PROD, due};
-use xen_rx_fill::{Grants, Outcome, response};
+use xen_rx_fill::{Grants, Outcome};
 use xen_steps::{header, rx_entry};
 
 /// What a transmit comes to that used `used` slots.
@@ -35,6 +36,7 @@ impl Engine {
     #[inline(always)]
     fn say_reply<W: Wires, H: Host, R: Room>(
         &self,
+        purpose: Purpose,
         grants: Grants,
         i: u32,
         wires: &W,
@@ -43,11 +45,11 @@ impl Engine {
     )
         requires within { i < length self.now.work.targets }
         requires free { H.is_free host.old }
-        ensures asked { H.was_asked host.old (reply (W.wiring wires.now).vif self.now.state.rx_index (R.held packet.now) grants
-            self.now.work.targets i) [] host.new }
+        ensures asked { H.was_asked host.old (reply (W.wiring wires.now).vif self.now.state.rx_index (rx_offload purpose self.now.work.offload) (R.held packet.now)
+            grants self.now.work.targets i) [] host.new }
         ensures settled { H.is_settled host.new }
     {
-        let [first, second] = response(grants, packet.bytes(), &self.work.targets, i).words();
+        let [first, second] = self.response(purpose, grants, packet.bytes(), i);
         let index = self.state.rx_index.wrapping_add(i);
         host.store_two(rx_entry(wires.rx(), index, 0), first, second)
     }
@@ -56,6 +58,7 @@ impl Engine {
     #[inline(always)]
     fn say_replies<W: Wires, H: Host, R: Room>(
         &self,
+        purpose: Purpose,
         grants: Grants,
         from: u32,
         wires: &W,
@@ -64,11 +67,11 @@ impl Engine {
     ) -> Option<u32>
         requires within { from ≤ length self.now.work.targets }
         requires free { H.is_free host.old }
-        ensures { HasReplied H.was_asked H.is_free H.is_full (engine_at (W.wiring wires.now) (R.held packet.now) self.now) grants from result
-            host.old host.new }
+        ensures { HasReplied H.was_asked H.is_free H.is_full (engine_at (W.wiring wires.now) (R.held packet.now) self.now) (rx_offload purpose self.now.work.offload)
+            grants from result host.old host.new }
     {
         for i in from..self.work.targets.len() {
-            self.say_reply(grants, i, wires, packet, host);
+            self.say_reply(purpose, grants, i, wires, packet, host);
             if !host.has_room() {
                 return Some(i + 1);
             }
@@ -90,10 +93,10 @@ impl Engine {
         requires within { from ≤ length self.old.work.targets }
         requires free { H.is_free host.old }
         ensures led { FillLeads H.was_asked H.is_full purpose (beside (engine_at (W.wiring wires.now) (R.held packet.now) self.old))
-            (rx_answer (W.wiring wires.now).vif self.old.state.rx_index (R.held packet.now) grants (length self.old.work.targets) from (drop
-            from self.old.work.targets)) (engine_at (W.wiring wires.now) (R.held packet.now) self.new) host.old host.new }
+            (rx_answer (W.wiring wires.now).vif self.old.state.rx_index (rx_offload purpose self.old.work.offload) (R.held packet.now) grants (length
+            self.old.work.targets) from (drop from self.old.work.targets)) (engine_at (W.wiring wires.now) (R.held packet.now) self.new) host.old host.new }
     {
-        match self.say_replies(grants, from, wires, packet, host) {
+        match self.say_replies(purpose, grants, from, wires, packet, host) {
             Some(i) => {
                 self.stage = Stage::Fill {
                     fill: Fill::Respond { grants, i },

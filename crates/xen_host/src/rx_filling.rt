@@ -1,6 +1,6 @@
 //! A packet on its way into rx buffers.
 
-ghost use Rattle.std.specs.Prelude.{◌≡◌, ◌<◌, ◌≤◌, ◌+◌, ◌*◌, ◌-◌, ◌++◌, ◌∷◌, [], ℕ, List, drop, length, map, suc, take, true};
+ghost use Rattle.std.specs.Prelude.{◌≡◌, ◌<◌, ◌≤◌, ◌+◌, ◌*◌, ◌-◌, ◌++◌, ◌∷◌, [], ℕ, List, drop, false, length, map, suc, take, true};
 ghost use Rattle.std.specs.Prelude.{None, Some};
 ghost use Rattle.std.specs.Prelude.{slice_index};
 ghost use Rattle.xen_netif.specs.Slots.{rx_req_of};
@@ -10,13 +10,14 @@ ghost use Rattle.xen_page.specs.declared.entry.Rights.TheVariants.{ReadWrite};
 ghost use Rattle.xen_steps.specs.Places.{available};
 ghost use Rattle.xen_steps.specs.Steps.{bind};
 ghost use Rattle.xen_rx_fill.specs.Entries.{entry};
-ghost use Rattle.xen_rx_fill.specs.Packets.{frame_in, response_word, target_at, words as packet_size};
+ghost use Rattle.xen_rx_fill.specs.Packets.{frame_in, response_word, slot_of, takes_extra, target_at, words as packet_size};
 ghost use Rattle.xen_rx_fill.specs.Places.{rx_slot, rx_word};
 ghost use Rattle.xen_rx_fill.specs.Transmit.{after_targets, fill_from, found, read_targets, requested, rx_respond, targeted};
-ghost use Rattle.xen_rx_fill.specs.declared.target.Grants.TheVariants.{Refused};
+ghost use Rattle.xen_rx_fill.specs.declared.target.Grants.TheVariants.{Passed, Refused};
 ghost use Rattle.xen_host.specs.Fits.{FillFits};
 ghost use Rattle.xen_host.specs.HostLed.{FillGoesOn, FillLeads};
 ghost use Rattle.xen_host.specs.Led.{beside};
+ghost use Rattle.xen_host.specs.Rest.{rx_offload};
 ghost use Rattle.xen_host.specs.EngineAt.{engine_at, work_at};
 
 use crate::engine::Engine;
@@ -27,7 +28,7 @@ use crate::wires::Wires;
 use crate::words::are_words;
 use xen_netif::RxReq;
 use xen_page::{Entry, Place, Rights};
-use xen_rx_fill::{Grants, Outcome, Target, Targets, buffer_frame, pages_of, words_of};
+use xen_rx_fill::{Grants, Outcome, Target, Targets, words_of};
 use xen_steps::{requests_shown, rx_entry};
 
 impl Engine {
@@ -86,33 +87,51 @@ impl Engine {
     )
         requires free { H.is_free host.old }
         ensures led { FillLeads H.was_asked H.is_full purpose (beside (engine_at (W.wiring wires.now) (R.held packet.old) self.old)) (found
-            (W.wiring wires.now).vif self.old.state.rx_index (R.held packet.old) (available self.old.state.rx_index producer)) (engine_at
+            (W.wiring wires.now).vif self.old.state.rx_index (rx_offload purpose self.old.work.offload) (R.held packet.old) (available self.old.state.rx_index
+            producer)) (engine_at
             (W.wiring wires.now) (R.held packet.new) self.new) host.old host.new }
     {
         match requests_shown(self.state.rx_index, producer) {
             None => self.filled(purpose, Outcome::Overflow, wires, packet, host),
             Some(shown) => {
-                let pages = pages_of(packet.bytes());
-                if shown < pages {
+                let wanted = self.slots(purpose, packet.bytes());
+                if shown < wanted {
                     return self.filled(purpose, Outcome::TooFew, wires, packet, host);
                 }
                 self.work.targets = Targets::new();
-                if pages == 0 {
-                    return self.reply_from(purpose, Grants::Passed, 0, wires, packet, host);
+                if wanted == 0 {
+                    return self.reply_none(purpose, wires, packet, host);
                 }
-                self.read_post(purpose, pages - 1, wires, host)
+                self.read_post(purpose, wanted - 1, wires, host)
             }
         }
+    }
+
+    /// Answers no slot, as the packet takes none.
+    #[inline(never)]
+    fn reply_none<W: Wires, H: Host, R: Room>(
+        &mut self,
+        purpose: Purpose,
+        wires: &W,
+        packet: &R,
+        host: &mut H,
+    )
+        requires free { H.is_free host.old }
+        ensures led { FillLeads H.was_asked H.is_full purpose (beside (engine_at (W.wiring wires.now) (R.held packet.now) self.old))
+            (rx_respond (W.wiring wires.now).vif self.old.state.rx_index (rx_offload purpose self.old.work.offload) (R.held packet.now) Passed
+            self.old.work.targets) (engine_at (W.wiring wires.now) (R.held packet.now) self.new) host.old host.new }
+    {
+        self.reply_from(purpose, Grants::Passed, 0, wires, packet, host)
     }
 
     /// The next slot is read, and `left` slots are left after it.
     #[inline(always)]
     fn read_post<W: Wires, H: Host>(&mut self, purpose: Purpose, left: u32, wires: &W, host: &mut H)
-        requires few { length self.old.work.targets + left < 16 }
+        requires few { length self.old.work.targets + left < 17 }
         requires free { H.is_free host.old }
         ensures led { (packet : List ℕ) → FillLeads H.was_asked H.is_full purpose (beside (engine_at (W.wiring wires.now) packet
-            self.old)) (bind (read_targets (W.wiring wires.now).vif self.old.state.rx_index (suc left) self.old.work.targets)
-            (after_targets (W.wiring wires.now).vif self.old.state.rx_index packet)) (engine_at (W.wiring wires.now) packet
+            self.old)) (bind (read_targets (W.wiring wires.now).vif self.old.state.rx_index (rx_offload purpose self.old.work.offload) (suc left)
+            self.old.work.targets) (after_targets (W.wiring wires.now).vif self.old.state.rx_index (rx_offload purpose self.old.work.offload) packet)) (engine_at (W.wiring wires.now) packet
             self.new) host.old host.new }
     {
         self.stage = Stage::Fill {
@@ -134,14 +153,73 @@ impl Engine {
         packet: &R,
         host: &mut H,
     )
-        requires few { length self.old.work.targets + left < 16 }
+        requires few { length self.old.work.targets + left < 17 }
+        requires fresh { H.is_fresh host.old }
         requires free { H.is_free host.old }
         ensures led { FillLeads H.was_asked H.is_full purpose (beside (engine_at (W.wiring wires.now) (R.held packet.now) self.old)) (bind
-            (requested (W.wiring wires.now).vif (rx_req_of slot) (targeted self.old.work.targets (read_targets (W.wiring
-            wires.now).vif self.old.state.rx_index left))) (after_targets (W.wiring wires.now).vif self.old.state.rx_index
-            (R.held packet.now))) (engine_at (W.wiring wires.now) (R.held packet.now) self.new) host.old host.new }
+            (requested (W.wiring wires.now).vif (takes_extra (rx_offload purpose self.old.work.offload) (length self.old.work.targets)) self.old.work.targets
+            (read_targets (W.wiring wires.now).vif self.old.state.rx_index (rx_offload purpose self.old.work.offload) left) (rx_req_of slot)) (after_targets
+            (W.wiring wires.now).vif self.old.state.rx_index (rx_offload purpose self.old.work.offload) (R.held packet.now))) (engine_at (W.wiring wires.now)
+            (R.held packet.now) self.new) host.old host.new }
     {
-        let RxReq { id, gref } = RxReq::of_words(slot);
+        let request = RxReq::of_words(slot);
+        if self.takes_extra(purpose, self.work.targets.len()) {
+            return self.take_extra(purpose, left, request.id, wires, packet, host);
+        }
+        self.read_grant(purpose, left, request, wires, packet, host)
+    }
+
+    /// A slot that takes the extra passes, whatever it grants.
+    #[inline(never)]
+    fn take_extra<W: Wires, H: Host, R: Room>(
+        &mut self,
+        purpose: Purpose,
+        left: u32,
+        id: u16,
+        wires: &W,
+        packet: &R,
+        host: &mut H,
+    )
+        requires few { length self.old.work.targets + left < 17 }
+        requires fresh { H.is_fresh host.old }
+        requires free { H.is_free host.old }
+        ensures led { FillLeads H.was_asked H.is_full purpose (beside (engine_at (W.wiring wires.now) (R.held packet.now) self.old)) (bind
+            (read_targets (W.wiring wires.now).vif self.old.state.rx_index (rx_offload purpose self.old.work.offload) left (self.old.work.targets ++ record {
+              id =
+                  id;
+              frame = None;
+            } ∷ [])) (after_targets (W.wiring wires.now).vif self.old.state.rx_index (rx_offload purpose self.old.work.offload) (R.held packet.now))) (engine_at
+            (W.wiring wires.now) (R.held packet.now) self.new) host.old host.new }
+    {
+        self.passed(
+            purpose,
+            left,
+            Target { id, frame: None },
+            wires,
+            packet,
+            host,
+        )
+    }
+
+    /// The entry of a slot that takes a page is read.
+    #[inline(always)]
+    fn read_grant<W: Wires, H: Host, R: Room>(
+        &mut self,
+        purpose: Purpose,
+        left: u32,
+        request: RxReq,
+        wires: &W,
+        packet: &R,
+        host: &mut H,
+    )
+        requires few { length self.old.work.targets + left < 17 }
+        requires free { H.is_free host.old }
+        ensures led { FillLeads H.was_asked H.is_full purpose (beside (engine_at (W.wiring wires.now) (R.held packet.now) self.old)) (bind
+            (requested (W.wiring wires.now).vif false self.old.work.targets (read_targets (W.wiring wires.now).vif
+            self.old.state.rx_index (rx_offload purpose self.old.work.offload) left) request) (after_targets (W.wiring wires.now).vif self.old.state.rx_index
+            (rx_offload purpose self.old.work.offload) (R.held packet.now))) (engine_at (W.wiring wires.now) (R.held packet.now) self.new) host.old host.new }
+    {
+        let RxReq { id, gref } = request;
         match wires.place(gref) {
             None => self.refuse_post(purpose, id, wires, packet, host),
             Some(at) => {
@@ -164,10 +242,10 @@ impl Engine {
         packet: &R,
         host: &mut H,
     )
-        requires few { length self.old.work.targets < 16 }
+        requires few { length self.old.work.targets < 17 }
         requires free { H.is_free host.old }
         ensures led { FillLeads H.was_asked H.is_full purpose (beside (engine_at (W.wiring wires.now) (R.held packet.now) self.old))
-            (rx_respond (W.wiring wires.now).vif self.old.state.rx_index (R.held packet.now) Refused (self.old.work.targets ++ record {
+            (rx_respond (W.wiring wires.now).vif self.old.state.rx_index (rx_offload purpose self.old.work.offload) (R.held packet.now) Refused (self.old.work.targets ++ record {
               id =
                   id;
               frame = None;
@@ -189,29 +267,52 @@ impl Engine {
         packet: &R,
         host: &mut H,
     )
-        requires few { length self.old.work.targets + left < 16 }
+        requires few { length self.old.work.targets + left < 17 }
         requires fresh { H.is_fresh host.old }
         requires free { H.is_free host.old }
         ensures led { FillLeads H.was_asked H.is_full purpose (beside (engine_at (W.wiring wires.now) (R.held packet.now) self.old)) (bind
-            (targeted self.old.work.targets (read_targets (W.wiring wires.now).vif self.old.state.rx_index left) id (checked
+            (targeted self.old.work.targets (read_targets (W.wiring wires.now).vif self.old.state.rx_index (rx_offload purpose self.old.work.offload) left) id (checked
             (W.wiring wires.now).vif.owners.now (W.wiring wires.now).vif.granter (W.wiring wires.now).vif.user (entry_of
             (slice_index words 0) (slice_index words 1)) ReadWrite)) (after_targets (W.wiring wires.now).vif self.old.state.rx_index
-            (R.held packet.now))) (engine_at (W.wiring wires.now) (R.held packet.now) self.new) host.old host.new }
+            (rx_offload purpose self.old.work.offload) (R.held packet.now))) (engine_at (W.wiring wires.now) (R.held packet.now) self.new) host.old host.new }
     {
         let entry = Entry::of_words(words[0], words[1]);
         match wires.granted(entry, Rights::ReadWrite) {
             Err(_) => self.refuse_post(purpose, id, wires, packet, host),
             Ok(frame) => {
-                self.work.targets.push(Target {
+                let target = Target {
                     id,
                     frame: Some(frame),
-                });
-                if left == 0 {
-                    self.write_page(purpose, 0, wires, packet, host)
-                } else {
-                    self.read_post(purpose, left - 1, wires, host)
-                }
+                };
+                self.passed(purpose, left, target, wires, packet, host)
             }
+        }
+    }
+
+    /// After a slot whose grant passed its check, or that takes the extra.
+    #[inline(always)]
+    fn passed<W: Wires, H: Host, R: Room>(
+        &mut self,
+        purpose: Purpose,
+        left: u32,
+        target: Target,
+        wires: &W,
+        packet: &R,
+        host: &mut H,
+    )
+        requires few { length self.old.work.targets + left < 17 }
+        requires fresh { H.is_fresh host.old }
+        requires free { H.is_free host.old }
+        ensures led { FillLeads H.was_asked H.is_full purpose (beside (engine_at (W.wiring wires.now) (R.held packet.now) self.old)) (bind
+            (read_targets (W.wiring wires.now).vif self.old.state.rx_index (rx_offload purpose self.old.work.offload) left (self.old.work.targets ++ target ∷ []))
+            (after_targets (W.wiring wires.now).vif self.old.state.rx_index (rx_offload purpose self.old.work.offload) (R.held packet.now))) (engine_at (W.wiring
+            wires.now) (R.held packet.now) self.new) host.old host.new }
+    {
+        self.work.targets.push(target);
+        if left == 0 {
+            self.write_page(purpose, 0, wires, packet, host)
+        } else {
+            self.read_post(purpose, left - 1, wires, host)
         }
     }
 
@@ -229,7 +330,8 @@ impl Engine {
         requires fresh { H.is_fresh host.old }
         requires free { H.is_free host.old }
         ensures led { FillLeads H.was_asked H.is_full purpose (beside (engine_at (W.wiring wires.now) (R.held packet.now) self.old))
-            (fill_from (W.wiring wires.now).vif self.old.state.rx_index (R.held packet.now) self.old.work.targets (1024 * i)) (engine_at
+            (fill_from (W.wiring wires.now).vif self.old.state.rx_index (rx_offload purpose self.old.work.offload) (R.held packet.now) self.old.work.targets (1024
+            * i)) (engine_at
             (W.wiring wires.now) (R.held packet.now) self.new) host.old host.new }
     {
         let all = words_of(packet.bytes());
@@ -239,7 +341,7 @@ impl Engine {
         }
         let to = all.min(from + 1024);
         let at = Place {
-            frame: buffer_frame(&self.work.targets, i),
+            frame: self.buffer(purpose, i),
             word: 0,
         };
         host.write(at, packet.bytes(), from, to - from);

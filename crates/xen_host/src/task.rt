@@ -20,4 +20,6 @@ pub enum Begin {
     Busy,
     /// The packet has fewer than 14 bytes, or more than 65,535.
     NoFrame,
+    /// The packet leaves the frontend what that doesn't accept.
+    NotAccepted,
 }

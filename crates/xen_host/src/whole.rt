@@ -1,13 +1,13 @@
 //! A whole turn, a whole delivery and a whole wait of an engine over a bus.
 
-ghost use Rattle.std.specs.Prelude.{◌≡◌, ◌<◌, ◌≤◌, IsSome, List, Option, length, true, ℕ};
+ghost use Rattle.std.specs.Prelude.{◌≡◌, ◌<◌, ◌≤◌, IsSome, List, Option, length, ℕ};
 ghost use Rattle.bpf_note.specs.declared.op.Op.{Op as Operation};
 ghost use Rattle.xdp_program.specs.Tallies.{Went};
 ghost use Rattle.xen_page.specs.Access.{Performs};
 ghost use Rattle.xen_steps.specs.Drive.{accesses};
 ghost use Rattle.xen_steps.specs.Event as event;
 ghost use Rattle.xen_steps.specs.Places.{page_word};
-ghost use Rattle.xen_turns.specs.Delivered.{is_frame};
+ghost use Rattle.xen_turns.specs.Delivered.{IsDeliverable};
 ghost use Rattle.xen_turns.specs.declared.wiring.Wiring.{Wiring};
 ghost use Rattle.xen_host.specs.Driven.{HasAwaitedAt, HasDeliveredAt, HasTurnedAt};
 ghost use Rattle.xen_host.specs.EngineAt.{engine_at};
@@ -20,8 +20,10 @@ use crate::lent::LentPacket;
 use crate::over_bus::{Over, OverBus};
 use crate::room::Room;
 use crate::stage::Stage;
+use crate::taking::is_taken;
 use crate::wires::Wires;
 use xdp_program::Tallies;
+use xen_netif::RxOffload;
 use xen_page::{Bus, Place};
 use xen_ring::Ports;
 use xen_turns::decisions::can_be_delivered;
@@ -35,7 +37,7 @@ use xen_turns::{Awaited, Delivery, Kind};
 const TURN_STEPS: u32 = 33_033;
 
 /// More steps than a delivery takes.
-const DELIVERY_STEPS: u32 = 16_485;
+const DELIVERY_STEPS: u32 = 16_489;
 
 /// More steps than a wait takes.
 const WAIT_STEPS: u32 = 3;
@@ -74,12 +76,13 @@ impl Engine {
     }
 
     /// Is to deliver the packet that its room holds.
-    fn begin_delivery(&mut self, producer: u32)
-        ensures stands { (w : Wiring) (packet : List ℕ) → is_frame packet ≡ true → Stands (engine_at w packet self.old) → Stands (engine_at w
-            packet self.new) }
-        ensures begun { (w : Wiring) (packet : List ℕ) → is_frame packet ≡ true → IsSome (resting_at (engine_at w packet self.old)) →
-            IsBegunAt (engine_at w packet self.old) (engine_at w packet self.new) producer packet }
+    fn begin_delivery(&mut self, producer: u32, offload: RxOffload)
+        ensures stands { (w : Wiring) (packet : List ℕ) → IsDeliverable w.accepts offload packet → Stands (engine_at w packet self.old) →
+            Stands (engine_at w packet self.new) }
+        ensures begun { (w : Wiring) (packet : List ℕ) → IsDeliverable w.accepts offload packet → IsSome (resting_at (engine_at w packet
+            self.old)) → IsBegunAt (engine_at w packet self.old) (engine_at w packet self.new) producer offload packet }
     {
+        self.work.offload = offload;
         self.stage = Stage::Deliver { producer };
     }
 
@@ -129,13 +132,14 @@ impl Engine {
     /// Delivers the packet that its room holds to the frontend, between two turns, and returns what became of it.
     pub(crate) fn deliver_held<W: Wires, R: Room, T: Tallies, B: Bus>(
         &mut self,
+        offload: RxOffload,
         wires: &W,
         packet: &mut R,
         counters: &mut T,
         bus: &mut B,
         ports: &Ports,
     ) -> Delivery
-        requires frame { is_frame (R.held packet.old) ≡ true }
+        requires deliverable { IsDeliverable (W.wiring wires.now).accepts offload (R.held packet.old) }
         requires stands { Stands (engine_at (W.wiring wires.now) (R.held packet.old) self.old) }
         requires rests { IsSome (resting_at (engine_at (W.wiring wires.now) (R.held packet.old) self.old)) }
         requires size { B.size bus.old ≡ length (W.wiring wires.now).vif.owners.now }
@@ -144,13 +148,14 @@ impl Engine {
         ensures stands { Stands (engine_at (W.wiring wires.now) (R.held packet.new) self.new) }
         ensures size { B.size bus.new ≡ B.size bus.old }
         ensures delivered { HasDeliveredAt B.log B.access_gives (engine_at (W.wiring wires.now) (R.held packet.old) self.old) (engine_at
-            (W.wiring wires.now) (R.held packet.new) self.new) (R.held packet.old) result bus.old bus.new counters.old counters.new }
+            (W.wiring wires.now) (R.held packet.new) self.new) offload (R.held packet.old) result bus.old bus.new counters.old
+            counters.new }
     {
         // Only the proof uses what these calls ensure.
         deliveries_are_rests();
         deliveries_are_bounded();
         let producer = self.look(wires.rx(), bus);
-        self.begin_delivery(producer);
+        self.begin_delivery(producer, offload);
         let mut host = OverBus::new(bus, ports);
         self.step_over(wires, packet, counters, &mut host);
         match self.go_on(DELIVERY_STEPS, wires, packet, counters, &mut host) {
@@ -161,10 +166,11 @@ impl Engine {
     }
 
     /// Delivers a packet of the host's own to the frontend, between two turns, and returns what became of it. The packet is read where it
-    /// lies.
+    /// lies. It leaves `offload` to the frontend.
     pub fn deliver<W: Wires, R: Room, T: Tallies, B: Bus>(
         &mut self,
         packet: &[u8],
+        offload: RxOffload,
         wires: &W,
         room: &mut R,
         counters: &mut T,
@@ -179,13 +185,16 @@ impl Engine {
         ensures stands { Stands (engine_at (W.wiring wires.now) (R.held room.new) self.new) }
         ensures size { B.size bus.new ≡ B.size bus.old }
         ensures delivered { HasDeliveredAt B.log B.access_gives (engine_at (W.wiring wires.now) (R.held room.old) self.old) (engine_at
-            (W.wiring wires.now) packet.now self.new) packet.now result bus.old bus.new counters.old counters.new }
+            (W.wiring wires.now) packet.now self.new) offload packet.now result bus.old bus.new counters.old counters.new }
     {
         if !can_be_delivered(packet) {
             return Delivery::NoFrame;
         }
+        if !is_taken(wires.accepts(), &offload, packet) {
+            return Delivery::NotAccepted;
+        }
         let mut lent = LentPacket::new(packet, room);
-        self.deliver_held(wires, &mut lent, counters, bus, ports)
+        self.deliver_held(offload, wires, &mut lent, counters, bus, ports)
     }
 
     /// Asks the frontend for a notice as soon as it has posted `pages` rx slots, and looks whether it has by now, between two turns.

@@ -3,7 +3,10 @@ use Rattle.std.proofs.Common.{◌≡◌, ℕ, zero, suc, ◌+◌, ◌-◌, ◌*�
 use Rattle.std.specs.Prelude.{IfOk, slice_get, nat_le, if◌then◌else◌, ◌==◌}
 use Rattle.std.proofs.lemmas.Bool.{ltb-false}
 use Rattle.std.proofs.lemmas.Bool.Decides.{nat_tests}
+use Rattle.xen_netif.specs.Offloads.{has_extra}
 use Rattle.xen_netif.specs.Slots.{rx_req_of}
+use Rattle.xen_netif.specs.declared.offload.RxOffload.{RxOffload}
+use Rattle.xen_netif.specs.declared.rx.RxReq.{RxReq}
 use Rattle.xen_page.specs.Entry.{entry_of, permits_access}
 use Rattle.xen_page.specs.Grant.{allows, checked, owns, is_domain}
 use Rattle.xen_page.specs.Table.{entry_place, place_in}
@@ -21,8 +24,8 @@ use Rattle.xen_steps.specs.Steps.{Steps, done, bind}
 use Rattle.xen_steps.specs.declared.want.Want.{Want}
 use Rattle.xen_steps.proofs.DriveLemmas.{bounded_le, bounded_bind}
 use Rattle.xen_rx_fill.specs.Entries.{entry, entry_at}
-use Rattle.xen_rx_fill.specs.Packets.{frame_in, pages, target_at, words}
-use Rattle.xen_rx_fill.specs.Transmit.{Posted, after_targets, fill, found, outcome_of, posted, read_targets, rx_answer, rx_notice, rx_respond, targeted, transmit}
+use Rattle.xen_rx_fill.specs.Packets.{frame_in, pages, slot_of, slots, takes_extra, target_at, words}
+use Rattle.xen_rx_fill.specs.Transmit.{Posted, after_targets, fill, found, outcome_of, posted, read_targets, requested, rx_answer, rx_notice, rx_respond, targeted, transmit}
 use Rattle.xen_rx_fill.specs.Wired.{IsWired}
 use Rattle.xen_rx_fill.specs.declared.by_event.phase.Outcome.{Outcome}
 use Rattle.xen_rx_fill.specs.declared.by_event.phase.Outcome.TheVariants as outcome
@@ -82,6 +85,10 @@ entry_word_small table g at e = place_word (slice_get table (g / 512)) g at e
 pub frame_inside : (w : Vif) (frame : ℕ) → slice_get w.owners.now frame ≡ Some w.granter → frame < length w.owners.now
 frame_inside w frame e = some_inside w.owners.now frame w.granter e
 
+more_slots : (extra : Bool) (n : ℕ) → n ≤ (if extra then n + 1 else n)
+more_slots true n = omega arith
+more_slots false n = omega arith
+
 module _ (w : Vif) (h : IsWired w) where
   abbrev size : ℕ
   size = length w.owners.now
@@ -126,75 +133,86 @@ module _ (w : Vif) (h : IsWired w) where
   ArePosted n (Ok ts) = AllThere ts × (length ts ≤ n)
   ArePosted n (Err ts) = length ts ≤ n
 
-  bounded_posted : (n : ℕ) (P : Posted → Type 0) (i : ℕ) (rest : ℕ → Result ℕ GrantFault → Steps Posted) → ((id : ℕ) (r : Result ℕ GrantFault) → IsThere r → Bounded within P (rest id r) n) →
-      Bounded within P (posted w i rest) (4 + n)
+  bounded_posted : (n : ℕ) (P : Posted → Type 0) (i : ℕ) (rest : RxReq → Steps Posted) → ((q : RxReq) → Bounded within P (rest q) n) → Bounded within P (posted w i rest) (2 + n)
   bounded_posted n P i rest g = (
     omega arith,
     (rx_inside, omega arith),
     λ a. (
       omega arith,
       (rx_inside, omega arith),
-      λ b. let k = rx_req_of (a ∷ b ∷ []) in
-          bounded_bind within IsThere P (entry w ReadWrite k.gref) (rest k.id) 2 n (4 + n - 1 - 1) (bounded_entry_at ReadWrite k.gref (entry_place w.table.now k.gref) refl) (λ r t. g k.id r t) (omega arith),
+      λ b. let k = rx_req_of (a ∷ b ∷ []) in bounded_le within P (rest k) n (2 + n - 1 - 1) (g k) (omega arith),
     ),
   )
 
-  bounded_targeted : (x total left : ℕ) (before : List Target) (id : ℕ) (r : Result ℕ GrantFault) → length before < total → IsThere r →
-      ((frame : ℕ) → frame < size → Bounded within (ArePosted total) (read_targets w x left (before ++ record { id = id; frame = Some frame } ∷ [])) (4 * left)) →
-      Bounded within (ArePosted total) (targeted before (read_targets w x left) id r) (4 * left)
-  bounded_targeted x total left before id (Ok frame) l t g = g frame t
-  bounded_targeted x total left before id (Err fault) l t g = let t : Target = record { id = id; frame = None } in omega (arith, length-append before (t ∷ []))
+  bounded_targeted : (x : ℕ) (o : RxOffload) (total left : ℕ) (before : List Target) (id : ℕ) (r : Result ℕ GrantFault) → length before < total → IsThere r →
+      ((frame : ℕ) → frame < size → Bounded within (ArePosted total) (read_targets w x o left (before ++ record { id = id; frame = Some frame } ∷ [])) (4 * left)) →
+      Bounded within (ArePosted total) (targeted before (read_targets w x o left) id r) (4 * left)
+  bounded_targeted x o total left before id (Ok frame) l t g = g frame t
+  bounded_targeted x o total left before id (Err fault) l t g = let t : Target = record { id = id; frame = None } in omega (arith, length-append before (t ∷ []))
 
-  bounded_targets : (x total left : ℕ) (before : List Target) → AllThere before → length before + left ≤ total → Bounded within (ArePosted total) (read_targets w x left before) (4 * left)
-  bounded_targets x total zero before a l = (a, omega arith)
-  bounded_targets x total (suc left) before a l =
-      bounded_le within (ArePosted total) (read_targets w x (suc left) before) (4 + 4 * left) (4 * suc left)
-      (bounded_posted (4 * left) (ArePosted total) (add32 x (length before)) (targeted before (read_targets w x left))
-      (λ id r t. bounded_targeted x total left before id r (omega arith) t
-      (λ frame f. let t : Target = record { id = id; frame = Some frame } in
-      bounded_targets x total left (before ++ t ∷ []) (there_more before t a f) (omega (arith, length-append before (t ∷ []))))))
+  bounded_requested : (x : ℕ) (o : RxOffload) (total left : ℕ) (extra : Bool) (before : List Target) (q : RxReq) → length before < total →
+      ((t : Target) → frame_in t.frame < size → Bounded within (ArePosted total) (read_targets w x o left (before ++ t ∷ [])) (4 * left)) →
+      Bounded within (ArePosted total) (requested w extra before (read_targets w x o left) q) (2 + 4 * left)
+  bounded_requested x o total left true before q l g =
+      let t : Target = record { id = q.id; frame = None } in
+      let inside = rx_inside in
+      bounded_le within (ArePosted total) (read_targets w x o left (before ++ t ∷ [])) (4 * left) (2 + 4 * left) (g t (omega (arith, inside))) (omega arith)
+  bounded_requested x o total left false before q l g =
+      bounded_bind within IsThere (ArePosted total) (entry w ReadWrite q.gref) (targeted before (read_targets w x o left) q.id) 2 (4 * left) (2 + 4 * left)
+      (bounded_entry_at ReadWrite q.gref (entry_place w.table.now q.gref) refl)
+      (λ r t. bounded_targeted x o total left before q.id r l t (λ frame f. g (record { id = q.id; frame = Some frame }) f)) (omega arith)
+
+  bounded_targets : (x : ℕ) (o : RxOffload) (total left : ℕ) (before : List Target) → AllThere before → length before + left ≤ total →
+      Bounded within (ArePosted total) (read_targets w x o left before) (4 * left)
+  bounded_targets x o total zero before a l = (a, omega arith)
+  bounded_targets x o total (suc left) before a l =
+      bounded_le within (ArePosted total) (read_targets w x o (suc left) before) (2 + (2 + 4 * left)) (4 * suc left)
+      (bounded_posted (2 + 4 * left) (ArePosted total) (add32 x (length before)) (requested w (takes_extra o (length before)) before (read_targets w x o left))
+      (λ q. bounded_requested x o total left (takes_extra o (length before)) before q (omega arith)
+      (λ t f. bounded_targets x o total left (before ++ t ∷ []) (there_more before t a f) (omega (arith, length-append before (t ∷ []))))))
       (omega arith)
 
-  bounded_fill : (ts : List Target) (packet : List ℕ) (n k : ℕ) → AllThere ts → Bounded within Any (fill ts packet n k) n
-  bounded_fill ts packet zero k a = tt
-  bounded_fill ts packet (suc n) k a =
-      (omega arith, (target_there ts (k / 1024) a, omega arith), λ v. bounded_le within Any (fill ts packet n (k + 1)) n (suc n - 1) (bounded_fill ts packet n (k + 1) a) (omega arith))
+  bounded_fill : (o : RxOffload) (ts : List Target) (packet : List ℕ) (n k : ℕ) → AllThere ts → Bounded within Any (fill o ts packet n k) n
+  bounded_fill o ts packet zero k a = tt
+  bounded_fill o ts packet (suc n) k a =
+      (omega arith, (target_there ts (slot_of o (k / 1024)) a, omega arith), λ v. bounded_le within Any (fill o ts packet n (k + 1)) n (suc n - 1) (bounded_fill o ts packet n (k + 1) a) (omega arith))
 
   bounded_rx_notice : (b : Bool) (o : Outcome) → Bounded within Any (rx_notice w b o) 1
   bounded_rx_notice false o = tt
   bounded_rx_notice true o = (omega arith, tt, λ a. tt)
 
-  bounded_rx_answer : (x : ℕ) (packet : List ℕ) (grants : Grants) (n i : ℕ) (ts : List Target) → Bounded within Any (rx_answer w x packet grants n i ts) (2 * length ts + 3)
-  bounded_rx_answer x packet grants n i [] =
+  bounded_rx_answer : (x : ℕ) (o : RxOffload) (packet : List ℕ) (grants : Grants) (n i : ℕ) (ts : List Target) → Bounded within Any (rx_answer w x o packet grants n i ts) (2 * length ts + 3)
+  bounded_rx_answer x o packet grants n i [] =
       (omega arith, (rx_inside, omega arith), λ a. (omega arith, (rx_inside, omega arith), λ v. bounded_rx_notice (is_due x (add32 x n) v) (outcome_of grants n)))
-  bounded_rx_answer x packet grants n i (t ∷ ts) = (
+  bounded_rx_answer x o packet grants n i (t ∷ ts) = (
     omega arith,
     (rx_inside, omega arith),
     λ a. (
       omega arith,
       (rx_inside, omega arith),
-      λ b. bounded_le within Any (rx_answer w x packet grants n (i + 1) ts) (2 * length ts + 3) (2 * suc (length ts) + 3 - 1 - 1) (bounded_rx_answer x packet grants n (i + 1) ts) (omega arith),
+      λ b. bounded_le within Any (rx_answer w x o packet grants n (i + 1) ts) (2 * length ts + 3) (2 * suc (length ts) + 3 - 1 - 1) (bounded_rx_answer x o packet grants n (i + 1) ts) (omega arith),
     ),
   )
 
-  bounded_after_targets : (x : ℕ) (packet : List ℕ) (p : Posted) → words packet ≤ 262144 → ArePosted 256 p → Bounded within Any (after_targets w x packet p) 262659
-  bounded_after_targets x packet (Ok ts) l a =
-      bounded_bind within Any Any (fill ts packet (words packet - 0) 0) (λ u. rx_respond w x packet Passed ts) (words packet - 0) 515 262659 (bounded_fill ts packet (words packet - 0) 0 a.0)
-      (λ v u. bounded_le within Any (rx_respond w x packet Passed ts) (2 * length ts + 3) 515 (bounded_rx_answer x packet Passed (length ts) 0 ts) (omega (arith, a.1))) (omega (arith, l))
-  bounded_after_targets x packet (Err ts) l a = bounded_le within Any (rx_respond w x packet Refused ts) (2 * length ts + 3) 262659 (bounded_rx_answer x packet Refused (length ts) 0 ts) (omega (arith, a))
+  bounded_after_targets : (x : ℕ) (o : RxOffload) (packet : List ℕ) (p : Posted) → words packet ≤ 262144 → ArePosted 256 p → Bounded within Any (after_targets w x o packet p) 262659
+  bounded_after_targets x o packet (Ok ts) l a =
+      bounded_bind within Any Any (fill o ts packet (words packet - 0) 0) (λ u. rx_respond w x o packet Passed ts) (words packet - 0) 515 262659 (bounded_fill o ts packet (words packet - 0) 0 a.0)
+      (λ v u. bounded_le within Any (rx_respond w x o packet Passed ts) (2 * length ts + 3) 515 (bounded_rx_answer x o packet Passed (length ts) 0 ts) (omega (arith, a.1))) (omega (arith, l))
+  bounded_after_targets x o packet (Err ts) l a = bounded_le within Any (rx_respond w x o packet Refused ts) (2 * length ts + 3) 262659 (bounded_rx_answer x o packet Refused (length ts) 0 ts) (omega (arith, a))
 
-  bounded_enough : (x : ℕ) (packet : List ℕ) (m : ℕ) (lacking : Bool) → nat_lt m (pages packet) ≡ lacking → m ≤ 256 →
-      Bounded within Any (if lacking then done outcome.TooFew else bind (read_targets w x (pages packet) []) (after_targets w x packet)) 263683
-  bounded_enough x packet m true e l = tt
-  bounded_enough x packet m false e l =
-      let few : pages packet ≤ 256 = omega (arith, ltb-false m (pages packet) e) in
-      let short : words packet ≤ 262144 = omega (arith, few) in
-      bounded_bind within (ArePosted 256) Any (read_targets w x (pages packet) []) (after_targets w x packet) (4 * pages packet) 262659 263683
-      (bounded_targets x 256 (pages packet) [] tt (omega (arith, few))) (λ p a. bounded_after_targets x packet p short a) (omega (arith, few))
+  bounded_enough : (x : ℕ) (o : RxOffload) (packet : List ℕ) (m : ℕ) (lacking : Bool) → nat_lt m (slots o packet) ≡ lacking → m ≤ 256 →
+      Bounded within Any (if lacking then done outcome.TooFew else bind (read_targets w x o (slots o packet) []) (after_targets w x o packet)) 263683
+  bounded_enough x o packet m true e l = tt
+  bounded_enough x o packet m false e l =
+      let few : slots o packet ≤ 256 = omega (arith, ltb-false m (slots o packet) e) in
+      let paged : pages packet ≤ slots o packet = more_slots (has_extra o) (pages packet) in
+      let short : words packet ≤ 262144 = omega (arith, few, paged) in
+      bounded_bind within (ArePosted 256) Any (read_targets w x o (slots o packet) []) (after_targets w x o packet) (4 * slots o packet) 262659 263683
+      (bounded_targets x o 256 (slots o packet) [] tt (omega (arith, few))) (λ p a. bounded_after_targets x o packet p short a) (omega (arith, few))
 
-  bounded_found : (x : ℕ) (packet : List ℕ) (o : Option ℕ) → ((m : ℕ) → o ≡ Some m → m ≤ 256) → Bounded within Any (found w x packet o) 263683
-  bounded_found x packet None g = tt
-  bounded_found x packet (Some m) g = bounded_enough x packet m (nat_lt m (pages packet)) refl (g m refl)
+  bounded_found : (x : ℕ) (o : RxOffload) (packet : List ℕ) (shown : Option ℕ) → ((m : ℕ) → shown ≡ Some m → m ≤ 256) → Bounded within Any (found w x o packet shown) 263683
+  bounded_found x o packet None g = tt
+  bounded_found x o packet (Some m) g = bounded_enough x o packet m (nat_lt m (slots o packet)) refl (g m refl)
 
-  pub bounded_transmit : (x : ℕ) (packet : List ℕ) → Bounded within Any (transmit w x packet) 263684
-  bounded_transmit x packet = (omega arith, (rx_inside, omega arith), λ p. bounded_found x packet (available x p) (available_few x p))
+  pub bounded_transmit : (x : ℕ) (o : RxOffload) (packet : List ℕ) → Bounded within Any (transmit w x o packet) 263684
+  bounded_transmit x o packet = (omega arith, (rx_inside, omega arith), λ p. bounded_found x o packet (available x p) (available_few x p))

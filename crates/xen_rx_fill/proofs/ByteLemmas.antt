@@ -4,6 +4,7 @@ use Rattle.std.proofs.lemmas.Nat.{le_bytes_4}
 use Rattle.std.specs.Int.{w32, to_le_bytes}
 use Rattle.std.specs.Prelude.{slice_index}
 use Rattle.xen_netif.specs.Copy.{bytes_of}
+use Rattle.xen_netif.specs.declared.offload.RxOffload.{RxOffload}
 use Rattle.xen_rx_fill.specs.Bytes.{SentBytes, values_written}
 use Rattle.xen_rx_fill.specs.Packets.{word_of, words}
 use Rattle.xen_rx_fill.specs.Sending.{buffer_writes}
@@ -13,9 +14,9 @@ abbrev words_from : List ℕ → ℕ → ℕ → List ℕ
 words_from packet k zero = []
 words_from packet k (suc n) = word_of packet k ∷ words_from packet (k + 1) n
 
-written_words : (ts : List Target) (packet : List ℕ) (n k : ℕ) → values_written (buffer_writes ts packet n k) ≡ words_from packet k n
-written_words ts packet zero k = refl
-written_words ts packet (suc n) k = ap (λ l. word_of packet k ∷ l) (written_words ts packet n (k + 1))
+written_words : (o : RxOffload) (ts : List Target) (packet : List ℕ) (n k : ℕ) → values_written (buffer_writes o ts packet n k) ≡ words_from packet k n
+written_words o ts packet zero k = refl
+written_words o ts packet (suc n) k = ap (λ l. word_of packet k ∷ l) (written_words o ts packet n (k + 1))
 
 -- four bytes of a word
 pub four : (a b c d : ℕ) → a < 256 → b < 256 → c < 256 → d < 256 → to_le_bytes w32 (a + 2 ^ 8 * b + 2 ^ 16 * c + 2 ^ 24 * d) ≡ a ∷ b ∷ c ∷ d ∷ []
@@ -60,4 +61,4 @@ packet_bytes (a ∷ b ∷ c ∷ d ∷ rest) h =
     ∙ ap (λ n. packet ++ replicate n 0) (sym pad)
 
 pub sent_bytes : SentBytes
-sent_bytes ts packet h = ap bytes_of (written_words ts packet (words packet) 0) ∙ packet_bytes packet h
+sent_bytes o ts packet h = ap bytes_of (written_words o ts packet (words packet) 0) ∙ packet_bytes packet h

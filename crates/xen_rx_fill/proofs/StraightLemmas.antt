@@ -2,10 +2,11 @@
 use Rattle.std.proofs.Common.{◌≡◌, ℕ, ◌≤◌, List, [], ◌∷◌, Some, ap}
 use Rattle.std.specs.Prelude.{if◌then◌else◌}
 use Rattle.std.proofs.lemmas.Bool.{le-ltb}
+use Rattle.xen_netif.specs.declared.offload.RxOffload.{RxOffload}
 use Rattle.xen_steps.specs.Drive.{Goes, LedBy}
 use Rattle.xen_steps.specs.Event.{Event}
 use Rattle.xen_steps.specs.Steps.{Steps, done, ask, never, bind}
-use Rattle.xen_rx_fill.specs.Packets.{pages}
+use Rattle.xen_rx_fill.specs.Packets.{slots}
 use Rattle.xen_rx_fill.specs.Transmit.{after_targets, found, read_targets}
 use Rattle.xen_rx_fill.specs.declared.by_event.phase.Outcome.TheVariants as outcome
 use Rattle.xen_rx_fill.specs.declared.vif.Vif.{Vif}
@@ -20,5 +21,5 @@ gone_bind s s' [] f g = ap (λ q. bind q f) g
 gone_bind s s' (e ∷ t) f g = (bind g.0 f, goes_bind s g.0 e f g.1, gone_bind g.0 s' t f g.2)
 
 -- Enough slots are shown.
-pub found_enough : (w : Vif) (x : ℕ) (packet : List ℕ) (m : ℕ) → pages packet ≤ m → found w x packet (Some m) ≡ bind (read_targets w x (pages packet) []) (after_targets w x packet)
-found_enough w x packet m h = ap (λ b. if b then done outcome.TooFew else bind (read_targets w x (pages packet) []) (after_targets w x packet)) (le-ltb m (pages packet) h)
+pub found_enough : (w : Vif) (x : ℕ) (o : RxOffload) (packet : List ℕ) (m : ℕ) → slots o packet ≤ m → found w x o packet (Some m) ≡ bind (read_targets w x o (slots o packet) []) (after_targets w x o packet)
+found_enough w x o packet m h = ap (λ b. if b then done outcome.TooFew else bind (read_targets w x o (slots o packet) []) (after_targets w x o packet)) (le-ltb m (slots o packet) h)

@@ -9,3 +9,4 @@ pub mod Sending
 pub mod Touched
 pub mod Wired
 pub mod Bytes
+pub mod Whole

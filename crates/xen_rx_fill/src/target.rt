@@ -3,7 +3,7 @@
 use arrayvec::ArrayVec;
 use std::marker::Model;
 
-/// A posted slot: its id, and the frame that its grant lends for writing, unless it was refused.
+/// A posted slot: its id, and the frame that its grant lends for writing, unless it was refused, or the slot takes the extra.
 #[derive(Clone, Copy, Debug, Default, PartialEq, Eq)]
 pub struct Target {
     pub id: u16,
@@ -19,10 +19,10 @@ pub enum Grants {
     Refused,
 }
 
-/// At most 16 slots, one for each page of a packet. Contracts see the list of them.
+/// At most 17 slots, one for each page of a packet and one for an extra. Contracts see the list of them.
 #[derive(Drop)]
 pub struct Targets {
-    slots: ArrayVec<Target, 16>,
+    slots: ArrayVec<Target, 17>,
 }
 
 impl Model for Targets {
@@ -33,7 +33,7 @@ impl Model for Targets {
 
     ghost view = { λ c. c.slots.items };
 
-    ghost invariant = { λ c. length c.slots.items ≤ 16 };
+    ghost invariant = { λ c. length c.slots.items ≤ 17 };
 }
 
 impl Targets {
@@ -48,7 +48,7 @@ impl Targets {
     }
 
     pub fn push(&mut self, target: Target)
-        requires { length self.old < 16 }
+        requires { length self.old < 17 }
         ensures { self.new ≡ self.old ++ target ∷ [] }
     {
         self.slots.push(target);
@@ -56,7 +56,7 @@ impl Targets {
 
     pub fn len(&self) -> u32
         ensures value { result ≡ length self.now }
-        ensures few { result ≤ 16 }
+        ensures few { result ≤ 17 }
     {
         self.slots.len() as u32
     }

@@ -3,6 +3,7 @@ use Rattle.xen_steps.specs.Drive.{Any, IsPageWant}
 use Rattle.xen_steps.specs.declared.want.Want.{Want}
 use Rattle.xen_steps.specs.declared.want.Want.TheVariants as wants
 use Rattle.xen_steps.proofs.DriveLemmas.{bounded_wider}
+use Rattle.xen_netif.specs.declared.offload.RxOffload.TheVariants.{Whole}
 use Rattle.xen_rx_fill.proofs.Bounds.{IsThere, bounded_entry_at, bounded_transmit, frame_inside}
 use Rattle.xen_turns.specs.Within.{IsWithin}
 use Rattle.std.proofs.Common.{◌≡◌, ℕ, zero, suc, ◌+◌, ◌-◌, ◌*◌, ◌/◌, ◌%◌, ◌<◌, ◌≤◌, ◌^◌, Bool, true, false, ◌&&◌, List, [], ◌∷◌, ◌++◌, Option, Some, None, Result, Ok, Err, refl, sym, ◌∙◌, ap, length, arith, length-append, subst, nat_lt}
@@ -160,8 +161,8 @@ module _ (w : Wiring) (shapes : List Shape) (h : IsWired w.vif) where
   page_within (wants.Notify port) p = tt
   page_within wants.Done p = absurd p
 
-  bounded_sent : (x : ℕ) (packet : List ℕ) → Bounded within Any (transmit w.vif x packet) 263684
-  bounded_sent x packet = bounded_wider (IsPageWant size) within page_within Any (transmit w.vif x packet) 263684 (bounded_transmit w.vif h x packet)
+  bounded_sent : (x : ℕ) (packet : List ℕ) → Bounded within Any (transmit w.vif x Whole packet) 263684
+  bounded_sent x packet = bounded_wider (IsPageWant size) within page_within Any (transmit w.vif x Whole packet) 263684 (bounded_transmit w.vif h x Whole packet)
 
   bounded_entry_within : (rights : Rights) (gref : ℕ) → Bounded within (IsThere w.vif h) (entry w.vif rights gref) 2
   bounded_entry_within rights gref =
@@ -221,7 +222,7 @@ module _ (w : Wiring) (shapes : List Shape) (h : IsWired w.vif) where
   bounded_ran : (s : State) (slots : List Slot) (r : Left) (tx : Bool) → length slots ≤ 23 →
       Bounded within Any (if tx then send w s slots r.packet r.ops else respond w s slots (status_of r.number) (Ran r.number r.packet r.ops (length slots))) 263710
   bounded_ran s slots r true few =
-      bounded_bind within Any Any (transmit w.vif s.rx_index r.packet) (after_transmit w s slots r.packet r.ops) 263684 26 263710 (bounded_sent s.rx_index r.packet) (λ o u. bounded_after_transmit s slots r.packet r.ops o few) (omega arith)
+      bounded_bind within Any Any (transmit w.vif s.rx_index Whole r.packet) (after_transmit w s slots r.packet r.ops) 263684 26 263710 (bounded_sent s.rx_index r.packet) (λ o u. bounded_after_transmit s slots r.packet r.ops o few) (omega arith)
   bounded_ran s slots r false few =
       bounded_le within Any (respond w s slots (status_of r.number) (Ran r.number r.packet r.ops (length slots))) 26 263710 (bounded_respond s slots (status_of r.number) (Ran r.number r.packet r.ops (length slots)) few) (omega arith)
 

@@ -1,6 +1,7 @@
 -- A turn ends, whatever it is answered, and so a queue between turns has a rest.
 use Rattle.xen_turns.proofs.ChainLemmas.{is_open}
 use Rattle.xen_steps.proofs.FinishLemmas.{ends_bind, ends_by, ends_gone, finishes_any, some_run}
+use Rattle.xen_netif.specs.declared.offload.RxOffload.TheVariants.{Whole}
 use Rattle.xen_rx_fill.proofs.EndLemmas.{ends_entry, ends_transmit}
 use Rattle.std.proofs.Common.{◌≡◌, ℕ, zero, suc, ◌+◌, ◌%◌, ◌<◌, ◌^◌, Bool, true, false, IsTrue, List, [], ◌∷◌, ◌++◌, Option, Some, None, Result, Ok, Err, refl, length, arith, subst, take, drop, ◌≤◌, sum_by}
 use Rattle.std.specs.Prelude.{if◌then◌else◌, ◌==◌, slice_index}
@@ -200,7 +201,7 @@ module _ (w : Wiring) where
   ends_after_run s slots r = by (r.number == 3)
     where
       by : (b : Bool) → Ends Any (if b then send w s slots r.packet r.ops else respond w s slots (status_of r.number) (Ran r.number r.packet r.ops (length slots)))
-      by true = ends_bind Any Any (transmit w.vif s.rx_index r.packet) (after_transmit w s slots r.packet r.ops) (ends_transmit w.vif s.rx_index r.packet) (λ o u. ends_after_transmit s slots r.packet r.ops o)
+      by true = ends_bind Any Any (transmit w.vif s.rx_index Whole r.packet) (after_transmit w s slots r.packet r.ops) (ends_transmit w.vif s.rx_index Whole r.packet) (λ o u. ends_after_transmit s slots r.packet r.ops o)
       by false = ends_respond s slots (status_of r.number) (Ran r.number r.packet r.ops (length slots))
 
   module _ (whole : (packet : List ℕ) → length packet ≤ 65535 → AllBytes packet → IsWhole (run_of w packet)) where

@@ -1,4 +1,5 @@
 -- How many accesses a turn makes at most.
+use Rattle.xen_netif.specs.declared.offload.RxOffload.TheVariants.{Whole}
 use Rattle.xen_rx_fill.specs.declared.by_event.phase.Outcome.{Outcome}
 use Rattle.bpf_verify.specs.Consistent.{instructions}
 use Rattle.xen_steps.proofs.FigureLemmas.{HasAtMost, most_append, most_more}
@@ -227,16 +228,16 @@ turn_accesses w k most s _ _ _ (ran p p6 slots out a e g) =
     omega (arith, n_append p p6, r.0, r.1, n_respond w s.tx_index slots (status_of out.number) p6 g)
 turn_accesses w k most s _ _ _ (halted_rx p p5 slots out a e t) =
     let r = n_run w k most s p slots out a in
-    omega (arith, n_append p p5, r.0, n_transmit w.vif s.rx_index out.packet p5 _ r.2 t)
+    omega (arith, n_append p p5, r.0, n_transmit w.vif s.rx_index Whole out.packet p5 _ r.2 t)
 turn_accesses w k most s _ _ _ (refused_few p p5 p6 slots out a e t g) =
     let r = n_run w k most s p slots out a in
-    omega (arith, n_append p (p5 ++ p6), n_append p5 p6, r.0, r.1, n_transmit w.vif s.rx_index out.packet p5 _ r.2 t, n_respond w s.tx_index slots Error p6 g)
+    omega (arith, n_append p (p5 ++ p6), n_append p5 p6, r.0, r.1, n_transmit w.vif s.rx_index Whole out.packet p5 _ r.2 t, n_respond w s.tx_index slots Error p6 g)
 turn_accesses w k most s _ _ _ (refused_rx p p5 p6 used slots out a e t g) =
     let r = n_run w k most s p slots out a in
-    omega (arith, n_append p (p5 ++ p6), n_append p5 p6, r.0, r.1, n_transmit w.vif s.rx_index out.packet p5 _ r.2 t, n_respond w s.tx_index slots Error p6 g)
+    omega (arith, n_append p (p5 ++ p6), n_append p5 p6, r.0, r.1, n_transmit w.vif s.rx_index Whole out.packet p5 _ r.2 t, n_respond w s.tx_index slots Error p6 g)
 turn_accesses w k most s _ _ _ (ran_tx p p5 p6 used slots out a e t g) =
     let r = n_run w k most s p slots out a in
-    omega (arith, n_append p (p5 ++ p6), n_append p5 p6, r.0, r.1, n_transmit w.vif s.rx_index out.packet p5 _ r.2 t, n_respond w s.tx_index slots Okay p6 g)
+    omega (arith, n_append p (p5 ++ p6), n_append p5 p6, r.0, r.1, n_transmit w.vif s.rx_index Whole out.packet p5 _ r.2 t, n_respond w s.tx_index slots Okay p6 g)
 
 -- the instructions and the notices
 most_look : (w : Wiring) (t : ℕ) (p : List Event) (o : Option ℕ) → IsLook w t p o → HasAtMost p 0 0
@@ -305,11 +306,11 @@ module _ (w : Wiring) (s : State) where
   up : (p : List Event) (a b : ℕ) → HasAtMost p a b → a ≤ steps → b ≤ 2 → HasAtMost p steps 2
   up p a b h l m = most_more p a b steps 2 h l m
 
-  most_sent : (p p5 p6 : List Event) (slots : List Slot) (out : Left) (o : Outcome) (st : Status) → HasRun w s p slots out → IsTransmit w.vif s.rx_index out.packet p5 o → IsRespond w s.tx_index slots st p6 →
+  most_sent : (p p5 p6 : List Event) (slots : List Slot) (out : Left) (o : Outcome) (st : Status) → HasRun w s p slots out → IsTransmit w.vif s.rx_index Whole out.packet p5 o → IsRespond w s.tx_index slots st p6 →
       HasAtMost (p ++ (p5 ++ p6)) steps 2
   most_sent p p5 p6 slots out o st a t g =
       up (p ++ (p5 ++ p6)) (steps + (0 + 0)) (0 + (1 + 1)) (most_append p (p5 ++ p6) steps 0 (0 + 0) (1 + 1) (most_run w s p slots out a)
-      (most_append p5 p6 0 1 0 1 (most_transmit w.vif s.rx_index out.packet p5 o t) (most_respond w s.tx_index slots st p6 g))) (omega arith) (omega arith)
+      (most_append p5 p6 0 1 0 1 (most_transmit w.vif s.rx_index Whole out.packet p5 o t) (most_respond w s.tx_index slots st p6 g))) (omega arith) (omega arith)
 
   pub turn_most : (p : List Event) (new : State) (u : Turned) → IsTurn w s p new u → HasAtMost p steps 2
   turn_most _ _ _ (still_halted cause h) = record { steps = omega arith; told = omega arith }
@@ -326,7 +327,7 @@ module _ (w : Wiring) (s : State) where
   turn_most _ _ _ (ran p p6 slots out a e g) =
       up (p ++ p6) (steps + 0) (0 + 1) (most_append p p6 steps 0 0 1 (most_run w s p slots out a) (most_respond w s.tx_index slots (status_of out.number) p6 g)) (omega arith) (omega arith)
   turn_most _ _ _ (halted_rx p p5 slots out a e t) =
-      up (p ++ p5) (steps + 0) (0 + 1) (most_append p p5 steps 0 0 1 (most_run w s p slots out a) (most_transmit w.vif s.rx_index out.packet p5 _ t)) (omega arith) (omega arith)
+      up (p ++ p5) (steps + 0) (0 + 1) (most_append p p5 steps 0 0 1 (most_run w s p slots out a) (most_transmit w.vif s.rx_index Whole out.packet p5 _ t)) (omega arith) (omega arith)
   turn_most _ _ _ (refused_few p p5 p6 slots out a e t g) = most_sent p p5 p6 slots out _ Error a t g
   turn_most _ _ _ (refused_rx p p5 p6 used slots out a e t g) = most_sent p p5 p6 slots out _ Error a t g
   turn_most _ _ _ (ran_tx p p5 p6 used slots out a e t g) = most_sent p p5 p6 slots out _ Okay a t g

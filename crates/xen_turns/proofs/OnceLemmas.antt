@@ -23,9 +23,10 @@ use Rattle.xen_ring.specs.Index.{distance, is_due}
 use Rattle.xen_steps.specs.Event.{Event, Read, Write, Instr, Load, Add, Notify}
 use Rattle.xen_steps.specs.Pages.{page_reads}
 use Rattle.xen_steps.specs.Places.{add32, available, page_word}
+use Rattle.xen_netif.specs.declared.offload.RxOffload.TheVariants.{Whole}
 use Rattle.xen_rx_fill.specs.Places.{rx_slot, rx_word, tx_slot, tx_word}
 use Rattle.xen_rx_fill.specs.Packets.{pages, words}
-use Rattle.xen_rx_fill.specs.Sending.{AreTargets, IsPosted, IsRxRespond, IsTransmit, all, buffer_writes, is_posted, passing, refused, refusing, rx_overflow, rx_writes, sent, too_few}
+use Rattle.xen_rx_fill.specs.Sending.{AreTargets, IsPosted, IsRxRespond, IsTransmit, all, buffer_writes, is_posted, for_extra, passing, refused, refusing, rx_overflow, rx_writes, sent, too_few}
 use Rattle.xen_rx_fill.specs.declared.by_event.phase.Outcome.{Outcome}
 use Rattle.xen_rx_fill.specs.declared.by_event.phase.Outcome.TheVariants as outcome
 use Rattle.xen_rx_fill.specs.declared.target.Grants.{Grants}
@@ -177,10 +178,10 @@ posted_read w i _ _ _ (is_posted a g p r la lg e) =
 
 pub targets_once : TargetsOnce
 targets_once w x _ _ _ _ _ (all i) = ([], refl, refl, tt)
-targets_once w x _ _ _ _ _ (refusing i left id p fault o) =
+targets_once w x _ _ _ _ _ (refusing i left id p fault none o) =
     let q = posted_read w (add32 x i) p id (Err fault) o in
     (q.0 ∷ [], refl, q.1 ∙ ap (λ l. rx_slot w.vif (add32 x i) 0 ∷ rx_slot w.vif (add32 x i) 1 ∷ l) (sym (append-nil (entry_places (entry_place w.vif.table.now q.0)))), (q.2, tt))
-targets_once w x _ _ _ _ _ (passing i left id frame p q grants ts o a) =
+targets_once w x _ _ _ _ _ (passing i left id frame p q grants ts none o a) =
     let first = posted_read w (add32 x i) p id (Ok frame) o in
     let later = targets_once w x (i + 1) left q grants ts a in (
       first.0 ∷ later.0,
@@ -189,6 +190,7 @@ targets_once w x _ _ _ _ _ (passing i left id frame p q grants ts o a) =
           ∙ ap (λ l. rx_slot w.vif (add32 x i) 0 ∷ rx_slot w.vif (add32 x i) 1 ∷ (entry_places (entry_place w.vif.table.now first.0) ++ l)) later.2,
       (Contains-append_left p q (Read (rx_slot w.vif (add32 x i) 1) first.0) first.2, posted_within w x (i + 1) later.0 q (p ++ q) (λ e h. Contains-append_right p q e h) later.3),
     )
+targets_once w x _ _ _ _ _ (for_extra i left a g q grants ts some la lg f) = absurd (let wrong : false ≡ true = some in cc)
 
 no_responses : (w : Wiring) (t i : ℕ) (rs : List ℕ) → places_read (response_writes w t i rs) ≡ []
 no_responses w t i [] = refl
@@ -286,26 +288,27 @@ ran_reads w s p q slots out last h e =
     }
 
 -- a transmit writes its buffers and responses, and reads none of them
-no_words : (ts : List Target) (packet : List ℕ) (n k : ℕ) → places_read (buffer_writes ts packet n k) ≡ []
+no_words : (ts : List Target) (packet : List ℕ) (n k : ℕ) → places_read (buffer_writes Whole ts packet n k) ≡ []
 no_words ts packet zero k = refl
 no_words ts packet (suc n) k = no_words ts packet n (k + 1)
 
-no_rx_responses : (w : Wiring) (x : ℕ) (packet : List ℕ) (grants : Grants) (n i : ℕ) (ts : List Target) → places_read (rx_writes w.vif x packet grants n i ts) ≡ []
+no_rx_responses : (w : Wiring) (x : ℕ) (packet : List ℕ) (grants : Grants) (n i : ℕ) (ts : List Target) → places_read (rx_writes w.vif x Whole packet grants n i ts) ≡ []
 no_rx_responses w x packet grants n i [] = refl
 no_rx_responses w x packet grants n i (t ∷ ts) = no_rx_responses w x packet grants n (i + 1) ts
 
-rx_respond_read : (w : Wiring) (x : ℕ) (packet : List ℕ) (grants : Grants) (ts : List Target) (p : List Event) → IsRxRespond w.vif x packet grants ts p → places_read p ≡ rx_word w.vif 3 ∷ []
+rx_respond_read : (w : Wiring) (x : ℕ) (packet : List ℕ) (grants : Grants) (ts : List Target) (p : List Event) → IsRxRespond w.vif x Whole packet grants ts p → places_read p ≡ rx_word w.vif 3 ∷ []
 rx_respond_read w x packet grants ts p h =
     let due = is_due x (add32 x (length ts)) h.0 in
-    let writes = rx_writes w.vif x packet grants (length ts) 0 ts in
+    let writes = rx_writes w.vif x Whole packet grants (length ts) 0 ts in
     let last : List Event = Write (rx_word w.vif 2) (add32 x (length ts)) ∷ Read (rx_word w.vif 3) h.0 ∷ notices w.vif due in
     ap places_read h.2 ∙ places_read-append writes last ∙ ap (λ l. l ++ places_read last) (no_rx_responses w x packet grants (length ts) 0 ts) ∙ ap (λ l. rx_word w.vif 3 ∷ l) (no_notices w due)
 
 -- as many slots pass as were wanted
-all_passed : (w : Wiring) (x i left : ℕ) (p : List Event) (grants : Grants) (ts : List Target) → AreTargets w.vif x i left p grants ts → grants ≡ Passed → length ts ≡ left
+all_passed : (w : Wiring) (x i left : ℕ) (p : List Event) (grants : Grants) (ts : List Target) → AreTargets w.vif x Whole i left p grants ts → grants ≡ Passed → length ts ≡ left
 all_passed w x _ _ _ _ _ (all i) e = refl
-all_passed w x _ _ _ _ _ (refusing i left id p fault o) e = let no : ⊥ = cc in absurd no
-all_passed w x _ _ _ _ _ (passing i left id frame p q grants ts o a) e = ap suc (all_passed w x (i + 1) left q grants ts a e)
+all_passed w x _ _ _ _ _ (refusing i left id p fault none o) e = let no : ⊥ = cc in absurd no
+all_passed w x _ _ _ _ _ (passing i left id frame p q grants ts none o a) e = ap suc (all_passed w x (i + 1) left q grants ts a e)
+all_passed w x _ _ _ _ _ (for_extra i left a g q grants ts some la lg f) e = absurd (let wrong : false ≡ true = some in cc)
 
 abbrev Sent : Wiring → ℕ → List ℕ → List Event → Outcome → Type 0
 Sent w x packet p outcome.Overflow = places_read p ≡ rx_word w.vif 0 ∷ []
@@ -317,7 +320,7 @@ Sent w x packet p (outcome.Sent used) = (grefs : List ℕ) × (length grefs ≡ 
 behind_producer : (a : Event) (p1 p2 : List Event) → Within p1 (a ∷ (p1 ++ p2))
 behind_producer a p1 p2 e h = let c = Contains-append_left p1 p2 e h in let less = c.1 in (suc c.0, omega (arith, less), c.2)
 
-sent_reads : (w : Wiring) (x : ℕ) (packet : List ℕ) (p : List Event) (o : Outcome) → IsTransmit w.vif x packet p o → Sent w x packet p o
+sent_reads : (w : Wiring) (x : ℕ) (packet : List ℕ) (p : List Event) (o : Outcome) → IsTransmit w.vif x Whole packet p o → Sent w x packet p o
 sent_reads w x packet _ _ (rx_overflow p l e) = refl
 sent_reads w x packet _ _ (too_few p m l e f) = refl
 sent_reads w x packet _ _ (refused p m p1 p2 ts l e f a r) =
@@ -328,7 +331,7 @@ sent_reads w x packet _ _ (refused p m p1 p2 ts l e f a r) =
     )
 sent_reads w x packet _ _ (sent p m p1 p2 ts l e f a r) =
     let t = targets_once w x 0 (pages packet) p1 Passed ts a in
-    let writes = buffer_writes ts packet (words packet) 0 in
+    let writes = buffer_writes Whole ts packet (words packet) 0 in
     let end : places_read (writes ++ p2) ≡ rx_word w.vif 3 ∷ [] =
     places_read-append writes p2 ∙ ap (λ l. l ++ places_read p2) (no_words ts packet (words packet) 0) ∙ rx_respond_read w x packet Passed ts p2 r in (
       t.0,

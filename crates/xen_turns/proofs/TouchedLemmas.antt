@@ -1,5 +1,6 @@
 -- The places that a turn touches.
 use Rattle.bpf_note.specs.declared.op.Op.TheVariants as op
+use Rattle.xen_netif.specs.declared.offload.RxOffload.TheVariants.{Whole}
 use Rattle.xen_rx_fill.proofs.TouchedLemmas.{front, back, granted_on, all_on, append, both, of_notices, of_entry, grants_by, of_transmit}
 use Rattle.std.proofs.Common.{ℕ, ◌+◌, ◌*◌, ◌/◌, ◌%◌, ◌≤◌, List, [], ◌∷◌, ◌++◌, Option, Some, None, Ok, Err, refl, sym, length, map, arith, subst, inl}
 use Rattle.bpf_note.specs.declared.op.Op.{Op}
@@ -98,7 +99,7 @@ turn_touches w s _ _ _ (refused_grant p1 p2 p3 p6 n slots fragments a v f c g) =
     let r = of_read w s n p1 p2 slots a in
     both w.vif p1 (p2 ++ (p3 ++ p6)) r.0 (both w.vif p2 (p3 ++ p6) r.1 (both w.vif p3 p6 (of_copy w fragments p3 None (fragments_are w.offers slots fragments f).in_page c) (of_respond w s.tx_index slots Error p6 g)))
 turn_touches w s _ _ _ (ran p p6 slots out a e g) = both w.vif p p6 (of_run w s p slots out a) (of_respond w s.tx_index slots (status_of out.number) p6 g)
-turn_touches w s _ _ _ (halted_rx p p5 slots out a e t) = both w.vif p p5 (of_run w s p slots out a) (of_transmit w.vif s.rx_index out.packet p5 _ t)
-turn_touches w s _ _ _ (refused_few p p5 p6 slots out a e t g) = both w.vif p (p5 ++ p6) (of_run w s p slots out a) (both w.vif p5 p6 (of_transmit w.vif s.rx_index out.packet p5 _ t) (of_respond w s.tx_index slots Error p6 g))
-turn_touches w s _ _ _ (refused_rx p p5 p6 used slots out a e t g) = both w.vif p (p5 ++ p6) (of_run w s p slots out a) (both w.vif p5 p6 (of_transmit w.vif s.rx_index out.packet p5 _ t) (of_respond w s.tx_index slots Error p6 g))
-turn_touches w s _ _ _ (ran_tx p p5 p6 used slots out a e t g) = both w.vif p (p5 ++ p6) (of_run w s p slots out a) (both w.vif p5 p6 (of_transmit w.vif s.rx_index out.packet p5 _ t) (of_respond w s.tx_index slots Okay p6 g))
+turn_touches w s _ _ _ (halted_rx p p5 slots out a e t) = both w.vif p p5 (of_run w s p slots out a) (of_transmit w.vif s.rx_index Whole out.packet p5 _ t)
+turn_touches w s _ _ _ (refused_few p p5 p6 slots out a e t g) = both w.vif p (p5 ++ p6) (of_run w s p slots out a) (both w.vif p5 p6 (of_transmit w.vif s.rx_index Whole out.packet p5 _ t) (of_respond w s.tx_index slots Error p6 g))
+turn_touches w s _ _ _ (refused_rx p p5 p6 used slots out a e t g) = both w.vif p (p5 ++ p6) (of_run w s p slots out a) (both w.vif p5 p6 (of_transmit w.vif s.rx_index Whole out.packet p5 _ t) (of_respond w s.tx_index slots Error p6 g))
+turn_touches w s _ _ _ (ran_tx p p5 p6 used slots out a e t g) = both w.vif p (p5 ++ p6) (of_run w s p slots out a) (both w.vif p5 p6 (of_transmit w.vif s.rx_index Whole out.packet p5 _ t) (of_respond w s.tx_index slots Okay p6 g))

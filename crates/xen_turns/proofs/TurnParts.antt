@@ -17,6 +17,7 @@ use Rattle.xen_netif.specs.declared.status.Status.TheVariants.{Okay, Error}
 use Rattle.xen_ring.specs.Index.{is_due}
 use Rattle.xen_steps.specs.Event.{Event, Read, Write}
 use Rattle.xen_steps.specs.Places.{add32, available}
+use Rattle.xen_netif.specs.declared.offload.RxOffload.TheVariants.{Whole}
 use Rattle.xen_rx_fill.specs.Places.{tx_slot, tx_word}
 use Rattle.xen_steps.specs.Steps.{Runs}
 use Rattle.xen_turns.specs.Tree.{Left, Scan, look, seen, after_look, read_slot, read_slots, judged, after_scan, after_chain, after_copy, after_run, after_transmit, after_slots, send, answer, notice, respond, responses, answered, copy, program, run_of, status_of, unless_halted, whole_turn}
@@ -192,7 +193,7 @@ ended w s p r a b h t = subst (λ (z : Ending). IsTurn w s p z.0 z.1) h t
 
 -- the rows
 module _ (w : Wiring) (s : State) where
-  transmit_rows : (p p5 p6 : List Event) (slots : List Slot) (out : Left) (o : Outcome) (r : Ending) → HasRun w s p slots out → out.number ≡ 3 → IsTransmit w.vif s.rx_index out.packet p5 o →
+  transmit_rows : (p p5 p6 : List Event) (slots : List Slot) (out : Left) (o : Outcome) (r : Ending) → HasRun w s p slots out → out.number ≡ 3 → IsTransmit w.vif s.rx_index Whole out.packet p5 o →
       Runs (after_transmit w s slots out.packet out.ops o) p6 r → IsTurn w s (p ++ (p5 ++ p6)) r.0 r.1
   transmit_rows p p5 [] slots out outcome.Overflow r a n t h = ended w s (p ++ (p5 ++ [])) r _ _ h (rw append-nil (halted_rx p p5 slots out a n t))
   transmit_rows p p5 (e ∷ p6) slots out outcome.Overflow r a n t h = absurd h
@@ -209,8 +210,8 @@ module _ (w : Wiring) (s : State) where
   run_rows : (p q : List Event) (slots : List Slot) (out : Left) (r : Ending) → HasRun w s p slots out → (tx : Bool) → (out.number == 3) ≡ tx →
       Runs (if tx then send w s slots out.packet out.ops else respond w s slots (status_of out.number) (Ran out.number out.packet out.ops (length slots))) q r → IsTurn w s (p ++ q) r.0 r.1
   run_rows p q slots out r a true e h =
-      let i = split (transmit w.vif s.rx_index out.packet) (after_transmit w s slots out.packet out.ops) q r h in
-      rw i.joined (transmit_rows p i.front i.back slots out i.mid r a (grind (arith, nat_tests)) (transmit_parts w.vif s.rx_index out.packet i.front i.mid i.first) i.later)
+      let i = split (transmit w.vif s.rx_index Whole out.packet) (after_transmit w s slots out.packet out.ops) q r h in
+      rw i.joined (transmit_rows p i.front i.back slots out i.mid r a (grind (arith, nat_tests)) (transmit_parts w.vif s.rx_index Whole out.packet i.front i.mid i.first) i.later)
   run_rows p q slots out r a false e h =
       let g = respond_parts w s slots (status_of out.number) (Ran out.number out.packet out.ops (length slots)) q r h in
       ended w s (p ++ q) r _ _ g.1 (ran p q slots out a (grind (arith, nat_tests)) g.0)

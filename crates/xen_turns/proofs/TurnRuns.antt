@@ -17,6 +17,7 @@ use Rattle.xen_netif.specs.declared.status.Status.TheVariants.{Okay, Error}
 use Rattle.xen_ring.specs.Index.{is_due}
 use Rattle.xen_steps.specs.Event.{Event, Read, Write}
 use Rattle.xen_steps.specs.Places.{add32, available}
+use Rattle.xen_netif.specs.declared.offload.RxOffload.TheVariants.{Whole}
 use Rattle.xen_rx_fill.specs.Places.{tx_word}
 use Rattle.xen_steps.specs.Steps.{done, Runs}
 use Rattle.xen_turns.specs.Tree.{Left, Scan, look, seen, after_look, read_slot, read_slots, judged, after_scan, after_chain, after_copy, after_run, after_transmit, after_slots, send, answer, notice, respond, responses, answered, copy, program, run_of, status_of, unless_halted, whole_turn}
@@ -170,12 +171,12 @@ is_three n e = grind (arith, nat_tests)
 pub not_three : (n : ℕ) → n ≢ 3 → (n == 3) ≡ false
 not_three n e = grind (arith, nat_tests)
 
-transmit_runs : (w : Wiring) (s : State) (p p5 p6 : List Event) (slots : List Slot) (out : Left) (o : Outcome) (r : Ending) → HasRun w s p slots out → out.number ≡ 3 → IsTransmit w.vif s.rx_index out.packet p5 o →
+transmit_runs : (w : Wiring) (s : State) (p p5 p6 : List Event) (slots : List Slot) (out : Left) (o : Outcome) (r : Ending) → HasRun w s p slots out → out.number ≡ 3 → IsTransmit w.vif s.rx_index Whole out.packet p5 o →
     Runs (after_transmit w s slots out.packet out.ops o) p6 r → Runs (whole_turn w s) (p ++ (p5 ++ p6)) r
 transmit_runs w s p p5 p6 slots out o r a n t h =
     run_runs w s p (p5 ++ p6) slots out r a
     (subst (λ b. Runs (if b then send w s slots out.packet out.ops else respond w s slots (status_of out.number) (Ran out.number out.packet out.ops (length slots))) (p5 ++ p6) r) (sym (is_three out.number n))
-    (join (transmit w.vif s.rx_index out.packet) (after_transmit w s slots out.packet out.ops) p5 p6 o r (runs_transmit w.vif s.rx_index out.packet p5 o t) h))
+    (join (transmit w.vif s.rx_index Whole out.packet) (after_transmit w s slots out.packet out.ops) p5 p6 o r (runs_transmit w.vif s.rx_index Whole out.packet p5 o t) h))
 
 pub runs_turn : (w : Wiring) (s : State) (p : List Event) (new : State) (u : Turned) → IsTurn w s p new u → Runs (whole_turn w s) p (new, u)
 runs_turn w s _ _ _ (still_halted cause h) = subst (λ (x : Option Halt). Runs (unless_halted w s x) [] (s, Halted cause)) (sym h) refl

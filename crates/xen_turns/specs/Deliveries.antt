@@ -1,6 +1,9 @@
 -- Stated: claims rest on this file.
 -- A delivery as a computation that asks, for a host that serves each event itself.
 use Rattle.std.specs.Prelude.{ℕ, Bool, true, false, List, length, Option, Some, None}
+use Rattle.xen_netif.specs.Offloads.{is_taken}
+use Rattle.xen_netif.specs.declared.offload.Accepts.{Accepts}
+use Rattle.xen_netif.specs.declared.offload.RxOffload.{RxOffload}
 use Rattle.xen_steps.specs.Drive.{IsPageWant, IsPageWant-prop}
 use Rattle.xen_steps.specs.Finish.{Finishes, Finishes-prop}
 use Rattle.xen_steps.specs.Steps.{Steps, bind, done}
@@ -30,16 +33,20 @@ arrival s (outcome.Sent used) = (after_slots s used, delivery.Sent used)
 abbrev pub arrived : State → Outcome → Steps Arrival
 arrived s o = done (arrival s o)
 
-abbrev pub unless_halted : Vif → State → List ℕ → Option Halt → Steps Arrival
-unless_halted w s packet (Some cause) = done (s, delivery.Halted cause)
-unless_halted w s packet None = bind (transmit w s.rx_index packet) (arrived s)
+abbrev pub unless_halted : Vif → State → RxOffload → List ℕ → Option Halt → Steps Arrival
+unless_halted w s o packet (Some cause) = done (s, delivery.Halted cause)
+unless_halted w s o packet None = bind (transmit w s.rx_index o packet) (arrived s)
 
-abbrev pub if_frame : Vif → State → List ℕ → Bool → Steps Arrival
-if_frame w s packet false = done (s, delivery.NoFrame)
-if_frame w s packet true = unless_halted w s packet s.halt
+abbrev pub if_taken : Vif → State → RxOffload → List ℕ → Bool → Steps Arrival
+if_taken w s o packet false = done (s, delivery.NotAccepted)
+if_taken w s o packet true = unless_halted w s o packet s.halt
 
-abbrev pub whole_delivery : Vif → State → List ℕ → Steps Arrival
-whole_delivery w s packet = if_frame w s packet (is_frame packet)
+abbrev pub if_frame : Vif → Accepts → State → RxOffload → List ℕ → Bool → Steps Arrival
+if_frame w accepts s o packet false = done (s, delivery.NoFrame)
+if_frame w accepts s o packet true = if_taken w s o packet (is_taken accepts (length packet) o)
+
+abbrev pub whole_delivery : Vif → Accepts → State → RxOffload → List ℕ → Steps Arrival
+whole_delivery w accepts s o packet = if_frame w accepts s o packet (is_frame packet)
 
 -- It ends, whatever it is answered, and until then wants nothing outside the frames.
 abbrev pub Arrives : Vif → Steps Arrival → Type 0

@@ -13,6 +13,7 @@ use Rattle.xen_page.specs.Table.{entry_place}
 use Rattle.xen_page.specs.declared.place.Place.{Place}
 use Rattle.xen_steps.specs.Event.{Event, Read}
 use Rattle.xen_steps.specs.Places.{add32, page_word}
+use Rattle.xen_netif.specs.declared.offload.RxOffload.TheVariants.{Whole}
 use Rattle.xen_rx_fill.specs.Packets.{pages}
 use Rattle.xen_rx_fill.specs.Places.{rx_slot, rx_word, tx_slot, tx_word}
 use Rattle.xen_rx_fill.specs.Sending.{AreTargets}
@@ -98,7 +99,7 @@ ArePosted w x i (gref ∷ grefs) p = Contains p (Read (rx_slot w.vif (add32 x i)
 
 -- Both words of each rx slot that a transmit takes are read, and its entry's words, one after another and nothing else.
 abbrev pub TargetsOnce : Type 0
-TargetsOnce = (w : Wiring) (x i left : ℕ) (p : List Event) (grants : Grants) (ts : List Target) → AreTargets w.vif x i left p grants ts →
+TargetsOnce = (w : Wiring) (x i left : ℕ) (p : List Event) (grants : Grants) (ts : List Target) → AreTargets w.vif x Whole i left p grants ts →
     (grefs : List ℕ) × (length grefs ≡ length ts) × (places_read p ≡ target_places w x i grefs) × ArePosted w x i grefs p
 
 -- The covered words of one frame are different words.

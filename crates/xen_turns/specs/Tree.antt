@@ -18,6 +18,7 @@ use Rattle.xen_netif.specs.declared.status.Status.TheVariants as status
 use Rattle.xen_page.specs.declared.fault.GrantFault.{GrantFault}
 use Rattle.xen_page.specs.declared.entry.Rights.TheVariants.{ReadOnly}
 use Rattle.xen_ring.specs.Index.{is_due}
+use Rattle.xen_netif.specs.declared.offload.RxOffload.TheVariants.{Whole}
 use Rattle.xen_rx_fill.specs.Entries.{entry}
 use Rattle.xen_steps.specs.Places.{add32, available}
 use Rattle.xen_rx_fill.specs.Places.{tx_slot, tx_word}
@@ -123,7 +124,7 @@ after_transmit w s slots packet ops (outcome.Refused used) = respond w (after_sl
 after_transmit w s slots packet ops (outcome.Sent used) = respond w (after_slots s used) slots status.Okay (Ran 3 packet ops (length slots))
 
 abbrev pub send : Wiring → State → List Slot → List ℕ → ℕ → Steps Ending
-send w s slots packet ops = bind (transmit w.vif s.rx_index packet) (after_transmit w s slots packet ops)
+send w s slots packet ops = bind (transmit w.vif s.rx_index Whole packet) (after_transmit w s slots packet ops)
 
 abbrev pub after_run : Wiring → State → List Slot → Left → Steps Ending
 after_run w s slots r =

@@ -10,6 +10,7 @@ use Rattle.xen_netif.specs.declared.status.Status.TheVariants.{Okay, Error}
 use Rattle.xen_steps.specs.Event.{Event}
 use Rattle.xen_turns.specs.Parts.{IsLook, IsBeginning, HasRead, IsCopy, IsRespond}
 use Rattle.xen_turns.specs.Program.{IsProgram}
+use Rattle.xen_netif.specs.declared.offload.RxOffload.TheVariants.{Whole}
 use Rattle.xen_rx_fill.specs.Sending.{IsTransmit}
 use Rattle.xen_turns.specs.Responses.{Left, answered, after_slots, status_of}
 use Rattle.xen_turns.specs.Turned.{Turned, Idle, Ran, Refused, Halted}
@@ -57,16 +58,16 @@ pub data IsTurn (w : Wiring) (s : State) : List Event → State → Turned → T
       IsRespond w s.tx_index slots (status_of out.number) answers →
       IsTurn w s (p ++ answers) (answered s (length slots)) (Ran out.number out.packet out.ops (length slots))
   halted_rx : (p sends : List Event) (slots : List Slot) (out : Left) → HasRun w s p slots out → out.number ≡ 3 →
-      IsTransmit w.vif s.rx_index out.packet sends outcome.Overflow →
+      IsTransmit w.vif s.rx_index Whole out.packet sends outcome.Overflow →
       IsTurn w s (p ++ sends) (record s { halt = Some halt.RxProducer }) (Halted halt.RxProducer)
   refused_few : (p sends answers : List Event) (slots : List Slot) (out : Left) → HasRun w s p slots out → out.number ≡ 3 →
-      IsTransmit w.vif s.rx_index out.packet sends outcome.TooFew → IsRespond w s.tx_index slots Error answers →
+      IsTransmit w.vif s.rx_index Whole out.packet sends outcome.TooFew → IsRespond w s.tx_index slots Error answers →
       IsTurn w s (p ++ (sends ++ answers)) (answered s (length slots)) (Refused refusal.FewSlots out.ops (length slots))
   refused_rx : (p sends answers : List Event) (used : ℕ) (slots : List Slot) (out : Left) → HasRun w s p slots out → out.number ≡ 3 →
-      IsTransmit w.vif s.rx_index out.packet sends (outcome.Refused used) →
+      IsTransmit w.vif s.rx_index Whole out.packet sends (outcome.Refused used) →
       IsRespond w s.tx_index slots Error answers → IsTurn w s (p ++ (sends ++ answers)) (answered (after_slots s used) (length slots))
       (Refused refusal.RxGrant out.ops (length slots))
   ran_tx : (p sends answers : List Event) (used : ℕ) (slots : List Slot) (out : Left) → HasRun w s p slots out → out.number ≡ 3 →
-      IsTransmit w.vif s.rx_index out.packet sends (outcome.Sent used) →
+      IsTransmit w.vif s.rx_index Whole out.packet sends (outcome.Sent used) →
       IsRespond w s.tx_index slots Okay answers → IsTurn w s (p ++ (sends ++ answers)) (answered (after_slots s used) (length slots))
       (Ran 3 out.packet out.ops (length slots))

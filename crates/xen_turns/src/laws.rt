@@ -4,6 +4,8 @@ ghost use Rattle.std.specs.Prelude.{ℕ, ◌≡◌, ◌<◌, ◌≤◌, ◌^◌,
 ghost use Rattle.xen_netif.specs.Segments.{no_offers};
 ghost use Rattle.xen_netif.specs.declared.fragment.Fragment.{Fragment};
 ghost use Rattle.bpf_verify.specs.Consistent.{IsConsistent, instructions};
+ghost use Rattle.xen_netif.specs.Offloads.{has_extra};
+ghost use Rattle.xen_netif.specs.declared.offload.RxOffload.{RxOffload};
 ghost use Rattle.xen_steps.specs.Answers.{Fits, counter_in, number, word_in};
 ghost use Rattle.xen_steps.specs.Drive.{Goes, LedBy, accesses, notices_in, program_events};
 ghost use Rattle.xen_ring.specs.Index.{is_due};
@@ -92,38 +94,40 @@ pub fn queues_have_rests()
 
 /// The ways of a delivery by events to its end are exactly the deliveries.
 pub fn deliveries_are_rests()
-    ensures rests { (w : Wiring) (s : State) (packet : List ℕ) (p : List Event) (after : State) (what : Delivery)
-        → Runs (whole_delivery w.vif s packet) p (after, what) → IsDelivery w s packet p after what }
-    ensures deliveries { (w : Wiring) (s : State) (packet : List ℕ) (p : List Event) (after : State) (what : Delivery)
-        → IsDelivery w s packet p after what → Runs (whole_delivery w.vif s packet) p (after, what) }
+    ensures rests { (w : Wiring) (s : State) (o : RxOffload) (packet : List ℕ) (p : List Event) (after : State) (what : Delivery)
+        → Runs (whole_delivery w.vif w.accepts s o packet) p (after, what) → IsDelivery w s o packet p after what }
+    ensures deliveries { (w : Wiring) (s : State) (o : RxOffload) (packet : List ℕ) (p : List Event) (after : State) (what : Delivery)
+        → IsDelivery w s o packet p after what → Runs (whole_delivery w.vif w.accepts s o packet) p (after, what) }
 {}
 
-/// A delivery makes at most 16,483 accesses, and sends at most one notice. It touches the rings, the table and the frames
-/// that were granted to it, and nothing else.
+/// A delivery makes at most 16,483 accesses, and four more for an extra; it sends at most one notice. It touches the rings,
+/// the table and the frames that were granted to it, and nothing else.
 pub fn deliveries_are_bounded()
-    ensures accesses { (w : Wiring) (s : State) (packet : List ℕ) (p : List Event) (after : State) (what : Delivery)
-        → IsDelivery w s packet p after what → length (accesses p) ≤ 16483 }
-    ensures notices { (w : Wiring) (s : State) (packet : List ℕ) (p : List Event) (after : State) (what : Delivery)
-        → IsDelivery w s packet p after what → notices_in p ≤ 1 }
-    ensures touches { (w : Wiring) (s : State) (packet : List ℕ) (p : List Event) (after : State) (what : Delivery)
-        → IsDelivery w s packet p after what → AllAllowed w.vif p p }
+    ensures accesses { (w : Wiring) (s : State) (o : RxOffload) (packet : List ℕ) (p : List Event) (after : State) (what : Delivery)
+        → IsDelivery w s o packet p after what → length (accesses p) ≤ 16487 }
+    ensures plain_accesses { (w : Wiring) (s : State) (o : RxOffload) (packet : List ℕ) (p : List Event) (after : State) (what : Delivery)
+        → has_extra o ≡ false → IsDelivery w s o packet p after what → length (accesses p) ≤ 16483 }
+    ensures notices { (w : Wiring) (s : State) (o : RxOffload) (packet : List ℕ) (p : List Event) (after : State) (what : Delivery)
+        → IsDelivery w s o packet p after what → notices_in p ≤ 1 }
+    ensures touches { (w : Wiring) (s : State) (o : RxOffload) (packet : List ℕ) (p : List Event) (after : State) (what : Delivery)
+        → IsDelivery w s o packet p after what → AllAllowed w.vif p p }
 {}
 
 /// The ways of a wait by events to its end are exactly the waits; it ends whatever it is answered, and wants words of the rx
 /// ring's page alone.
 pub fn waits_are_rests()
-    ensures rests { (w : Wiring) (s : State) (pages : ℕ) (p : List Event) (after : State) (what : Awaited)
-        → Runs (whole_wait w.vif.rx s pages) p (after, what) → IsAwaiting w s pages p after what }
-    ensures waits { (w : Wiring) (s : State) (pages : ℕ) (p : List Event) (after : State) (what : Awaited)
-        → IsAwaiting w s pages p after what → Runs (whole_wait w.vif.rx s pages) p (after, what) }
-    ensures ends { (frames rx : ℕ) (s : State) (pages : ℕ) → rx < frames → WaitEnds frames (whole_wait rx s pages) }
+    ensures rests { (w : Wiring) (s : State) (wanted : ℕ) (p : List Event) (after : State) (what : Awaited)
+        → Runs (whole_wait w.vif.rx s wanted) p (after, what) → IsAwaiting w s wanted p after what }
+    ensures waits { (w : Wiring) (s : State) (wanted : ℕ) (p : List Event) (after : State) (what : Awaited)
+        → IsAwaiting w s wanted p after what → Runs (whole_wait w.vif.rx s wanted) p (after, what) }
+    ensures ends { (frames rx : ℕ) (s : State) (wanted : ℕ) → rx < frames → WaitEnds frames (whole_wait rx s wanted) }
 {}
 
-/// If a host awaits `pages` rx slots, a push from fewer slots to `pages` or more owes a notice, and one that stays
+/// If a host awaits `wanted` rx slots, a push from fewer slots to `wanted` or more owes a notice, and one that stays
 /// below owes none.
 pub fn awaited_slots_are_told()
-    ensures told { (x m n pages : ℕ) → x < 2 ^ 32 → m < pages → pages ≤ n → n ≤ 256
-        → is_due (add32 x m) (add32 x n) (add32 x pages) ≡ true }
-    ensures below { (x m n pages : ℕ) → x < 2 ^ 32 → m ≤ n → n < pages → pages ≤ 256
-        → is_due (add32 x m) (add32 x n) (add32 x pages) ≡ false }
+    ensures told { (x m n wanted : ℕ) → x < 2 ^ 32 → m < wanted → wanted ≤ n → n ≤ 256
+        → is_due (add32 x m) (add32 x n) (add32 x wanted) ≡ true }
+    ensures below { (x m n wanted : ℕ) → x < 2 ^ 32 → m ≤ n → n < wanted → wanted ≤ 256
+        → is_due (add32 x m) (add32 x n) (add32 x wanted) ≡ false }
 {}

@@ -2,7 +2,7 @@
 
 use bpf_lists::MapList;
 use bpf_verify::Verified;
-use xen_netif::Offers;
+use xen_netif::{Accepts, Offers};
 use xen_rx_fill::Vif;
 
 /// What a queue shares with its frontend and offers it, and its program with the lists of its maps and the numbers that it sees.
@@ -10,6 +10,8 @@ use xen_rx_fill::Vif;
 pub struct Wiring<'p> {
     pub vif: Vif<'p>,
     pub offers: Offers,
+    /// What the frontend accepts of the host's packets.
+    pub accepts: Accepts,
     pub program: &'p Verified,
     /// What is given for the maps that are no arrays, by the maps' numbers. A map without rows finds nothing, and one without
     /// constants reads 0.

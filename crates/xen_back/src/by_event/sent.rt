@@ -1,7 +1,8 @@
 //! Sending a packet back: a transmit, and the answer to the packet's chain.
 
-ghost use Rattle.std.specs.Prelude.{◌≡◌, List, ℕ};
+ghost use Rattle.std.specs.Prelude.{◌≡◌, ◌≤◌, List, ℕ, length};
 ghost use Rattle.xen_back.specs.Rest.{rest_at, rest_in};
+ghost use Rattle.xen_netif.specs.declared.offload.RxOffload.TheVariants.{Whole};
 ghost use Rattle.xen_rx_fill.specs.Rest.{rest_after, rest_of};
 ghost use Rattle.xen_steps.specs.Steps.{bind, next_by, want_of};
 ghost use Rattle.xen_turns.specs.Tree.{after_transmit, send};
@@ -15,8 +16,8 @@ use crate::by_event::phase::Phase;
 use crate::by_event::stage::{Stage, Transmitting};
 use crate::copy_buf::CopyBuf;
 use xen_host::Room;
-use xen_netif::Chain;
-use xen_rx_fill::{Outcome, Progress, Transmit};
+use xen_netif::{Chain, RxOffload};
+use xen_rx_fill::{Outcome, Packet, Progress, Transmit};
 use xen_steps::Want;
 use xen_turns::decisions::{Reply, after_sending};
 use xen_turns::{State, Wiring};
@@ -32,6 +33,18 @@ pub(crate) fn begin_send(chain: Chain, ops: u32) -> Transmitting
     }
 }
 
+/// The packet, which leaves the frontend nothing to do.
+fn whole<'t>(packet: &'t CopyBuf<'_>) -> Packet<'t>
+    ensures offload { result.offload ≡ Whole }
+    ensures same { result.bytes.now ≡ packet.now }
+    ensures short { length result.bytes.now ≤ 65535 }
+{
+    Packet {
+        offload: RxOffload::Whole,
+        bytes: packet.bytes(),
+    }
+}
+
 /// What a transmit wants.
 pub(crate) fn sent_want(
     wiring: &Wiring,
@@ -39,11 +52,11 @@ pub(crate) fn sent_want(
     packet: &CopyBuf,
     sent: &Transmitting,
 ) -> Want
-    ensures { result ≡ want_of (bind (rest_of wiring.now.vif state.now.rx_index packet.now sent.now.transmit.phase)
+    ensures { result ≡ want_of (bind (rest_of wiring.now.vif state.now.rx_index Whole packet.now sent.now.transmit.phase)
         (after_transmit wiring.now state.now sent.now.chain packet.now sent.now.ops)) }
 {
     sent.transmit
-        .want(&wiring.vif, state.rx_index, packet.bytes())
+        .want(&wiring.vif, state.rx_index, &whole(packet))
 }
 
 /// After an event of a transmit.
@@ -55,7 +68,7 @@ pub(crate) fn sent_fed<'p, 'b>(
     word: u32,
 ) -> Stage<'p, 'b>
     ensures { (counter : ℕ) → rest_in wiring.now state.now result
-        ≡ next_by (bind (rest_of wiring.now.vif state.now.rx_index packet.entry sent.transmit.phase)
+        ≡ next_by (bind (rest_of wiring.now.vif state.now.rx_index Whole packet.entry sent.transmit.phase)
         (after_transmit wiring.now state.now sent.chain packet.entry sent.ops)) word counter }
 {
     let Transmitting {
@@ -63,7 +76,7 @@ pub(crate) fn sent_fed<'p, 'b>(
         transmit,
         ops,
     } = sent;
-    let progress = transmit.feed(&wiring.vif, state.rx_index, packet.bytes(), word);
+    let progress = transmit.feed(&wiring.vif, state.rx_index, &whole(&packet), word);
     progressed(state, packet, chain, ops, progress)
 }
 
@@ -76,7 +89,7 @@ fn progressed<'p, 'b>(
     progress: Progress,
 ) -> Stage<'p, 'b>
     ensures { (w : WiringView) → rest_in w state.now result
-        ≡ bind (rest_after w.vif state.now.rx_index packet.entry progress) (after_transmit w state.now chain packet.entry ops) }
+        ≡ bind (rest_after w.vif state.now.rx_index Whole packet.entry progress) (after_transmit w state.now chain packet.entry ops) }
 {
     match progress {
         Progress::On(transmit) => Stage::Send(

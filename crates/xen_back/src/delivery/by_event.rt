@@ -1,6 +1,7 @@
 //! A delivery one event at a time, for a host that serves each event itself.
 
-ghost use Rattle.std.specs.Prelude.{◌≡◌, ◌≢◌, ℕ, true};
+ghost use Rattle.std.specs.Prelude.{◌≡◌, ◌≢◌, ℕ, length, true};
+ghost use Rattle.xen_netif.specs.Offloads.{is_taken as is_taken_spec};
 ghost use Rattle.xen_steps.specs.Answers.{Fits};
 ghost use Rattle.xen_steps.specs.Drive.{IsPageWant};
 ghost use Rattle.xen_steps.specs.Steps.{done, next_by, want_of};
@@ -8,23 +9,26 @@ ghost use Rattle.xen_rx_fill.specs.Wired.{IsWired};
 ghost use Rattle.xen_rx_fill.specs.declared.vif.Vif.{Vif as VifView};
 ghost use Rattle.xen_turns.specs.Delivered.{is_frame};
 ghost use Rattle.xen_back.specs.ByEvent.{IsDeliveryAsked, IsDeliveryFed, frames_of, left_of};
-ghost use Rattle.xen_turns.specs.Deliveries.{Arrival, unless_halted, whole_delivery};
+ghost use Rattle.xen_turns.specs.Deliveries.{Arrival, if_taken, unless_halted, whole_delivery};
 ghost use Rattle.xen_back.specs.Deliveries.{rest_moving};
 
 use crate::delivery::moving::{Moving, Sending};
 use crate::delivery::underway::Delivering;
 use std::mem;
-use xen_rx_fill::{Progress, Transmit, Vif};
+use xen_host::is_taken;
+use xen_netif::Accepts;
+use xen_rx_fill::{Packet, Progress, Transmit, Vif};
 use xen_steps::{Answer, Want};
 use xen_turns::decisions::{can_be_delivered, delivered};
-use xen_turns::{Delivery, State};
+use xen_turns::{Delivery, State, Wiring};
 
 /// A delivery of which nothing is done.
-fn begun<'d>(state: &State, packet: &'d [u8]) -> Moving<'d>
-    ensures { (v : VifView) → rest_moving v state.now result ≡ whole_delivery v state.now packet.now }
+fn begun<'d>(accepts: &Accepts, state: &State, packet: Packet<'d>) -> Moving<'d>
+    ensures { (v : VifView) → rest_moving v state.now result
+        ≡ whole_delivery v accepts.now state.now packet.entry.offload packet.entry.bytes.now }
 {
-    if can_be_delivered(packet) {
-        begun_frame(state, packet)
+    if can_be_delivered(packet.bytes) {
+        begun_frame(accepts, state, packet)
     } else {
         Moving::Over {
             after: *state,
@@ -33,10 +37,28 @@ fn begun<'d>(state: &State, packet: &'d [u8]) -> Moving<'d>
     }
 }
 
-/// A delivery of a packet, unless the queue has halted.
-fn begun_frame<'d>(state: &State, packet: &'d [u8]) -> Moving<'d>
-    requires { is_frame packet.now ≡ true }
-    ensures { (v : VifView) → rest_moving v state.now result ≡ unless_halted v state.now packet.now state.now.halt }
+/// A delivery of a frame, if the frontend accepts what it leaves to it.
+fn begun_frame<'d>(accepts: &Accepts, state: &State, packet: Packet<'d>) -> Moving<'d>
+    requires { is_frame packet.bytes.now ≡ true }
+    ensures { (v : VifView) → rest_moving v state.now result
+        ≡ if_taken v state.now packet.entry.offload packet.entry.bytes.now
+        (is_taken_spec accepts.now (length packet.entry.bytes.now) packet.entry.offload) }
+{
+    if is_taken(accepts, &packet.offload, packet.bytes) {
+        begun_accepted(state, packet)
+    } else {
+        Moving::Over {
+            after: *state,
+            delivery: Delivery::NotAccepted,
+        }
+    }
+}
+
+/// A delivery of a packet that is accepted, unless the queue has halted.
+fn begun_accepted<'d>(state: &State, packet: Packet<'d>) -> Moving<'d>
+    requires { is_frame packet.bytes.now ≡ true }
+    ensures { (v : VifView) → rest_moving v state.now result
+        ≡ unless_halted v state.now packet.entry.offload packet.entry.bytes.now state.now.halt }
 {
     match state.halt {
         Some(cause) => Moving::Over {
@@ -66,15 +88,20 @@ fn shared<'p>(vif: &Vif<'p>) -> Vif<'p>
 }
 
 /// A delivery of which nothing is done, with what it is wired to.
-pub(crate) fn underway<'p, 'd>(vif: &Vif<'p>, state: &State, packet: &'d [u8]) -> Delivering<'p, 'd>
-    requires wired { IsWired vif.now }
-    ensures left { left_of result ≡ whole_delivery vif.now state.now packet.now }
-    ensures vif { result.vif ≡ vif.now }
+pub(crate) fn underway<'p, 'd>(
+    wiring: &Wiring<'p>,
+    state: &State,
+    packet: Packet<'d>,
+) -> Delivering<'p, 'd>
+    requires wired { IsWired wiring.now.vif }
+    ensures left { left_of result
+        ≡ whole_delivery wiring.now.vif wiring.now.accepts state.now packet.entry.offload packet.entry.bytes.now }
+    ensures vif { result.vif ≡ wiring.now.vif }
     ensures state { result.state ≡ state.now }
 {
-    let moving = begun(state, packet);
+    let moving = begun(&wiring.accepts, state, packet);
     Delivering {
-        vif: shared(vif),
+        vif: shared(&wiring.vif),
         state: *state,
         moving,
     }
@@ -85,7 +112,7 @@ fn sending_want(vif: &Vif, state: &State, sending: &Sending) -> Want
     ensures want { result ≡ want_of (rest_moving vif.now state.now (Moving.Sending sending.now)) }
     ensures asks { result ≢ Want.Done }
 {
-    sending.transmit.want(vif, state.rx_index, sending.packet)
+    sending.transmit.want(vif, state.rx_index, &sending.packet)
 }
 
 /// What a delivery wants.
@@ -114,7 +141,7 @@ fn sending_fed<'d>(vif: &Vif, state: &State, sending: Sending<'d>, word: u32) ->
         ≡ next_by (rest_moving vif.now state.now (Moving.Sending sending.entry)) word counter }
 {
     let Sending { packet, transmit } = sending;
-    match transmit.feed(vif, state.rx_index, packet, word) {
+    match transmit.feed(vif, state.rx_index, &packet, word) {
         Progress::On(transmit) => Moving::Sending(Sending { packet, transmit }),
         Progress::Over(outcome) => {
             let (after, delivery) = delivered(state, outcome);

@@ -2,15 +2,15 @@
 
 ghost use Rattle.std.specs.Prelude.{◌≤◌, length};
 
-use xen_rx_fill::Transmit;
+use xen_rx_fill::{Packet, Transmit};
 use xen_turns::{Delivery, State};
 
 /// A packet that is being sent.
 #[derive(Drop)]
 pub struct Sending<'d> {
-    pub packet: &'d [u8],
+    pub packet: Packet<'d>,
     pub transmit: Transmit,
-    ghost short: { length packet.now ≤ 65535 },
+    ghost short: { length packet.bytes.now ≤ 65535 },
 }
 
 /// Where a delivery is.

@@ -16,7 +16,7 @@ use xen_turns::{Awaited, State};
 
 /// A wait of which nothing is done.
 pub(crate) fn begun(state: &State) -> Looking
-    ensures { (rx pages : ℕ) → rest_looking rx state.now pages result ≡ whole_wait rx state.now pages }
+    ensures { (rx wanted : ℕ) → rest_looking rx state.now wanted result ≡ whole_wait rx state.now wanted }
 {
     match state.halt {
         Some(cause) => Looking::Over {
@@ -28,13 +28,13 @@ pub(crate) fn begun(state: &State) -> Looking
 }
 
 /// A wait after an event.
-fn looking_fed(state: &State, pages: u32, looking: Looking, word: u32) -> Looking
-    ensures { (rx counter : ℕ) → rest_looking rx state.now pages result ≡ next_by (rest_looking rx state.now pages looking) word counter }
+fn looking_fed(state: &State, wanted: u32, looking: Looking, word: u32) -> Looking
+    ensures { (rx counter : ℕ) → rest_looking rx state.now wanted result ≡ next_by (rest_looking rx state.now wanted looking) word counter }
 {
     match looking {
         Looking::Index => Looking::Producer,
         Looking::Producer => {
-            let (after, awaited) = wait_answer(state, pages, requests_shown(state.rx_index, word));
+            let (after, awaited) = wait_answer(state, wanted, requests_shown(state.rx_index, word));
             Looking::Over { after, awaited }
         }
         over => over,
@@ -51,7 +51,7 @@ impl Awaiting {
         match self.looking {
             Looking::Index => Want::Write(
                 header(self.rx, REQ_EVENT),
-                self.state.rx_index.wrapping_add(self.pages),
+                self.state.rx_index.wrapping_add(self.wanted),
             ),
             Looking::Producer => Want::Read(header(self.rx, REQ_PROD)),
             Looking::Over { .. } => Want::Done,
@@ -64,6 +64,6 @@ impl Awaiting {
         ensures { IsWaitFed answer self.old self.new }
     {
         let word = answer.word();
-        self.looking = looking_fed(&self.state, self.pages, self.looking, word);
+        self.looking = looking_fed(&self.state, self.wanted, self.looking, word);
     }
 }

@@ -21,6 +21,6 @@ pub struct Awaiting {
     /// The queue as it was begun.
     pub(crate) state: State,
     /// How many slots are awaited.
-    pub(crate) pages: u32,
+    pub(crate) wanted: u32,
     pub(crate) looking: Looking,
 }

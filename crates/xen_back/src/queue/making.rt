@@ -70,6 +70,7 @@ impl<'p, 'b> Queue<'p, 'b> {
         let wiring = Wiring {
             vif,
             offers: desc.offers,
+            accepts: desc.accepts,
             program,
             lists,
             ifindex: desc.ifindex,

@@ -14,32 +14,32 @@ use xen_steps::Want;
 use xen_turns::Awaited;
 
 impl<'p, 'b> Queue<'p, 'b> {
-    /// Asks the frontend for a notice as soon as it has posted `pages` rx slots, and looks whether it has by now: after
-    /// [`Delivery::FewSlots`](crate::Delivery::FewSlots), with the packet's length in pages of 4,096 bytes. A ring has
-    /// 256 slots, so more are never there.
-    pub fn await_slots<B: Bus>(&mut self, pages: u32, bus: &mut B) -> Awaited
+    /// Asks the frontend for a notice as soon as it has posted `wanted` rx slots, and looks whether it has by now: after
+    /// [`Delivery::FewSlots`](crate::Delivery::FewSlots), with the packet's [`slots_of`](crate::slots_of). A ring has 256
+    /// slots, so more are never there.
+    pub fn await_slots<B: Bus>(&mut self, wanted: u32, bus: &mut B) -> Awaited
         requires ready { IsReady self.old }
         requires size { B.size bus.old ≡ length (wiring_of self.old).vif.owners.now }
         ensures ready { IsReady self.new }
         ensures size { B.size bus.new ≡ B.size bus.old }
-        ensures awaited { HasAwaited B.log B.access_gives self.old self.new pages result bus.old bus.new }
+        ensures awaited { HasAwaited B.log B.access_gives self.old self.new wanted result bus.old bus.new }
     {
         // The borrow checker has to see this type in the body.
         let _vif = &self.wiring.vif;
-        self.look_for(pages, bus)
+        self.look_for(wanted, bus)
     }
 
-    /// Begins a wait for `pages` rx slots, as [`Queue::await_slots`] makes it, one event at a time. The queue takes no
+    /// Begins a wait for `wanted` rx slots, as [`Queue::await_slots`] makes it, one event at a time. The queue takes no
     /// turn and no delivery until [`Queue::end_wait`].
-    pub fn begin_wait(&self, pages: u32) -> Awaiting
+    pub fn begin_wait(&self, wanted: u32) -> Awaiting
         requires { IsReady self.now }
-        ensures { IsWaitBegun self.now pages result }
+        ensures { IsWaitBegun self.now wanted result }
     {
         let state = self.engine.state();
         Awaiting {
             rx: self.wiring.vif.rx,
             state,
-            pages,
+            wanted,
             looking: begun(&state),
         }
     }

@@ -15,31 +15,31 @@ use xen_page::ScriptBus;
 /// What waiting comes to, and how many accesses it makes.
 type Waited = (Awaited, usize);
 
-/// What waiting for `pages` slots comes to if the producer is this.
-fn awaited(alloc: Global, queue: &mut Queue, pages: u32, producer: u32) -> Option<Waited>
+/// What waiting for `wanted` slots comes to if the producer is this.
+fn awaited(alloc: Global, queue: &mut Queue, wanted: u32, producer: u32) -> Option<Waited>
     requires ready { IsReady queue.old }
     requires owners { length (wiring_of queue.old).vif.owners.now ≡ 20 }
     ensures ready { IsReady queue.new }
     ensures same { IsSameWiring queue.old queue.new }
 {
     let mut bus = ScriptBus::make(alloc, FRAMES, &[producer], 100).ok()?;
-    let awaited = queue.await_slots(pages, &mut bus);
+    let awaited = queue.await_slots(wanted, &mut bus);
     Some((awaited, bus.accesses().len()))
 }
 
-/// What waiting for `pages` slots comes to with `posted` slots posted, if it writes the event index and then reads the
+/// What waiting for `wanted` slots comes to with `posted` slots posted, if it writes the event index and then reads the
 /// producer.
-fn waited(alloc: Global, queue: &mut Queue, start: u32, pages: u32, posted: u32) -> Option<Awaited>
+fn waited(alloc: Global, queue: &mut Queue, start: u32, wanted: u32, posted: u32) -> Option<Awaited>
     requires ready { IsReady queue.old }
     requires owners { length (wiring_of queue.old).vif.owners.now ≡ 20 }
 {
     let producer = start.wrapping_add(posted);
     let accesses = [
-        write(18, 1, start.wrapping_add(pages)),
+        write(18, 1, start.wrapping_add(wanted)),
         read(18, 0, producer),
     ];
     let mut bus = ScriptBus::make(alloc, FRAMES, &[producer], 100).ok()?;
-    let awaited = queue.await_slots(pages, &mut bus);
+    let awaited = queue.await_slots(wanted, &mut bus);
     (bus.accesses() == accesses.as_slice()).then_some(awaited)
 }
 
@@ -49,10 +49,10 @@ fn waited_first(
     bench: &Bench,
     buffer: &mut Buffer,
     start: u32,
-    (pages, posted): (u32, u32),
+    (wanted, posted): (u32, u32),
 ) -> Option<Awaited> {
     let mut queue = bench.queue(alloc, start, buffer)?;
-    waited(alloc, &mut queue, start, pages, posted)
+    waited(alloc, &mut queue, start, wanted, posted)
 }
 
 /// How many slots are awaited, how many are posted, and what that comes to.
@@ -73,10 +73,10 @@ fn differing(
     buffer: &mut Buffer,
     start: u32,
 ) -> Option<(u32, u32, Option<Awaited>)> {
-    for (pages, posted, wanted) in ROWS {
-        let awaited = waited_first(alloc, bench, buffer, start, (pages, posted));
-        if awaited != Some(wanted) {
-            return Some((pages, posted, awaited));
+    for (wanted, posted, answer) in ROWS {
+        let awaited = waited_first(alloc, bench, buffer, start, (wanted, posted));
+        if awaited != Some(answer) {
+            return Some((wanted, posted, awaited));
         }
     }
     None

@@ -7,7 +7,8 @@ use super::fixtures::{PASSES, access_to, answer_to, is_notified, wrote};
 use crate::bench::{Bench, FRAMES, ready};
 use bpf_vm::Buffer;
 use std::alloc::Global;
-use xen_back::{Delivery, Queue, Want};
+use xen_back::{Delivery, Packet, Queue, Want};
+use xen_netif::{ACCEPTS_WHOLE, Accepts, RxOffload};
 use xen_page::{Access, ScriptBus};
 use xen_ring::Ports;
 
@@ -33,7 +34,15 @@ impl Delivered {
     }
 }
 
-/// A delivery to a frontend that answers from a list.
+/// A packet that leaves the frontend nothing to do.
+fn whole(bytes: &[u8]) -> Packet<'_> {
+    Packet {
+        offload: RxOffload::Whole,
+        bytes,
+    }
+}
+
+/// A delivery of a packet that leaves nothing, to a frontend that answers from a list.
 pub fn deliver(
     alloc: Global,
     queue: &mut Queue,
@@ -45,9 +54,24 @@ pub fn deliver(
     ensures ready { IsReady queue.new }
     ensures same { IsSameWiring queue.old queue.new }
 {
+    deliver_in_one_go(alloc, queue, whole(packet), answers)
+}
+
+/// A delivery to a frontend that answers from a list.
+fn deliver_in_one_go(
+    alloc: Global,
+    queue: &mut Queue,
+    packet: Packet<'_>,
+    answers: &[u32],
+) -> Option<Delivered>
+    requires ready { IsReady queue.old }
+    requires owners { length (wiring_of queue.old).vif.owners.now ≡ 20 }
+    ensures ready { IsReady queue.new }
+    ensures same { IsSameWiring queue.old queue.new }
+{
     let mut bus = ScriptBus::make(alloc, FRAMES, answers, 34_000).ok()?;
     let ports = Ports::new();
-    let delivery = queue.deliver(packet, &mut bus, &ports);
+    let delivery = queue.deliver(packet.bytes, packet.offload, &mut bus, &ports);
     match Vec::from_slice(alloc, bus.accesses()) {
         Ok(accesses) => Some(Delivered {
             delivery,
@@ -58,16 +82,16 @@ pub fn deliver(
     }
 }
 
-/// As [`deliver`], but one event at a time. None if it has no end.
+/// As [`deliver_in_one_go`], but one event at a time. None if it has no end.
 fn deliver_by_event(
     alloc: Global,
     queue: &mut Queue,
-    packet: &[u8],
+    packet: Packet<'_>,
     answers: &[u32],
 ) -> Option<Delivered>
     requires ready { IsReady queue.old }
 {
-    let mut delivering = queue.begin_delivery(packet);
+    let mut delivering = queue.begin_delivery(packet.bytes, packet.offload);
     let mut accesses = Vec::new(alloc);
     let mut given = answers.iter();
     let mut notified = false;
@@ -100,11 +124,11 @@ fn delivered_in_one_go(
     bench: &Bench,
     buffer: &mut Buffer,
     start: u32,
-    packet: &[u8],
+    packet: Packet<'_>,
     answers: &[u32],
 ) -> Option<Delivered> {
     let mut queue = bench.queue(alloc, start, buffer)?;
-    deliver(alloc, &mut queue, packet, answers)
+    deliver_in_one_go(alloc, &mut queue, packet, answers)
 }
 
 /// As [`delivered_in_one_go`], but one event at a time.
@@ -113,21 +137,33 @@ fn delivered_by_event(
     bench: &Bench,
     buffer: &mut Buffer,
     start: u32,
-    packet: &[u8],
+    packet: Packet<'_>,
     answers: &[u32],
 ) -> Option<Delivered> {
     let mut queue = bench.queue(alloc, start, buffer)?;
     deliver_by_event(alloc, &mut queue, packet, answers)
 }
 
-/// The delivery by a new queue that comes out both ways. None if the two ways differ.
+/// The delivery by a new queue that comes out both ways, of a packet that leaves nothing. None if the two ways differ.
 pub fn delivered_first(
     alloc: Global,
     start: u32,
     packet: &[u8],
     answers: &[u32],
 ) -> Option<Delivered> {
+    delivered_to(alloc, ACCEPTS_WHOLE, start, whole(packet), answers)
+}
+
+/// As [`delivered_first`], of any packet to a frontend that accepts so much.
+pub fn delivered_to(
+    alloc: Global,
+    accepts: Accepts,
+    start: u32,
+    packet: Packet<'_>,
+    answers: &[u32],
+) -> Option<Delivered> {
     let (bench, mut buffer) = ready(alloc, &PASSES, &[])?;
+    let bench = bench.with_accepts(accepts);
     let seen = delivered_in_one_go(alloc, &bench, &mut buffer, start, packet, answers);
     if seen == delivered_by_event(alloc, &bench, &mut buffer, start, packet, answers) {
         seen

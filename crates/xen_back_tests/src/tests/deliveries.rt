@@ -52,7 +52,7 @@ fn a_short_packet_takes_one_slot(rt: HostRuntime) {
 }
 
 /// `length` bytes of 4.
-fn fours(alloc: Global, length: usize) -> Result<Vec<u8>, AllocError> {
+pub fn fours(alloc: Global, length: usize) -> Result<Vec<u8>, AllocError> {
     vec![in alloc; 4u8; length]
 }
 

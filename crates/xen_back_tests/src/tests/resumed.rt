@@ -5,6 +5,7 @@ use super::slots::tx;
 use crate::bench::ready;
 use std::alloc::Global;
 use xen_back::{Halt, Queue, State, Want};
+use xen_netif::RxOffload;
 use xen_page::Place;
 
 /// What a queue wants first, and what it wants next if the producer shows a request.
@@ -27,7 +28,7 @@ fn resumed(alloc: Global, state: State) -> Option<(State, Want, Want)> {
 fn delivers(alloc: Global, state: State) -> Option<Want> {
     let (bench, mut buffer) = ready(alloc, &PASSES, &[])?;
     let queue = bench.resumed(alloc, state, &mut buffer)?;
-    let mut delivering = queue.begin_delivery(&[0; 14]);
+    let mut delivering = queue.begin_delivery(&[0; 14], RxOffload::Whole);
     let first = delivering.wanted();
     delivering.feed(answer_to(first, state.rx_index.wrapping_add(1))?);
     Some(delivering.wanted())

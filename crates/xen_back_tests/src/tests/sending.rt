@@ -5,20 +5,21 @@ ghost use Rattle.std.specs.Prelude.{◌≤◌, length};
 use super::delivered::FOURTEEN;
 use super::fixtures::{access_to, read, write};
 use std::alloc::Global;
+use xen_netif::RxOffload;
 use xen_page::{Access, Owners, Table};
 use xen_ring::Port;
-use xen_rx_fill::{Outcome, Progress, Transmit, Vif};
+use xen_rx_fill::{Outcome, Packet, Progress, Transmit, Vif};
 use xen_steps::Want;
 
 /// What a transmit comes to whose first rx slot is at `start`, and adds its accesses. None if it has no end.
 fn sent(
     vif: &Vif,
     start: u32,
-    packet: &[u8],
+    packet: &Packet,
     answers: &[u32],
     accesses: &mut Vec<Access>,
 ) -> Option<Outcome>
-    requires { length packet.now ≤ 65535 }
+    requires { length packet.now.bytes.now ≤ 65535 }
 {
     let mut given = answers.iter();
     let mut transmit = Transmit::begin();
@@ -48,7 +49,11 @@ fn sent_with(
     accesses: &[Access],
 ) -> Option<Outcome> {
     let mut made = Vec::new(alloc);
-    let outcome = sent(vif, start, &FOURTEEN, answers, &mut made);
+    let packet = Packet {
+        offload: RxOffload::Whole,
+        bytes: &FOURTEEN,
+    };
+    let outcome = sent(vif, start, &packet, answers, &mut made);
     if made.as_slice() == accesses {
         outcome
     } else {

@@ -23,7 +23,7 @@ pub enum Outcome {
 pub struct Posting {
     pub left: u32,
     pub targets: Targets,
-    ghost room: { length targets + left < 16 },
+    ghost room: { length targets + left < 17 },
 }
 
 /// Before the grant entry of the slot with this id; its flags word is at the place.
@@ -33,7 +33,7 @@ pub struct Granting {
     pub targets: Targets,
     pub id: u16,
     pub at: Place,
-    ghost room: { length targets + left < 16 },
+    ghost room: { length targets + left < 17 },
     ghost word: { at.word < 1023 },
 }
 

@@ -8,6 +8,7 @@ ghost use Rattle.xen_steps.specs.Steps.{want_of};
 ghost use Rattle.xen_rx_fill.specs.Transmit.{fill_from, rx_answer};
 
 use crate::by_event::phase::Phase;
+use crate::packet::Packet;
 use crate::target::{Grants, Targets};
 use crate::vif::Vif;
 use crate::words::{buffer_at, packet_word, response, words_of};
@@ -22,9 +23,9 @@ fn slot_index(rx_index: u32, targets: &Targets) -> u32
 }
 
 /// What a transmit in this phase wants.
-pub(crate) fn phase_want(vif: &Vif, rx_index: u32, bytes: &[u8], phase: &Phase) -> Want
-    requires { length bytes.now ≤ 65535 }
-    ensures { result ≡ want_of (rest_of vif.now rx_index bytes.now phase.now) }
+pub(crate) fn phase_want(vif: &Vif, rx_index: u32, packet: &Packet, phase: &Phase) -> Want
+    requires { length packet.now.bytes.now ≤ 65535 }
+    ensures { result ≡ want_of (rest_of vif.now rx_index packet.now.offload packet.now.bytes.now phase.now) }
 {
     match phase {
         Phase::Look => Want::Read(header(vif.rx, REQ_PROD)),
@@ -40,15 +41,15 @@ pub(crate) fn phase_want(vif: &Vif, rx_index: u32, bytes: &[u8], phase: &Phase) 
         )),
         Phase::EntryFlags(granting) => Want::Read(granting.at),
         Phase::EntryFrame { granting, .. } => Want::Read(granting.at.next()),
-        Phase::Filling { targets, k } => filling_want(vif, rx_index, bytes, targets, *k),
+        Phase::Filling { targets, k } => filling_want(vif, rx_index, packet, targets, *k),
         Phase::Response { grants, targets, i } => {
-            response_want(vif, rx_index, bytes, *grants, targets, *i)
+            response_want(vif, rx_index, packet, *grants, targets, *i)
         }
         Phase::HalfResponse(responding) => {
-            let response = response(responding.grants, bytes, &responding.targets, responding.i);
+            let response = response(responding.grants, packet, &responding.targets, responding.i);
             Want::Write(
                 rx_entry(vif.rx, rx_index.wrapping_add(responding.i), 1),
-                response.words()[1],
+                response[1],
             )
         }
         Phase::ReadEvent { .. } => Want::Read(header(vif.rx, RSP_EVENT)),
@@ -58,14 +59,17 @@ pub(crate) fn phase_want(vif: &Vif, rx_index: u32, bytes: &[u8], phase: &Phase) 
 }
 
 /// The next word of the packet, or the first response if all words are written.
-fn filling_want(vif: &Vif, rx_index: u32, bytes: &[u8], targets: &Targets, k: u32) -> Want
-    requires { length bytes.now ≤ 65535 }
-    ensures { result ≡ want_of (fill_from vif.now rx_index bytes.now targets.now k) }
+fn filling_want(vif: &Vif, rx_index: u32, packet: &Packet, targets: &Targets, k: u32) -> Want
+    requires { length packet.now.bytes.now ≤ 65535 }
+    ensures { result ≡ want_of (fill_from vif.now rx_index packet.now.offload packet.now.bytes.now targets.now k) }
 {
-    if k < words_of(bytes) {
-        Want::Write(buffer_at(targets, k), packet_word(bytes, k))
+    if k < words_of(packet.bytes) {
+        Want::Write(
+            buffer_at(&packet.offload, targets, k),
+            packet_word(packet.bytes, k),
+        )
     } else {
-        response_want(vif, rx_index, bytes, Grants::Passed, targets, 0)
+        response_want(vif, rx_index, packet, Grants::Passed, targets, 0)
     }
 }
 
@@ -73,21 +77,19 @@ fn filling_want(vif: &Vif, rx_index: u32, bytes: &[u8], targets: &Targets, k: u3
 fn response_want(
     vif: &Vif,
     rx_index: u32,
-    bytes: &[u8],
+    packet: &Packet,
     grants: Grants,
     targets: &Targets,
     i: u32,
 ) -> Want
-    requires { length bytes.now ≤ 65535 }
-    ensures { result ≡ want_of (rx_answer vif.now rx_index bytes.now grants (length targets.now) i (drop i targets.now)) }
+    requires { length packet.now.bytes.now ≤ 65535 }
+    ensures { result ≡ want_of (rx_answer vif.now rx_index packet.now.offload packet.now.bytes.now grants (length targets.now) i
+        (drop i targets.now)) }
 {
     let n = targets.len();
     if i < n {
-        let response = response(grants, bytes, targets, i);
-        Want::Write(
-            rx_entry(vif.rx, rx_index.wrapping_add(i), 0),
-            response.words()[0],
-        )
+        let response = response(grants, packet, targets, i);
+        Want::Write(rx_entry(vif.rx, rx_index.wrapping_add(i), 0), response[0])
     } else {
         Want::Write(header(vif.rx, RSP_PROD), rx_index.wrapping_add(n))
     }

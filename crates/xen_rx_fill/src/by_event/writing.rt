@@ -1,6 +1,7 @@
 //! Writing the buffers and the responses.
 
 ghost use Rattle.std.specs.Prelude.{◌≡◌, ◌+◌, ◌<◌, ◌≤◌, List, ℕ, length, drop};
+ghost use Rattle.xen_netif.specs.declared.offload.RxOffload.{RxOffload};
 ghost use Rattle.xen_ring.specs.Index.{is_due};
 ghost use Rattle.xen_rx_fill.specs.Packets.{response_word, target_at as target_at_spec};
 ghost use Rattle.xen_steps.specs.Places.{add32};
@@ -19,7 +20,7 @@ use xen_ring::due;
 /// After a word of a buffer, or after the first response's first word if all words were written.
 pub(crate) fn filled(bytes: &[u8], targets: Targets, k: u32) -> Phase
     requires { length bytes.now ≤ 65535 }
-    ensures { (v : VifView) (x : ℕ) → rest_of v x bytes.now result ≡ next_by (fill_from v x bytes.now targets k) 0 0 }
+    ensures { (v : VifView) (x : ℕ) (o : RxOffload) → rest_of v x o bytes.now result ≡ next_by (fill_from v x o bytes.now targets k) 0 0 }
 {
     if k < words_of(bytes) {
         Phase::Filling { targets, k: k + 1 }
@@ -30,8 +31,8 @@ pub(crate) fn filled(bytes: &[u8], targets: Targets, k: u32) -> Phase
 
 /// After a response's first word, or after the push if all responses were written.
 pub(crate) fn responded(grants: Grants, targets: Targets, i: u32) -> Phase
-    ensures { (v : VifView) (x : ℕ) (packet : List ℕ) → rest_of v x packet result
-        ≡ next_by (rx_answer v x packet grants (length targets) i (drop i targets)) 0 0 }
+    ensures { (v : VifView) (x : ℕ) (o : RxOffload) (packet : List ℕ) → rest_of v x o packet result
+        ≡ next_by (rx_answer v x o packet grants (length targets) i (drop i targets)) 0 0 }
 {
     let n = targets.len();
     if i < n {
@@ -44,17 +45,17 @@ pub(crate) fn responded(grants: Grants, targets: Targets, i: u32) -> Phase
 /// Between the words of a response.
 fn half_responded(grants: Grants, targets: Targets, i: u32) -> Phase
     requires { i < length targets }
-    ensures { (v : VifView) (x : ℕ) (packet : List ℕ) → rest_of v x packet result
-        ≡ ask (want.Write (rx_slot v (add32 x i) 1) (response_word grants packet (length targets) i (target_at_spec targets i).id 1))
-        (λ _. rx_answer v x packet grants (length targets) (i + 1) (drop (i + 1) targets)) }
+    ensures { (v : VifView) (x : ℕ) (o : RxOffload) (packet : List ℕ) → rest_of v x o packet result
+        ≡ ask (want.Write (rx_slot v (add32 x i) 1) (response_word o grants packet (length targets) i (target_at_spec targets i).id 1))
+        (λ _. rx_answer v x o packet grants (length targets) (i + 1) (drop (i + 1) targets)) }
 {
     Phase::HalfResponse(Responding { grants, targets, i })
 }
 
 /// After a response.
 pub(crate) fn after_response(responding: Responding) -> Phase
-    ensures { (v : VifView) (x : ℕ) (packet : List ℕ) → rest_of v x packet result
-        ≡ rx_answer v x packet responding.grants (length responding.targets) (responding.i + 1)
+    ensures { (v : VifView) (x : ℕ) (o : RxOffload) (packet : List ℕ) → rest_of v x o packet result
+        ≡ rx_answer v x o packet responding.grants (length responding.targets) (responding.i + 1)
         (drop (responding.i + 1) responding.targets) }
 {
     let Responding { grants, targets, i } = responding;
@@ -78,7 +79,7 @@ pub(crate) fn outcome(grants: Grants, n: u32) -> Outcome
 
 /// After the event index.
 pub(crate) fn after_event(rx_index: u32, grants: Grants, n: u32, event: u32) -> Phase
-    ensures { (v : VifView) (packet : List ℕ) → rest_of v rx_index packet result
+    ensures { (v : VifView) (o : RxOffload) (packet : List ℕ) → rest_of v rx_index o packet result
         ≡ rx_notice v (is_due rx_index (add32 rx_index n) event) (outcome_of grants n) }
 {
     if due(rx_index, rx_index.wrapping_add(n), event) {

@@ -1,6 +1,7 @@
 //! A transmit's calls, one event at a time.
 
 ghost use Rattle.std.specs.Prelude.{List, ℕ, ◌≡◌, ◌≤◌, length, false, IsTrue};
+ghost use Rattle.xen_netif.specs.declared.offload.RxOffload.{RxOffload};
 ghost use Rattle.xen_steps.specs.Steps.{asks, next_by, want_of};
 ghost use Rattle.xen_rx_fill.specs.Going.{is_going};
 ghost use Rattle.xen_rx_fill.specs.Rest.{rest_after, rest_of};
@@ -10,6 +11,7 @@ ghost use Rattle.xen_rx_fill.specs.declared.vif.Vif.{Vif as VifView};
 use crate::by_event::feeding::phase_fed;
 use crate::by_event::phase::{Outcome, Phase};
 use crate::by_event::wanting::phase_want;
+use crate::packet::Packet;
 use crate::transmit::{Progress, Transmit};
 use crate::vif::Vif;
 use xen_steps::Want;
@@ -17,27 +19,27 @@ use xen_steps::Want;
 impl Transmit {
     /// The transmit of any packet, over any vif and from any rx index on: those that its calls are given.
     pub fn begin() -> Transmit
-        ensures { (vif : VifView) (rx_index : ℕ) (packet : List ℕ) →
-            rest_of vif rx_index packet result.phase ≡ transmit vif rx_index packet }
+        ensures { (vif : VifView) (rx_index : ℕ) (o : RxOffload) (packet : List ℕ) →
+            rest_of vif rx_index o packet result.phase ≡ transmit vif rx_index o packet }
     {
         Transmit { phase: Phase::Look }
     }
 
     /// What the transmit wants next. Vif, index and packet are the same at each call.
-    pub fn want(&self, vif: &Vif, rx_index: u32, packet: &[u8]) -> Want
-        requires { length packet.now ≤ 65535 }
-        ensures want { result ≡ want_of (rest_of vif.now rx_index packet.now self.now.phase) }
-        ensures asks { IsTrue (asks (rest_of vif.now rx_index packet.now self.now.phase)) }
+    pub fn want(&self, vif: &Vif, rx_index: u32, packet: &Packet) -> Want
+        requires { length packet.now.bytes.now ≤ 65535 }
+        ensures want { result ≡ want_of (rest_of vif.now rx_index packet.now.offload packet.now.bytes.now self.now.phase) }
+        ensures asks { IsTrue (asks (rest_of vif.now rx_index packet.now.offload packet.now.bytes.now self.now.phase)) }
     {
         phase_want(vif, rx_index, packet, &self.phase)
     }
 
     /// The transmit after the event that it wanted, with the word that was read, if one was.
-    pub fn feed(self, vif: &Vif, rx_index: u32, packet: &[u8], word: u32) -> Progress
-        requires { length packet.now ≤ 65535 }
-        ensures rest { (number : ℕ) → rest_after vif.now rx_index packet.now result
-            ≡ next_by (rest_of vif.now rx_index packet.now self.phase) word number }
-        ensures asked { IsTrue (asks (rest_of vif.now rx_index packet.now self.phase)) }
+    pub fn feed(self, vif: &Vif, rx_index: u32, packet: &Packet, word: u32) -> Progress
+        requires { length packet.now.bytes.now ≤ 65535 }
+        ensures rest { (number : ℕ) → rest_after vif.now rx_index packet.now.offload packet.now.bytes.now result
+            ≡ next_by (rest_of vif.now rx_index packet.now.offload packet.now.bytes.now self.phase) word number }
+        ensures asked { IsTrue (asks (rest_of vif.now rx_index packet.now.offload packet.now.bytes.now self.phase)) }
     {
         let Transmit { phase } = self;
         let next = phase_fed(vif, rx_index, packet, phase, word);
@@ -55,7 +57,7 @@ fn is_going(phase: &Phase) -> bool
 }
 
 fn settled(phase: Phase) -> Progress
-    ensures { (v : VifView) (x : ℕ) (packet : List ℕ) → rest_after v x packet result ≡ rest_of v x packet phase }
+    ensures { (v : VifView) (x : ℕ) (o : RxOffload) (packet : List ℕ) → rest_after v x o packet result ≡ rest_of v x o packet phase }
 {
     if is_going(&phase) {
         Progress::On(Transmit { phase })
@@ -66,7 +68,7 @@ fn settled(phase: Phase) -> Progress
 
 fn over(phase: Phase) -> Progress
     requires { is_going phase ≡ false }
-    ensures { (v : VifView) (x : ℕ) (packet : List ℕ) → rest_after v x packet result ≡ rest_of v x packet phase }
+    ensures { (v : VifView) (x : ℕ) (o : RxOffload) (packet : List ℕ) → rest_after v x o packet result ≡ rest_of v x o packet phase }
 {
     match phase {
         Phase::Over(outcome) => Progress::Over(outcome),

@@ -1,9 +1,10 @@
 //! A packet of the host's own, delivered to the frontend.
 
-ghost use Rattle.std.specs.Prelude.{◌≡◌, List, ℕ, None, true};
+ghost use Rattle.std.specs.Prelude.{◌≡◌, List, ℕ, None};
+ghost use Rattle.xen_netif.specs.declared.offload.RxOffload.{RxOffload};
 ghost use Rattle.xen_steps.specs.Event.{Event};
 ghost use Rattle.xen_rx_fill.specs.Sending.{IsTransmit};
-ghost use Rattle.xen_turns.specs.Delivered.{IsDelivery, is_frame};
+ghost use Rattle.xen_turns.specs.Delivered.{IsDeliverable, IsDelivery, is_frame};
 ghost use Rattle.xen_turns.specs.Deliveries.{arrival};
 ghost use Rattle.xen_turns.specs.declared.wiring.Wiring.{Wiring as WiringView};
 
@@ -17,7 +18,7 @@ use xen_rx_fill::Outcome;
 pub enum Delivery {
     /// It lies in the buffers of `slots` rx slots.
     Sent { slots: u32 },
-    /// The frontend posted fewer rx slots than the packet has pages. None was taken.
+    /// The frontend posted fewer rx slots than the packet takes. None was taken.
     FewSlots,
     /// A posted slot's grant failed its check, and `slots` slots were answered with ERROR.
     Refused { slots: u32 },
@@ -25,6 +26,8 @@ pub enum Delivery {
     Halted { cause: Halt },
     /// It has fewer than 14 bytes, or more than 65,535. Nothing was done.
     NoFrame,
+    /// It leaves the frontend what that doesn't accept. Nothing was done.
+    NotAccepted,
 }
 
 /// Whether a packet can be delivered.
@@ -37,8 +40,9 @@ pub fn can_be_delivered(packet: &[u8]) -> bool
 /// What a transmit of the host's packet came to.
 pub fn delivered(state: &State, outcome: Outcome) -> (State, Delivery)
     ensures arrival { arrival state.now outcome ≡ (result.0, result.1) }
-    ensures rows { (w : WiringView) (packet : List ℕ) (p : List Event) → is_frame packet ≡ true → state.now.halt ≡ None
-        → IsTransmit w.vif state.now.rx_index packet p outcome → IsDelivery w state.now packet p result.0 result.1 }
+    ensures rows { (w : WiringView) (o : RxOffload) (packet : List ℕ) (p : List Event) → IsDeliverable w.accepts o packet
+        → state.now.halt ≡ None → IsTransmit w.vif state.now.rx_index o packet p outcome
+        → IsDelivery w state.now o packet p result.0 result.1 }
 {
     match outcome {
         Outcome::Overflow => {

@@ -19,8 +19,8 @@ pub enum Awaited {
 }
 
 /// The answer by how many slots the producer shows: `None` if it shows more than the ring has.
-pub fn wait_answer(state: &State, pages: u32, shown: Option<u32>) -> (State, Awaited)
-    ensures { (result.0, result.1) ≡ wait_end state.now pages shown }
+pub fn wait_answer(state: &State, wanted: u32, shown: Option<u32>) -> (State, Awaited)
+    ensures { (result.0, result.1) ≡ wait_end state.now wanted shown }
 {
     match shown {
         None => {
@@ -28,7 +28,7 @@ pub fn wait_answer(state: &State, pages: u32, shown: Option<u32>) -> (State, Awa
             (halted(state, cause), Awaited::Halted { cause })
         }
         Some(slots) => {
-            if slots < pages {
+            if slots < wanted {
                 (*state, Awaited::Waiting)
             } else {
                 (*state, Awaited::Posted)

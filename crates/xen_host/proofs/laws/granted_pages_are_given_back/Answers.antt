@@ -1,4 +1,6 @@
 use Rattle.std.proofs.Common.{ℕ, List, [], ◌∷◌, ◌++◌, append-nil, subst}
+use Rattle.xen_netif.specs.declared.offload.RxOffload.{RxOffload}
+use Rattle.xen_netif.specs.declared.offload.RxOffload.TheVariants.{Whole}
 use Rattle.xen_steps.specs.Event.{Event, Read}
 use Rattle.xen_steps.specs.Places.{add32}
 use Rattle.xen_rx_fill.specs.Places.{rx_word}
@@ -37,13 +39,13 @@ turn w s _ _ _ (turns.refused_sizes p1 p2 p6 n slots fault r c f a) = behind_rea
 turn w s _ _ _ (turns.refused_grant p1 p2 p3 p6 n slots fragments r c f k a) =
     behind_read w s n p1 p2 slots (p3 ++ p6) r (behind_copy w fragments p3 _ p6 k (of_rings w.vif p6 (of_respond w s.tx_index slots Error p6 a)))
 turn w s _ _ _ (turns.ran p p6 slots out r n a) = behind_run w s p slots out p6 r (of_rings w.vif p6 (of_respond w s.tx_index slots (status_of out.number) p6 a))
-turn w s _ _ _ (turns.halted_rx p p5 slots out r n a) = behind_run w s p slots out p5 r (all_of w.vif p5 (behind_transmit w.vif s.rx_index out.packet p5 _ [] a tt))
+turn w s _ _ _ (turns.halted_rx p p5 slots out r n a) = behind_run w s p slots out p5 r (all_of w.vif p5 (behind_transmit w.vif s.rx_index Whole out.packet p5 _ [] a tt))
 turn w s _ _ _ (turns.refused_few p p5 p6 slots out r n a b) =
-    behind_run w s p slots out (p5 ++ p6) r (behind_transmit w.vif s.rx_index out.packet p5 _ p6 a (of_respond w s.tx_index slots Error p6 b))
+    behind_run w s p slots out (p5 ++ p6) r (behind_transmit w.vif s.rx_index Whole out.packet p5 _ p6 a (of_respond w s.tx_index slots Error p6 b))
 turn w s _ _ _ (turns.refused_rx p p5 p6 used slots out r n a b) =
-    behind_run w s p slots out (p5 ++ p6) r (behind_transmit w.vif s.rx_index out.packet p5 _ p6 a (of_respond w s.tx_index slots Error p6 b))
+    behind_run w s p slots out (p5 ++ p6) r (behind_transmit w.vif s.rx_index Whole out.packet p5 _ p6 a (of_respond w s.tx_index slots Error p6 b))
 turn w s _ _ _ (turns.ran_tx p p5 p6 used slots out r n a b) =
-    behind_run w s p slots out (p5 ++ p6) r (behind_transmit w.vif s.rx_index out.packet p5 _ p6 a (of_respond w s.tx_index slots Okay p6 b))
+    behind_run w s p slots out (p5 ++ p6) r (behind_transmit w.vif s.rx_index Whole out.packet p5 _ p6 a (of_respond w s.tx_index slots Okay p6 b))
 
 answered : (w : Wiring) (s : State) (t : List Event) (new : State) (u : Turned) → IsTurn w s t new u → IsAnswered u → HasPushed w.vif.tx new.tx_index t
 answered w s _ _ _ (turns.still_halted cause h) i = absurd i
@@ -64,30 +66,32 @@ answered w s _ _ _ (turns.refused_rx p p5 p6 used slots out r n a b) i =
 answered w s _ _ _ (turns.ran_tx p p5 p6 used slots out r n a b) i =
     pushed_behind w.vif.tx _ p (p5 ++ p6) (pushed_behind w.vif.tx _ p5 p6 (pushed_respond w s.tx_index slots Okay p6 b))
 
-sent_on : (w : Vif) (x : ℕ) (packet : List ℕ) (t : List Event) (used : ℕ) → IsTransmit w x packet t (outcome.Sent used) → HasPushed w.rx (add32 x used) t
-sent_on w x packet _ _ (sending.sent p m p1 p2 ts l e f a r) =
-    let filled = buffer_writes ts packet (words packet) 0 in
-    pushed_behind w.rx _ (Read (rx_word w 0) p ∷ p1) (filled ++ p2) (pushed_behind w.rx _ filled p2 (pushed_rx w x packet Passed ts p2 r))
+sent_on : (w : Vif) (x : ℕ) (o : RxOffload) (packet : List ℕ) (t : List Event) (used : ℕ) → IsTransmit w x o packet t (outcome.Sent used) → HasPushed w.rx (add32 x used) t
+sent_on w x o packet _ _ (sending.sent p m p1 p2 ts l e f a r) =
+    let filled = buffer_writes o ts packet (words packet) 0 in
+    pushed_behind w.rx _ (Read (rx_word w 0) p ∷ p1) (filled ++ p2) (pushed_behind w.rx _ filled p2 (pushed_rx w x o packet Passed ts p2 r))
 
-refused_on : (w : Vif) (x : ℕ) (packet : List ℕ) (t : List Event) (used : ℕ) → IsTransmit w x packet t (outcome.Refused used) → HasPushed w.rx (add32 x used) t
-refused_on w x packet _ _ (sending.refused p m p1 p2 ts l e f a r) =
-    pushed_behind w.rx _ (Read (rx_word w 0) p ∷ p1) p2 (pushed_rx w x packet Refused ts p2 r)
+refused_on : (w : Vif) (x : ℕ) (o : RxOffload) (packet : List ℕ) (t : List Event) (used : ℕ) → IsTransmit w x o packet t (outcome.Refused used) → HasPushed w.rx (add32 x used) t
+refused_on w x o packet _ _ (sending.refused p m p1 p2 ts l e f a r) =
+    pushed_behind w.rx _ (Read (rx_word w 0) p ∷ p1) p2 (pushed_rx w x o packet Refused ts p2 r)
 
-delivery : (w : Wiring) (s : State) (packet : List ℕ) (t : List Event) (new : State) (what : Delivery) → IsDelivery w s packet t new what → GivesBack w.vif t
-delivery w s packet _ _ _ (delivered.no_frame f) = tt
-delivery w s packet _ _ _ (delivered.still_halted cause f h) = tt
-delivery w s packet _ _ _ (delivered.overflown p f h t) = all_of w.vif p (behind_transmit w.vif s.rx_index packet p _ [] t tt)
-delivery w s packet _ _ _ (delivered.few p f h t) = all_of w.vif p (behind_transmit w.vif s.rx_index packet p _ [] t tt)
-delivery w s packet _ _ _ (delivered.refused p used f h t) = all_of w.vif p (behind_transmit w.vif s.rx_index packet p _ [] t tt)
-delivery w s packet _ _ _ (delivered.sent p used f h t) = all_of w.vif p (behind_transmit w.vif s.rx_index packet p _ [] t tt)
+delivery : (w : Wiring) (s : State) (o : RxOffload) (packet : List ℕ) (t : List Event) (new : State) (what : Delivery) → IsDelivery w s o packet t new what → GivesBack w.vif t
+delivery w s o packet _ _ _ (delivered.no_frame f) = tt
+delivery w s o packet _ _ _ (delivered.not_accepted f t) = tt
+delivery w s o packet _ _ _ (delivered.still_halted cause f h) = tt
+delivery w s o packet _ _ _ (delivered.overflown p f h t) = all_of w.vif p (behind_transmit w.vif s.rx_index o packet p _ [] t tt)
+delivery w s o packet _ _ _ (delivered.few p f h t) = all_of w.vif p (behind_transmit w.vif s.rx_index o packet p _ [] t tt)
+delivery w s o packet _ _ _ (delivered.refused p used f h t) = all_of w.vif p (behind_transmit w.vif s.rx_index o packet p _ [] t tt)
+delivery w s o packet _ _ _ (delivered.sent p used f h t) = all_of w.vif p (behind_transmit w.vif s.rx_index o packet p _ [] t tt)
 
-arrived : (w : Wiring) (s : State) (packet : List ℕ) (t : List Event) (new : State) (what : Delivery) → IsDelivery w s packet t new what → IsAnsweredRx what → HasPushed w.vif.rx new.rx_index t
-arrived w s packet _ _ _ (delivered.no_frame f) i = absurd i
-arrived w s packet _ _ _ (delivered.still_halted cause f h) i = absurd i
-arrived w s packet _ _ _ (delivered.overflown p f h t) i = absurd i
-arrived w s packet _ _ _ (delivered.few p f h t) i = absurd i
-arrived w s packet _ _ _ (delivered.refused p used f h t) i = refused_on w.vif s.rx_index packet p used t
-arrived w s packet _ _ _ (delivered.sent p used f h t) i = sent_on w.vif s.rx_index packet p used t
+arrived : (w : Wiring) (s : State) (o : RxOffload) (packet : List ℕ) (t : List Event) (new : State) (what : Delivery) → IsDelivery w s o packet t new what → IsAnsweredRx what → HasPushed w.vif.rx new.rx_index t
+arrived w s o packet _ _ _ (delivered.no_frame f) i = absurd i
+arrived w s o packet _ _ _ (delivered.not_accepted f t) i = absurd i
+arrived w s o packet _ _ _ (delivered.still_halted cause f h) i = absurd i
+arrived w s o packet _ _ _ (delivered.overflown p f h t) i = absurd i
+arrived w s o packet _ _ _ (delivered.few p f h t) i = absurd i
+arrived w s o packet _ _ _ (delivered.refused p used f h t) i = refused_on w.vif s.rx_index o packet p used t
+arrived w s o packet _ _ _ (delivered.sent p used f h t) i = sent_on w.vif s.rx_index o packet p used t
 
 pub returns : goal.returns
 returns c = record { turns = turn; answered = answered; deliveries = delivery; delivered = arrived }

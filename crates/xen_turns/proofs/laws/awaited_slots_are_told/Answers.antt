@@ -15,17 +15,17 @@ behind x a b h p q = omega arith
 not_below : (a b : ℕ) → b ≤ a → nat_lt a b ≡ false
 not_below a b h = grind (arith, nat_tests)
 
-is_told : (x m n pages : ℕ) → x < 2 ^ 32 → m < pages → pages ≤ n → n ≤ 256 → is_due (add32 x m) (add32 x n) (add32 x pages) ≡ true
-is_told x m n pages h p q few =
-    ap (λ d. nat_lt d (distance (add32 x m) (add32 x n))) (ahead x pages n h q (omega arith))
-    ∙ ap (nat_lt (n - pages)) (ahead x m n h (omega arith) (omega arith))
-    ∙ lt-ltb (n - pages) (n - m) (omega arith)
+is_told : (x m n wanted : ℕ) → x < 2 ^ 32 → m < wanted → wanted ≤ n → n ≤ 256 → is_due (add32 x m) (add32 x n) (add32 x wanted) ≡ true
+is_told x m n wanted h p q few =
+    ap (λ d. nat_lt d (distance (add32 x m) (add32 x n))) (ahead x wanted n h q (omega arith))
+    ∙ ap (nat_lt (n - wanted)) (ahead x m n h (omega arith) (omega arith))
+    ∙ lt-ltb (n - wanted) (n - m) (omega arith)
 
-stays_untold : (x m n pages : ℕ) → x < 2 ^ 32 → m ≤ n → n < pages → pages ≤ 256 → is_due (add32 x m) (add32 x n) (add32 x pages) ≡ false
-stays_untold x m n pages h p q few =
-    ap (λ d. nat_lt d (distance (add32 x m) (add32 x n))) (behind x pages n h q (omega arith))
-    ∙ ap (nat_lt (2 ^ 32 + n - pages)) (ahead x m n h p (omega arith))
-    ∙ not_below (2 ^ 32 + n - pages) (n - m) (omega arith)
+stays_untold : (x m n wanted : ℕ) → x < 2 ^ 32 → m ≤ n → n < wanted → wanted ≤ 256 → is_due (add32 x m) (add32 x n) (add32 x wanted) ≡ false
+stays_untold x m n wanted h p q few =
+    ap (λ d. nat_lt d (distance (add32 x m) (add32 x n))) (behind x wanted n h q (omega arith))
+    ∙ ap (nat_lt (2 ^ 32 + n - wanted)) (ahead x m n h p (omega arith))
+    ∙ not_below (2 ^ 32 + n - wanted) (n - m) (omega arith)
 
 pub returns : goal.returns
 returns c = record { told = is_told; below = stays_untold }

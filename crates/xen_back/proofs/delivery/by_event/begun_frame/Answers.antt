@@ -1,12 +1,13 @@
 use Rattle.std.proofs.Common.{ap, sym, ◌∙◌}
-use Rattle.xen_steps.specs.Steps.{bind}
-use Rattle.xen_turns.specs.Deliveries.{arrived, unless_halted}
+use Rattle.xen_turns.specs.Deliveries.{if_taken}
 use Rattle.xen_back.proofs.delivery.by_event.begun_frame.Goals as goal
 
-pub returns-in-Some : goal.returns-in-Some
-returns-in-Some c v = sym (ap (unless_halted v c.args.state.now c.args.packet.now) c.in-Some.is)
+pub returns-then-is_taken : goal.returns-then-is_taken
+returns-then-is_taken c v =
+    let taken = sym c.is_taken.ensures ∙ c.if-is_taken.true in
+    c.begun_accepted.ensures v ∙ sym (ap (if_taken v c.args.state.now c.args.packet.offload c.args.packet.bytes.now) taken)
 
-pub returns-in-None : goal.returns-in-None
-returns-in-None c v =
-    ap (λ o. bind o (arrived c.args.state.now)) (c.begin-transmit.ensures v c.args.state.now.rx_index c.args.packet.now)
-    ∙ sym (ap (unless_halted v c.args.state.now c.args.packet.now) c.in-None.is)
+pub returns-else-is_taken : goal.returns-else-is_taken
+returns-else-is_taken c v =
+    let taken = sym c.is_taken.ensures ∙ c.if-is_taken.false in
+    sym (ap (if_taken v c.args.state.now c.args.packet.offload c.args.packet.bytes.now) taken)

@@ -11,9 +11,9 @@ returns-in-On c =
     let w = c.args.vif.now in
     let s = c.args.state.now in
     let t = c.args.sending in
-    let start = rest_of w s.rx_index t.packet.now t.transmit.phase in
+    let start = rest_of w s.rx_index t.packet.offload t.packet.bytes.now t.transmit.phase in
     λ counter.
-    ap (λ (o : Progress). bind (rest_after w s.rx_index t.packet.now o) (arrived s)) (sym c.in-On.is)
+    ap (λ (o : Progress). bind (rest_after w s.rx_index t.packet.offload t.packet.bytes.now o) (arrived s)) (sym c.in-On.is)
     ∙ ap (λ o. bind o (arrived s)) (c.feed.ensures.rest counter)
     ∙ next_bind start (arrived s) c.args.word counter c.feed.ensures.asked
 
@@ -22,9 +22,9 @@ returns-in-Over c =
     let w = c.args.vif.now in
     let s = c.args.state.now in
     let t = c.args.sending in
-    let start = rest_of w s.rx_index t.packet.now t.transmit.phase in
+    let start = rest_of w s.rx_index t.packet.offload t.packet.bytes.now t.transmit.phase in
     λ counter.
     ap done (sym c.delivered-delivery.ensures.arrival)
-    ∙ ap (λ (o : Progress). bind (rest_after w s.rx_index t.packet.now o) (arrived s)) (sym c.in-Over.is)
+    ∙ ap (λ (o : Progress). bind (rest_after w s.rx_index t.packet.offload t.packet.bytes.now o) (arrived s)) (sym c.in-Over.is)
     ∙ ap (λ o. bind o (arrived s)) (c.feed.ensures.rest counter)
     ∙ next_bind start (arrived s) c.args.word counter c.feed.ensures.asked

@@ -9,6 +9,6 @@ returns c =
     let w = c.args.vif.now in
     let s = c.args.state.now in
     let t = c.args.sending.now in
-    let start = rest_of w s.rx_index t.packet.now t.transmit.phase in
+    let start = rest_of w s.rx_index t.packet.offload t.packet.bytes.now t.transmit.phase in
     let same = c.want.ensures.want ∙ want_bind start (arrived s) c.want.ensures.asks in
     record { want = same; asks = λ d. asks_on start (arrived s) c.want.ensures.asks (sym same ∙ d) }

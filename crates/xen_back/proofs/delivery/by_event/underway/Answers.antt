@@ -8,7 +8,9 @@ use Rattle.xen_back.proofs.delivery.by_event.underway.Goals as goal
 
 pub invariant_of-result : goal.invariant_of-result
 invariant_of-result c =
-    let w = c.args.vif.now in
+    let w = c.args.wiring.now.vif in
     let s = c.args.state.now in
-    let left = subst (λ (left : Steps Arrival). Arrives w left) (sym (c.begun-moving.ensures w)) (arrives w s c.args.packet.now c.requires.wired) in
+    let packet = c.args.packet in
+    let left = subst (λ (left : Steps Arrival). Arrives w left) (sym (c.begun-moving.ensures w))
+    (arrives w c.args.wiring.now.accepts s packet.offload packet.bytes.now c.requires.wired) in
     record { left = subst (λ (v : Vif). Arrives v (rest_moving v s c.begun-moving.result)) (sym c.shared.ensures) left }

@@ -18,7 +18,7 @@ pub invariant_of-result : goal.invariant_of-result
 invariant_of-result c =
     let d = c.args.desc in
     let vif : Vif = record { tx = c.frame.result; rx = c.frame-2.result; table = d.table; owners = d.owners; granter = d.granter; user = d.user; port = d.port } in
-    let w : Wiring = record { vif = vif; offers = d.offers; program = c.args.program; lists = c.args.lists; ifindex = d.ifindex; queue = d.queue } in
+    let w : Wiring = record { vif = vif; offers = d.offers; accepts = d.accepts; program = c.args.program; lists = c.args.lists; ifindex = d.ifindex; queue = d.queue } in
     let wired : IsWired vif = record {
       tx = rw c.frame.ensures c.requires.tx.owned;
       rx = rw c.frame-2.ensures c.requires.rx.owned;
@@ -33,7 +33,7 @@ pub returns : goal.returns
 returns c =
     let d = c.args.desc in
     let vif : Vif = record { tx = c.frame.result; rx = c.frame-2.result; table = d.table; owners = d.owners; granter = d.granter; user = d.user; port = d.port } in
-    let w : Wiring = record { vif = vif; offers = d.offers; program = c.args.program; lists = c.args.lists; ifindex = d.ifindex; queue = d.queue } in
+    let w : Wiring = record { vif = vif; offers = d.offers; accepts = d.accepts; program = c.args.program; lists = c.args.lists; ifindex = d.ifindex; queue = d.queue } in
     record {
       tx_ring = refl;
       rx_ring = refl;
@@ -45,6 +45,7 @@ returns c =
       user = refl;
       port = refl;
       offers = refl;
+      accepts = refl;
       accepted = refl;
       lists_are = refl;
       ifindex = refl;

@@ -9,6 +9,6 @@ returns c =
     let old = c.args.self.now in
     let small : c.args.producer < 2 ^ 32 = omega (arith, c.ranges.producer.fits) in
     record {
-      stands = λ w packet frame st. delivery_stands (engine_at w packet old) st c.args.producer (work_at packet old.work) small frame;
-      begun = λ w packet frame h. delivery_begins (engine_at w packet old) c.args.producer (work_at packet old.work) packet h small refl frame;
+      stands = λ w packet d st. delivery_stands (engine_at w packet old) st c.args.producer (record (work_at packet old.work) { offload = c.args.offload }) small d;
+      begun = λ w packet d h. delivery_begins (engine_at w packet old) c.args.producer (record (work_at packet old.work) { offload = c.args.offload }) packet h small refl d;
     }

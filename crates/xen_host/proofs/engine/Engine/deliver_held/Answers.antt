@@ -23,13 +23,13 @@ look-producer-requires g c =
     record { frame = omega (arith, c.rx.ensures, c.requires.size, k) }
 
 pub step_over-requires-clause-stands : goal.step_over-requires-clause-stands
-step_over-requires-clause-stands g c = c.begin_delivery.ensures.stands (g.W.Wires.wiring c.args.wires.now) (g.R.Room.held c.args.packet.now) c.requires.frame c.requires.stands
+step_over-requires-clause-stands g c = c.begin_delivery.ensures.stands (g.W.Wires.wiring c.args.wires.now) (g.R.Room.held c.args.packet.now) c.requires.deliverable c.requires.stands
 
 pub step_over-requires-clause-busy : goal.step_over-requires-clause-busy
 step_over-requires-clause-busy g c =
     let w = g.W.Wires.wiring c.args.wires.now in
-    let b = c.begin_delivery.ensures.begun w (g.R.Room.held c.args.packet.now) c.requires.frame c.requires.rests in
-    begun_delivery_busy (engine_at w (g.R.Room.held c.args.packet.now) c.begin_delivery.new.self) c.args.self.now.state (g.R.Room.held c.args.packet.now) _ None b.delivering
+    let b = c.begin_delivery.ensures.begun w (g.R.Room.held c.args.packet.now) c.requires.deliverable c.requires.rests in
+    begun_delivery_busy (engine_at w (g.R.Room.held c.args.packet.now) c.begin_delivery.new.self) c.args.self.now.state c.args.offload (g.R.Room.held c.args.packet.now) _ None b.delivering
 
 pub step_over-requires-clause-counts : goal.step_over-requires-clause-counts
 step_over-requires-clause-counts g c = c.requires.serving [] c.args.counters.now refl
@@ -56,11 +56,11 @@ go_on-requires g c =
     let host = c.step_over.new.host in
     let after = c.step_over.new.counters in
     let packet = (g.R.Room.held c.args.packet.now) in
-    let d = delivery_begun log gives size did old mid e packet bus before after producer made host sized c.new-host.ensures.over seen (c.begin_delivery.ensures.begun w (g.R.Room.held c.args.packet.now) c.requires.frame c.requires.rests) c.step_over.ensures.stands c.step_over.ensures.stepped in
-    let task = delivery packet in
+    let d = delivery_begun log gives size did old mid e c.args.offload packet bus before after producer made host sized c.new-host.ensures.over seen (c.begin_delivery.ensures.begun w (g.R.Room.held c.args.packet.now) c.requires.deliverable c.requires.rests) c.step_over.ensures.stands c.step_over.ensures.stepped in
+    let task = delivery c.args.offload packet in
     let few = c.deliveries_are_bounded.ensures in
-    let short : DeliveriesAreShort = λ v s packet p end what t. let a = few.accesses v s packet p end what t in let k = few.notices v s packet p end what t in omega (arith, a, k) in
-    record { goes = going log gives size did serves task s w bus before 16485 e after host d (λ n new end host_after x. let k = delivery_short log gives size did c.deliveries_are_rests.ensures.rests short s packet w bus before n new end host_after x in omega (arith, k)) c.requires.serving }
+    let short : DeliveriesAreShort = λ v s o packet p end what t. let a = few.accesses v s o packet p end what t in let k = few.notices v s o packet p end what t in omega (arith, a, k) in
+    record { goes = going log gives size did serves task s w bus before 16489 e after host d (λ n new end host_after x. let k = delivery_short log gives size did c.deliveries_are_rests.ensures.rests short s c.args.offload packet w bus before n new end host_after x in omega (arith, k)) c.requires.serving }
 
 pub returns-clause-stands : goal.returns-clause-stands
 returns-clause-stands g c =
@@ -83,8 +83,8 @@ returns-clause-stands g c =
     let host = c.step_over.new.host in
     let after = c.step_over.new.counters in
     let packet = (g.R.Room.held c.args.packet.now) in
-    let d = delivery_begun log gives size did old mid e packet bus before after producer made host sized c.new-host.ensures.over seen (c.begin_delivery.ensures.begun w (g.R.Room.held c.args.packet.now) c.requires.frame c.requires.rests) c.step_over.ensures.stands c.step_over.ensures.stepped in
-    let task = delivery packet in
+    let d = delivery_begun log gives size did old mid e c.args.offload packet bus before after producer made host sized c.new-host.ensures.over seen (c.begin_delivery.ensures.begun w (g.R.Room.held c.args.packet.now) c.requires.deliverable c.requires.rests) c.step_over.ensures.stands c.step_over.ensures.stepped in
+    let task = delivery c.args.offload packet in
     let x = c.go_on.ensures.gone in
     let end = engine_at w (g.R.Room.held c.go_on.new.packet) c.go_on.new.self in
     let r = gone_then log gives size did task s w bus before x.0 e end after c.go_on.new.counters host c.go_on.new.host d x.1 in
@@ -111,8 +111,8 @@ returns-clause-size g c =
     let host = c.step_over.new.host in
     let after = c.step_over.new.counters in
     let packet = (g.R.Room.held c.args.packet.now) in
-    let d = delivery_begun log gives size did old mid e packet bus before after producer made host sized c.new-host.ensures.over seen (c.begin_delivery.ensures.begun w (g.R.Room.held c.args.packet.now) c.requires.frame c.requires.rests) c.step_over.ensures.stands c.step_over.ensures.stepped in
-    let task = delivery packet in
+    let d = delivery_begun log gives size did old mid e c.args.offload packet bus before after producer made host sized c.new-host.ensures.over seen (c.begin_delivery.ensures.begun w (g.R.Room.held c.args.packet.now) c.requires.deliverable c.requires.rests) c.step_over.ensures.stands c.step_over.ensures.stepped in
+    let task = delivery c.args.offload packet in
     let x = c.go_on.ensures.gone in
     let end = engine_at w (g.R.Room.held c.go_on.new.packet) c.go_on.new.self in
     let r = gone_then log gives size did task s w bus before x.0 e end after c.go_on.new.counters host c.go_on.new.host d x.1 in
@@ -141,16 +141,16 @@ returns-clause-delivered g c =
     let host = c.step_over.new.host in
     let after = c.step_over.new.counters in
     let packet = (g.R.Room.held c.args.packet.now) in
-    let d = delivery_begun log gives size did old mid e packet bus before after producer made host sized c.new-host.ensures.over seen (c.begin_delivery.ensures.begun w (g.R.Room.held c.args.packet.now) c.requires.frame c.requires.rests) c.step_over.ensures.stands c.step_over.ensures.stepped in
-    let task = delivery packet in
+    let d = delivery_begun log gives size did old mid e c.args.offload packet bus before after producer made host sized c.new-host.ensures.over seen (c.begin_delivery.ensures.begun w (g.R.Room.held c.args.packet.now) c.requires.deliverable c.requires.rests) c.step_over.ensures.stands c.step_over.ensures.stepped in
+    let task = delivery c.args.offload packet in
     let x = c.go_on.ensures.gone in
     let end = engine_at w (g.R.Room.held c.go_on.new.packet) c.go_on.new.self in
     let r = gone_then log gives size did task s w bus before x.0 e end after c.go_on.new.counters host c.go_on.new.host d x.1 in
-    let m = delivery_over log gives size did old packet bus before x.0 end c.go_on.new.counters c.go_on.new.host c.go_on.result r x.2 in
+    let m = delivery_over log gives size did old c.args.offload packet bus before x.0 end c.go_on.new.counters c.go_on.new.host c.go_on.result r x.2 in
     -- the bus was lent to the host until here
     let same = c.bus-1.given.1 (sym (c.go_on.ensures.loan ∙ c.step_over.ensures.loan ∙ c.new-host.ensures.loan)) in
     let is : c.in-Delivery.delivery ≡ m.0 = cc (sym (ap (λ (o : Over). ask_of o) c.in-Delivery.is) ∙ m.1) in
-    subst (λ b. HasDeliveredAt log gives old end packet c.in-Delivery.delivery bus b before c.go_on.new.counters) (sym same) (subst (λ k. HasDeliveredAt log gives old end packet k bus c.go_on.new.host.bus.now before c.go_on.new.counters) (sym is) m.2)
+    subst (λ b. HasDeliveredAt log gives old end c.args.offload packet c.in-Delivery.delivery bus b before c.go_on.new.counters) (sym same) (subst (λ k. HasDeliveredAt log gives old end c.args.offload packet k bus c.go_on.new.host.bus.now before c.go_on.new.counters) (sym is) m.2)
 
 pub unreachable-requires : goal.unreachable-requires
 unreachable-requires g c =
@@ -173,12 +173,12 @@ unreachable-requires g c =
     let host = c.step_over.new.host in
     let after = c.step_over.new.counters in
     let packet = (g.R.Room.held c.args.packet.now) in
-    let d = delivery_begun log gives size did old mid e packet bus before after producer made host sized c.new-host.ensures.over seen (c.begin_delivery.ensures.begun w (g.R.Room.held c.args.packet.now) c.requires.frame c.requires.rests) c.step_over.ensures.stands c.step_over.ensures.stepped in
-    let task = delivery packet in
+    let d = delivery_begun log gives size did old mid e c.args.offload packet bus before after producer made host sized c.new-host.ensures.over seen (c.begin_delivery.ensures.begun w (g.R.Room.held c.args.packet.now) c.requires.deliverable c.requires.rests) c.step_over.ensures.stands c.step_over.ensures.stepped in
+    let task = delivery c.args.offload packet in
     let x = c.go_on.ensures.gone in
     let end = engine_at w (g.R.Room.held c.go_on.new.packet) c.go_on.new.self in
     let r = gone_then log gives size did task s w bus before x.0 e end after c.go_on.new.counters host c.go_on.new.host d x.1 in
-    let m = delivery_over log gives size did old packet bus before x.0 end c.go_on.new.counters c.go_on.new.host c.go_on.result r x.2 in
+    let m = delivery_over log gives size did old c.args.offload packet bus before x.0 end c.go_on.new.counters c.go_on.new.host c.go_on.result r x.2 in
     absurd (cc (sym (ap (λ (o : Over). ask_of o) c.in-Turn.is) ∙ m.1))
 
 pub unreachable-requires-in-Wait : goal.unreachable-requires-in-Wait
@@ -202,10 +202,10 @@ unreachable-requires-in-Wait g c =
     let host = c.step_over.new.host in
     let after = c.step_over.new.counters in
     let packet = (g.R.Room.held c.args.packet.now) in
-    let d = delivery_begun log gives size did old mid e packet bus before after producer made host sized c.new-host.ensures.over seen (c.begin_delivery.ensures.begun w (g.R.Room.held c.args.packet.now) c.requires.frame c.requires.rests) c.step_over.ensures.stands c.step_over.ensures.stepped in
-    let task = delivery packet in
+    let d = delivery_begun log gives size did old mid e c.args.offload packet bus before after producer made host sized c.new-host.ensures.over seen (c.begin_delivery.ensures.begun w (g.R.Room.held c.args.packet.now) c.requires.deliverable c.requires.rests) c.step_over.ensures.stands c.step_over.ensures.stepped in
+    let task = delivery c.args.offload packet in
     let x = c.go_on.ensures.gone in
     let end = engine_at w (g.R.Room.held c.go_on.new.packet) c.go_on.new.self in
     let r = gone_then log gives size did task s w bus before x.0 e end after c.go_on.new.counters host c.go_on.new.host d x.1 in
-    let m = delivery_over log gives size did old packet bus before x.0 end c.go_on.new.counters c.go_on.new.host c.go_on.result r x.2 in
+    let m = delivery_over log gives size did old c.args.offload packet bus before x.0 end c.go_on.new.counters c.go_on.new.host c.go_on.result r x.2 in
     absurd (cc (sym (ap (λ (o : Over). ask_of o) c.in-Wait.is) ∙ m.1))

@@ -7,6 +7,7 @@ use Rattle.xen_rx_fill.specs.Transmit.{outcome_of}
 use Rattle.xen_host.specs.declared.stage.Fill.TheVariants as fill
 use Rattle.xen_host.proofs.FillLemmas.{IsFillOn, fill_before, lift_fill}
 use Rattle.xen_host.specs.EngineAt.{engine_at}
+use Rattle.xen_host.specs.Rest.{rx_offload}
 use Rattle.xen_host.proofs.engine.Engine.give_rx_notice.Goals as goal
 
 pub returns-then-has_room : goal.returns-then-has_room
@@ -23,6 +24,6 @@ returns-else-has_room g c =
     let left = done (outcome_of c.args.grants (length ts)) in
     record {
       led = lift_fill _ _ c.args.purpose q ts f _ _ _
-          (asks_last _ _ (IsFillOn q ts f) _ _ left _ _ _ (ask.Notify q.wires.vif.port) [] (subst (λ p. g.H.Host.was_asked c.args.host.now (ask.Notify p) [] c.notify.new.self) c.port.ensures c.notify.ensures.asked) (inl (c.has_room.ensures.full c.if-has_room.false)) tt
+          (asks_last _ _ (IsFillOn q ts (rx_offload c.args.purpose q.work.offload) f) _ _ left _ _ _ (ask.Notify q.wires.vif.port) [] (subst (λ p. g.H.Host.was_asked c.args.host.now (ask.Notify p) [] c.notify.new.self) c.port.ensures c.notify.ensures.asked) (inl (c.has_room.ensures.full c.if-has_room.false)) tt
           (left, (0, (refl, refl), refl), refl) (refl, tt, refl) refl tt);
     }

@@ -8,6 +8,7 @@ use Rattle.xen_host.specs.declared.stage.Fill.TheVariants as fill
 use Rattle.xen_host.proofs.FillLemmas.{IsFillOn, lift_fill}
 use Rattle.xen_host.proofs.HostLedLemmas.{asks_one}
 use Rattle.xen_host.specs.EngineAt.{engine_at}
+use Rattle.xen_host.specs.Rest.{rx_offload}
 use Rattle.xen_host.proofs.engine.Engine.push_replies.Goals as goal
 
 pub returns : goal.returns
@@ -23,6 +24,6 @@ returns g c =
           let left = rx_event w x c.args.grants (length ts) in
           let is = ap (λ k. ask.Push c.header.result (add32 x k) 3) c.len.ensures.value ∙ ap (λ (p : Place). ask.Push p v 3) (c.header.ensures ∙ ap (λ k. page_word k 2) c.rx.ensures) in
           lift_fill _ _ c.args.purpose q ts f _ _ _
-          (asks_one _ _ (IsFillOn q ts f) _ _ left _ _ _ (ask.Push (rx_word w 2) v 3) _ c.push.ensures is refl tt
+          (asks_one _ _ (IsFillOn q ts (rx_offload c.args.purpose q.work.offload) f) _ _ left _ _ _ (ask.Push (rx_word w 2) v 3) _ c.push.ensures is refl tt
           (left, (0, (refl, refl), refl), refl) (refl, tt, (refl, (refl, λ a. tt))) refl tt);
     }

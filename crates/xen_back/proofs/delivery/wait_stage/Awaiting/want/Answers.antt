@@ -6,4 +6,4 @@ use Rattle.xen_back.proofs.delivery.wait_stage.Awaiting.want.Goals as goal
 pub returns-in-Over-clause-over : goal.returns-in-Over-clause-over
 returns-in-Over-clause-over c = λ e.
     let a = c.args.self.now in
-    ((c.in-Over.after, c.in-Over.awaited), ap (λ (l : Looking). rest_looking a.rx a.state a.pages l) c.in-Over.is)
+    ((c.in-Over.after, c.in-Over.awaited), ap (λ (l : Looking). rest_looking a.rx a.state a.wanted l) c.in-Over.is)

@@ -1,0 +1,11 @@
+//! The packet that a transmit sends.
+
+use xen_netif::RxOffload;
+
+/// A packet for the frontend.
+#[derive(Clone, Copy)]
+pub struct Packet<'p> {
+    /// What it leaves to the frontend.
+    pub offload: RxOffload,
+    pub bytes: &'p [u8],
+}
