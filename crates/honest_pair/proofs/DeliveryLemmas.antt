@@ -3,6 +3,7 @@ use Rattle.std.proofs.Common.{◌≡◌, ℕ, suc, ◌+◌, ◌<◌, ◌^◌, re
 use Rattle.std.specs.Prelude.{◌==◌, slice_index_or}
 use Rattle.std.proofs.lemmas.Bool.Decides.{nat_tests}
 use Rattle.std.proofs.lemmas.List.{append-nil}
+use Rattle.xen_netif.specs.declared.offload.RxOffload.TheVariants.{Whole}
 use Rattle.xen_steps.specs.Event.{Event, Occurs}
 use Rattle.xen_steps.specs.Steps.{Steps, done, ask, never, next, want_of}
 use Rattle.xen_steps.specs.declared.want.Want.{Want}
@@ -278,14 +279,14 @@ module _ (old new : Held) (packet : List ℕ) (all : All IsByte packet) (aw : ne
         let z = begins_at bw q x old.asleep old.calling p packet p.at between shows in
         let wired : wiring_of q ≡ bw = subst (λ (n : Queue). wiring_of n ≡ bw) (ol.1 q) (s.back_wired q) in
         let wired' : wiring_of q' ≡ bw = ap (λ (n : Queue). wiring_of n) (sym (ne.1 q)) ∙ i.wired q ∙ s.back_wired q in
-        let lands : Lands q (whole_delivery bw.vif p.back packet) q' y'.0 o =
-        subst (λ (w : Wiring). Lands q (whole_delivery w.vif p.back packet) q' y'.0 o) wired
-        (subst (λ (t : State). Lands q (whole_delivery (wiring_of q).vif t packet) q' y'.0 o) z.3
-        (subst (λ (n : Queue). Lands n (whole_delivery (wiring_of n).vif (state_of n) packet) q' y'.0 o) (ol.1 q)
-        (subst (λ (n : Queue). Lands (queue_in old.world q) (whole_delivery (wiring_of (queue_in old.world q)).vif (state_of (queue_in old.world q)) packet) n y'.0 o) (ne.1 q)
-        (subst (λ (n : Doing). Lands (queue_in old.world q) (whole_delivery (wiring_of (queue_in old.world q)).vif (state_of (queue_in old.world q)) packet) (queue_in new.world q) n o) (y'.1 x) (i.lands q x))))) in
+        let lands : Lands q (whole_delivery bw.vif bw.accepts p.back Whole packet) q' y'.0 o =
+        subst (λ (w : Wiring). Lands q (whole_delivery w.vif w.accepts p.back Whole packet) q' y'.0 o) wired
+        (subst (λ (t : State). Lands q (whole_delivery (wiring_of q).vif (wiring_of q).accepts t Whole packet) q' y'.0 o) z.3
+        (subst (λ (n : Queue). Lands n (whole_delivery (wiring_of n).vif (wiring_of n).accepts (state_of n) Whole packet) q' y'.0 o) (ol.1 q)
+        (subst (λ (n : Queue). Lands (queue_in old.world q) (whole_delivery (wiring_of (queue_in old.world q)).vif (wiring_of (queue_in old.world q)).accepts (state_of (queue_in old.world q)) Whole packet) n y'.0 o) (ne.1 q)
+        (subst (λ (n : Doing). Lands (queue_in old.world q) (whole_delivery (wiring_of (queue_in old.world q)).vif (wiring_of (queue_in old.world q)).accepts (state_of (queue_in old.world q)) Whole packet) (queue_in new.world q) n o) (y'.1 x) (i.lands q x))))) in
         let p' : Pair = begin_delivery bw p old.asleep packet in
-        let t = lands_shows bw p old.asleep packet (whole_delivery bw.vif p.back packet) q q' y'.0 o lands wired' z.3 in
+        let t = lands_shows bw p old.asleep packet (whole_delivery bw.vif bw.accepts p.back Whole packet) q q' y'.0 o lands wired' z.3 in
         let count : length (kept_in old.world.turns.items 0) ≡ length (turns_of p.deeds) = kept_count (turns_of p.deeds) (kept_in old.world.turns.items 0) s.turns in
         let after_it : Shows bw fw new p' = record {
           memory = ap memory_in mem ∙ s.memory ∙ sym t.memory;

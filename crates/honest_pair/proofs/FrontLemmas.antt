@@ -15,7 +15,7 @@ use Rattle.xen_front.specs.Fronts.{HasBegun, IsSame, all_free, busy, chosen, pol
 use Rattle.xen_front.specs.Given.{Ending, Given}
 use Rattle.xen_front.specs.Rest.{busy_in, rest_at}
 use Rattle.xen_front.specs.Slots.{pieces_of, post_writes, send_writes}
-use Rattle.xen_front.specs.Tree.{flown, poll, post, publish, send}
+use Rattle.xen_front.specs.Tree.{flown, flown_post, poll, post, publish, send}
 use Rattle.xen_steps.specs.Places.{add32}
 use Rattle.xen_front.specs.declared.front.Front.{Front}
 use Rattle.xen_front.specs.declared.by_event.phase.Phase.{Phase}
@@ -66,6 +66,9 @@ idle_done w s p q (phase.RxFirst a) h = absurd (cc)
 idle_done w s p q (phase.RxSecond a b) h = absurd (cc)
 idle_done w s p q (phase.RxEnd a) h = absurd (cc)
 idle_done w s p q (phase.RxPage a) h = absurd (cc)
+idle_done w s p q (phase.ExtraFirst a) h = absurd (cc)
+idle_done w s p q (phase.ExtraSecond a b) h = absurd (cc)
+idle_done w s p q (phase.ExtraEnd a b) h = absurd (cc)
 idle_done w s p q (phase.Ended a) h = absurd (cc)
 
 going_busy : (w : Wiring) (s : State) (p q : List ℕ) (x : Phase) → IsGoing (rest_at w s p q x) → busy_in x ≡ true
@@ -93,6 +96,9 @@ going_busy w s p q (phase.RxFirst a) h = refl
 going_busy w s p q (phase.RxSecond a b) h = refl
 going_busy w s p q (phase.RxEnd a) h = refl
 going_busy w s p q (phase.RxPage a) h = refl
+going_busy w s p q (phase.ExtraFirst a) h = refl
+going_busy w s p q (phase.ExtraSecond a b) h = refl
+going_busy w s p q (phase.ExtraEnd a b) h = refl
 going_busy w s p q (phase.Ended a) h = refl
 
 nothing_left : (f : Front) → busy f ≡ false → want_of (rest f) ≡ want.Done
@@ -183,7 +189,7 @@ send_goes : (w : Wiring) (s : State) (p ids : List ℕ) → IsGoing (send w s p 
 send_goes w s p ids = writes_go (send_writes w s.tx.prod p (length ids) 0 ids) (publish w w.tx_frame s.tx.prod (add32 s.tx.prod (length ids)) (record s { tx = flown s.tx ids })) tt
 
 post_goes : (w : Wiring) (s : State) (id : ℕ) → IsGoing (post w s id)
-post_goes w s id = writes_go (post_writes w s.rx.prod id) (publish w w.rx_frame s.rx.prod (add32 s.rx.prod 1) (record s { rx = flown s.rx (id ∷ []) })) tt
+post_goes w s id = writes_go (post_writes w s.rx.prod id) (publish w w.rx_frame s.rx.prod (add32 s.rx.prod 1) (flown_post s id)) tt
 
 -- The front goes on by this tree, or has ended it and was asked what it received.
 abbrev pub Ended_as : Held → Held → Steps Ending → Type 0

@@ -8,3 +8,4 @@ pub mod DeliveryLemmas
 pub mod RunLemmas
 pub mod WakeLemmas
 pub mod WaitLemmas
+pub mod OffloadLemmas

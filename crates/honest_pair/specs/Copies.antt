@@ -3,6 +3,7 @@
 use Rattle.std.specs.Prelude.{ℕ, ◌≡◌, List, [], ◌∷◌, ◌++◌, ◌==◌, if◌then◌else◌, None}
 use Rattle.xen_steps.specs.Event.{Event}
 use Rattle.xen_turns.specs.Awaited.{IsAwaiting}
+use Rattle.xen_netif.specs.declared.offload.RxOffload.TheVariants.{Whole}
 use Rattle.xen_turns.specs.Delivered.{IsDelivery}
 use Rattle.xen_turns.specs.Tree.{Left}
 use Rattle.xen_turns.specs.Turned.{Turned, Idle, Ran, Refused, Halted}
@@ -53,7 +54,7 @@ pub data AreCopied (w : Wiring) : State → List Item → List Deed → (copies 
       AreCopied w s (all_came t ++ more) (TurnOf k ∷ ds) (copy ∷ copies) (sent_back k ++ given) end front
   arrived : (s mid end : State) (packet : List ℕ) (t : List Event) (more front : List Item) (what : Delivery) (ds : List Deed)
       (copies given : List (List ℕ)) →
-      IsDelivery w s packet t mid what → HasArrived what → AreCopied w mid more ds copies given end front →
+      IsDelivery w s Whole packet t mid what → HasArrived what → AreCopied w mid more ds copies given end front →
       AreCopied w s (Given packet ∷ (all_came t ++ more)) (DeliveryOf what ∷ ds) copies (delivered packet what ++ given) end front
   looked : (s mid end : State) (pages : ℕ) (t : List Event) (more front : List Item) (answer : Awaited) (ds : List Deed)
       (copies given : List (List ℕ)) →

@@ -8,3 +8,4 @@ pub mod Deeds
 pub mod Copies
 pub mod Runs
 pub mod Shows
+pub mod Offloaded

@@ -7,6 +7,7 @@ ghost use Rattle.honest_pair.specs.Machine.Log.{LogLaw};
 ghost use Rattle.honest_pair.specs.Machine.Traces.{TraceLaw};
 ghost use Rattle.honest_pair.specs.Invariant.Laws.{BackLaws};
 ghost use Rattle.honest_pair.specs.Machine.Law.{PairLaw};
+ghost use Rattle.honest_pair.specs.Offloaded.{OffloadsAreReceived};
 
 /// The halves of a turn are the whole turn.
 pub fn turns_have_halves()
@@ -41,4 +42,10 @@ pub fn back_law()
 /// What holds of every list of events of the pair.
 pub fn pair_law()
     ensures { PairLaw }
+{}
+
+/// What a delivery has written for a packet that leaves its front something, the front receives: the packet's bytes, with what
+/// it leaves to the front.
+pub fn offloads_are_received()
+    ensures { OffloadsAreReceived }
 {}

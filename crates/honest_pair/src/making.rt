@@ -5,7 +5,7 @@ ghost use Rattle.xdp_world.specs.Buffers.{granted_from};
 
 use std::alloc::{AllocError, Global};
 use xdp_world::{BACK, Layout};
-use xen_front::{Buffer, Front, FrontDesc};
+use xen_front::{ACCEPTS_WHOLE, Buffer, Front, FrontDesc};
 use xen_ring::Port;
 
 /// The front of a pair, over these buffers.
@@ -35,5 +35,5 @@ pub(crate) fn front<'p>(
         port,
         start,
     };
-    Front::make(alloc, desc)
+    Front::make(alloc, desc, ACCEPTS_WHOLE)
 }

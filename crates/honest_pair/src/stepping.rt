@@ -44,7 +44,7 @@ impl Pair<'_, '_, '_> {
         let _buffer: Option<&Buffer> = None;
         let alloc = *self.received.allocator();
         match self.front.received() {
-            RxTurn::Packet(bytes) => {
+            RxTurn::Packet { bytes, .. } => {
                 let mut packet = Vec::new(alloc);
                 packet.extend_from_slice(bytes)?;
                 self.received.push(packet)?;

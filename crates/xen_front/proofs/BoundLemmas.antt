@@ -1,13 +1,15 @@
 -- Each activity keeps to the front's frames, and is short.
 use Rattle.std.proofs.Common.{◌≡◌, ℕ, zero, suc, ◌+◌, ◌-◌, ◌*◌, ◌/◌, ◌<◌, ◌≤◌, Bool, true, false, List, [], ◌∷◌, ◌++◌, length, map, Contains, Option, Some, None, ℤ, pos, negsuc, refl, ◌∙◌, ap, arith, subst, set, length-append}
-use Rattle.std.specs.Prelude.{◌==◌, nat_le, nat_lt, if◌then◌else◌}
+use Rattle.std.specs.Prelude.{◌==◌, ◌||◌, nat_le, nat_lt, if◌then◌else◌}
 use Rattle.std.proofs.lemmas.List.{length-set}
 use Rattle.std.proofs.lemmas.List.Elements.{Contains-append_left, Contains-append_right}
 use Rattle.std.proofs.lemmas.Bool.Decides.{nat_tests}
 use Rattle.xen_netif.specs.Slots.{rx_rsp_of, tx_rsp_of, tx_req_words, rx_req_words}
+use Rattle.xen_netif.specs.declared.flags.RxFlags.{RxFlags}
 use Rattle.xen_netif.specs.declared.fragment.Fragment.{Fragment}
 use Rattle.xen_netif.specs.declared.rx.RxReq.{RxReq}
 use Rattle.xen_netif.specs.declared.rx.RxRsp.{RxRsp}
+use Rattle.xen_netif.specs.declared.segments.Segments.{Segments}
 use Rattle.xen_netif.specs.declared.tx.TxReq.{TxReq}
 use Rattle.xen_netif.specs.declared.tx.TxRsp.{TxRsp}
 use Rattle.xen_page.specs.Mapping.{frame_place}
@@ -25,8 +27,8 @@ use Rattle.xen_steps.specs.declared.want.Want.TheVariants as want
 use Rattle.xen_steps.proofs.DriveLemmas.{bounded_le, bounded_bind}
 use Rattle.xen_front.specs.Bound.{AreOwn, HasFlags, IsOwnEvent, IsOwnPlace, IsOwnWant}
 use Rattle.xen_front.specs.Given.{Ending}
-use Rattle.xen_front.specs.Slots.{buffer, covered_bytes, fault_of, gave, grant_place, grant_writes, in_flight, outstanding, page_writes, part_of, passes_page, piece_request, piece_words, piece_writes, place_or, post_writes, rx_writes, send_writes, slot_writes, filling, took, tx_writes}
-use Rattle.xen_front.specs.Tree.{Gathered, after_rx_look, after_tx_look, chained, checked, flown, grown, judged, look, notice, poll, poll_rx, post, publish, receive, seen, send, take_all}
+use Rattle.xen_front.specs.Slots.{buffer, covered_bytes, extra_of, extra_taken, fault_of, gave, grant_place, grant_writes, in_flight, outstanding, page_writes, part_of, passes_page, piece_request, piece_words, piece_writes, place_or, post_writes, posted_at, segments_in, rx_writes, send_writes, slot_writes, filling, took, tx_writes}
+use Rattle.xen_front.specs.Tree.{Expected, Slot, Extra, Gathered, after_rx_look, after_tx_look, chained, checked, continues, expected, extra_checked, flown, flown_post, grown, judged, look, next_entry, notice, nothing_gathered, poll, poll_rx, post, publish, receive, seen, segmented, send, take_all}
 use Rattle.xen_buffers.specs.Wired.{AreInTable, IsWired, frame_of, frames_of}
 use Rattle.xen_front.specs.declared.state.Ring.{Ring}
 use Rattle.xen_front.specs.declared.state.State.{State}
@@ -67,6 +69,41 @@ covered-le b r h = by r.status h
             let inside : r.offset + n ≤ 4096 = grind (arith, nat_tests) in
             let some : 1 ≤ n = grind (arith, nat_tests) in
             omega (arith, inside, some)
+
+-- 3 events for an extra, where one may come
+abbrev room : ℕ → ℕ
+room slots = if slots == 0 then 3 else 0
+
+abbrev extra_cost : Expected → ℕ → ℕ
+extra_cost Slot slots = room slots
+extra_cost (Extra more) slots = 3
+
+-- and 1,027 for each slot
+abbrev cost : Gathered → ℕ
+cost g = 1027 * (16 - g.slots) + extra_cost g.next g.slots
+
+room_gone : (slots : ℕ) → 1 ≤ slots → room slots ≡ 0
+room_gone slots h = let e : (slots == 0) ≡ false = grind (arith, nat_tests) in ap (λ t. if t then 3 else 0) e
+
+cost_next : (flags : RxFlags) (slots : ℕ) → (flags.extra_info ≡ true → slots ≡ 0) → extra_cost (expected flags) (slots + 1) ≤ room slots
+cost_next flags slots h = by flags.extra_info refl
+  where
+    by : (t : Bool) → flags.extra_info ≡ t → extra_cost (if t then Extra flags.more_data else Slot) (slots + 1) ≤ room slots
+    by false e = let z = room_gone (slots + 1) (omega arith) in omega (arith, z)
+    by true e = let z : room slots ≡ 3 = ap room (h e) in omega (arith, z)
+
+-- an extra that is taken lies in the entry of a request in flight
+extra_flies : (s : State) (a b : ℕ) (x : Segments) → extra_taken s a b ≡ Some x → in_flight s.rx (posted_at s) ≡ true
+extra_flies s a b x h = by (in_flight s.rx (posted_at s)) refl h
+  where
+    by : (t : Bool) → in_flight s.rx (posted_at s) ≡ t → (if t then segments_in s.accepts (extra_of a b) else None) ≡ Some x → in_flight s.rx (posted_at s) ≡ true
+    by true e h = e
+    by false e h = cc
+
+-- a chain that goes on has not yet too many slots
+goes_few : (e m : Bool) (slots : ℕ) → (m ≡ true → slots ≤ 14) → (e ≡ true → slots ≡ 0) → (e || m) ≡ true → slots ≤ 14
+goes_few true m slots a b h = let z = b refl in omega (arith, z)
+goes_few false m slots a b h = a h
 
 module _ (w : Wiring) (h : IsWired w) where
   abbrev within : Want → Type 0
@@ -205,7 +242,7 @@ module _ (w : Wiring) (h : IsWired w) where
   pub bounded_post : (s : State) (id : ℕ) → id < 256 → Bounded within Any (post w s id) 7
   bounded_post s id lt =
       let b = buffer w.rx.now id in
-      let new : State = record s { rx = flown s.rx (id ∷ []) } in
+      let new : State = flown_post s id in
       bounded_writes (post_writes w s.rx.prod id) (publish w w.rx_frame s.rx.prod (add32 s.rx.prod 1) new) 3
       (both (grant_writes w b 1) (rx_writes w.rx_frame s.rx.prod 0 (rx_req_words (record { id = id; gref = b.gref }))) (grant_writes_own b 1 (rx_grant_owned id lt)) (rx_slot_own s.rx.prod (record { id = id; gref = b.gref })))
       (bounded_publish w.rx_frame s.rx.prod (add32 s.rx.prod 1) new rx_owned)
@@ -232,64 +269,88 @@ module _ (w : Wiring) (h : IsWired w) where
 
   -- what follows a slot of a chain
   abbrev GoesOn : (State → Gathered → Steps Ending) → Type 0
-  GoesOn rest = (s : State) (g : Gathered) → HasFlags s → g.slots ≤ 15 → Bounded within Any (rest s g) (1027 * (16 - g.slots))
+  GoesOn rest = (s : State) (g : Gathered) → HasFlags s → g.slots ≤ 15 → ((more : Bool) → g.next ≡ Extra more → 1 ≤ g.slots) → Bounded within Any (rest s g) (cost g)
 
-  bounded_chained : (rest : State → Gathered → Steps Ending) → GoesOn rest → (s : State) (g : Gathered) → HasFlags s → (r : RxRsp) (bytes : List ℕ) (more : Bool) → (more ≡ true → g.slots ≤ 14) →
-      Bounded within Any (chained more (gave s r.id) (grown g r bytes) rest) (1027 * (15 - g.slots))
-  bounded_chained rest go s g f r bytes false l = tt
-  bounded_chained rest go s g f r bytes true l =
+  bounded_chained : (rest : State → Gathered → Steps Ending) → GoesOn rest → (s : State) (g : Gathered) → HasFlags s → (r : RxRsp) (bytes : List ℕ) (more : Bool) → (more ≡ true → g.slots ≤ 14) → (r.flags.extra_info ≡ true → g.slots ≡ 0) →
+      Bounded within Any (chained more (gave s r.id) (grown g r bytes) rest) (1027 * (15 - g.slots) + room g.slots)
+  bounded_chained rest go s g f r bytes false l x = tt
+  bounded_chained rest go s g f r bytes true l x =
       let lt : g.slots ≤ 14 = l refl in
-      bounded_le within Any (rest (gave s r.id) (grown g r bytes)) (1027 * (16 - (g.slots + 1))) (1027 * (15 - g.slots)) (go (gave s r.id) (grown g r bytes) (keeps_flags s r.id f) (omega (arith, lt))) (omega arith)
+      let more = cost_next r.flags g.slots x in
+      bounded_le within Any (rest (gave s r.id) (grown g r bytes)) (cost (grown g r bytes)) (1027 * (15 - g.slots) + room g.slots)
+      (go (gave s r.id) (grown g r bytes) (keeps_flags s r.id f) (omega (arith, lt)) (λ m e. omega arith)) (omega (arith, more))
 
-  part_fits : (b : Buffer) (r : RxRsp) (slots : ℕ) → slots ≤ 15 → passes_page r.offset r.status ≡ false → covered (part_of b r) + 1027 * (15 - slots) ≤ 1027 * (16 - slots) - 1 - 1 - 1
+  part_fits : (b : Buffer) (r : RxRsp) (slots : ℕ) → slots ≤ 15 → passes_page r.offset r.status ≡ false → covered (part_of b r) + (1027 * (15 - slots) + room slots) ≤ 1027 * (16 - slots) + room slots - 1 - 1 - 1
   part_fits b r slots few ok = by (nat_lt 0 (covered (part_of b r))) refl
     where
-      by : (some : Bool) → nat_lt 0 (covered (part_of b r)) ≡ some → covered (part_of b r) + 1027 * (15 - slots) ≤ 1027 * (16 - slots) - 1 - 1 - 1
+      by : (some : Bool) → nat_lt 0 (covered (part_of b r)) ≡ some → covered (part_of b r) + (1027 * (15 - slots) + room slots) ≤ 1027 * (16 - slots) + room slots - 1 - 1 - 1
       by true t =
           let some : 0 < covered (part_of b r) = grind (arith, nat_tests) in
           let l = covered-le b r ok some in
           omega (arith, l, few)
       by false t = let none : covered (part_of b r) ≡ 0 = grind (arith, nat_tests) in omega (arith, none, few)
 
-  bounded_checked : (rest : State → Gathered → Steps Ending) → GoesOn rest → (s : State) (g : Gathered) → HasFlags s → g.slots ≤ 15 → (r : RxRsp) (o : Option Halt) → fault_of s.rx g.slots (length g.bytes) r ≡ o →
-      Bounded within Any (checked w s g r o rest) (1027 * (16 - g.slots) - 1 - 1)
+  bounded_checked : (rest : State → Gathered → Steps Ending) → GoesOn rest → (s : State) (g : Gathered) → HasFlags s → g.slots ≤ 15 → (r : RxRsp) (o : Option Halt) → fault_of s.accepts s.rx g.slots (length g.bytes) r ≡ o →
+      Bounded within Any (checked w s g r o rest) (1027 * (16 - g.slots) + room g.slots - 1 - 1)
   bounded_checked rest go s g f few r (Some cause) e = tt
   bounded_checked rest go s g f few r None e =
-      let ok : IsSound s.rx g.slots (length g.bytes) r = sound s.rx g.slots (length g.bytes) r e in
+      let ok : IsSound s.accepts s.rx g.slots (length g.bytes) r = sound s.accepts s.rx g.slots (length g.bytes) r e in
       let id : r.id < 256 = omega (arith, flag_inside s.rx.out r.id ok.known, f.rx) in
       let b = buffer w.rx.now r.id in
       let part = part_of b r in
       let words = covered part in (
         omega (arith, few),
         (rx_grant_owned r.id id).flags,
-        λ v. bounded_bind within Any Any (copy_words part b.frame (r.offset / 4) words g.bytes) (λ bytes. chained r.flags.more_data (gave s r.id) (grown g r bytes) rest) words (1027 * (15 - g.slots)) (1027 * (16 - g.slots) - 1 - 1 - 1)
+        λ v. bounded_bind within Any Any (copy_words part b.frame (r.offset / 4) words g.bytes) (λ bytes. chained (continues r.flags) (gave s r.id) (grown g r bytes) rest) words (1027 * (15 - g.slots) + room g.slots) (1027 * (16 - g.slots) + room g.slots - 1 - 1 - 1)
             (bounded_copy part b.frame (r.offset / 4) words g.bytes (rx_buffer_owned r.id id) (covered-le b r ok.inside))
-            (λ bytes t. bounded_chained rest go s g f r bytes r.flags.more_data (λ m. ok.few m few))
+            (λ bytes t. bounded_chained rest go s g f r bytes (continues r.flags) (goes_few r.flags.extra_info r.flags.more_data g.slots (λ m. ok.few m few) ok.extra) ok.extra)
             (part_fits b r g.slots few ok.inside),
       )
 
-  bounded_receive : (left : ℕ) → GoesOn (receive w left)
-  bounded_receive zero s g f few = tt
-  bounded_receive (suc left) s g f few = (
-    omega arith,
+  bounded_extra : (rest : State → Gathered → Steps Ending) → GoesOn rest → (s : State) (g : Gathered) → HasFlags s → g.slots ≤ 15 → 1 ≤ g.slots → (more : Bool) (a b : ℕ) (o : Option Segments) → extra_taken s a b ≡ o →
+      Bounded within Any (extra_checked w more s g o rest) (1027 * (16 - g.slots) + 3 - 1 - 1)
+  bounded_extra rest go s g f few some more a b None e = tt
+  bounded_extra rest go s g f few some more a b (Some x) e =
+      let id : posted_at s < 256 = omega (arith, flag_inside s.rx.out (posted_at s) (extra_flies s a b x e), f.rx) in (omega (arith, few), (rx_grant_owned (posted_at s) id).flags, λ v. by more)
+    where
+      by : (m : Bool) → Bounded within Any (chained m (gave s (posted_at s)) (segmented g x) rest) (1027 * (16 - g.slots) + 3 - 1 - 1 - 1)
+      by false = tt
+      by true =
+          let none = room_gone g.slots some in
+          bounded_le within Any (rest (gave s (posted_at s)) (segmented g x)) (cost (segmented g x)) (1027 * (16 - g.slots) + 3 - 1 - 1 - 1)
+          (go (gave s (posted_at s)) (segmented g x) (keeps_flags s (posted_at s) f) few (λ m q. let z : Slot ≡ Extra m = q in absurd (cc))) (omega (arith, none))
+
+  bounded_entry : (left : ℕ) → GoesOn (receive w left) → (s : State) (g : Gathered) → HasFlags s → g.slots ≤ 15 → (x : Expected) → ((more : Bool) → x ≡ Extra more → 1 ≤ g.slots) →
+      Bounded within Any (next_entry w x s g (receive w left)) (1027 * (16 - g.slots) + extra_cost x g.slots)
+  bounded_entry left go s g f few Slot l = (
+    omega (arith, few),
     (rx_owned, omega arith),
     λ a. (
-      omega arith,
+      omega (arith, few),
       (rx_owned, omega arith),
-      λ b. bounded_checked (receive w left) (bounded_receive left) s g f few (rx_rsp_of (a ∷ b ∷ [])) (fault_of s.rx g.slots (length g.bytes) (rx_rsp_of (a ∷ b ∷ []))) refl,
+      λ b. bounded_checked (receive w left) go s g f few (rx_rsp_of (a ∷ b ∷ [])) (fault_of s.accepts s.rx g.slots (length g.bytes) (rx_rsp_of (a ∷ b ∷ []))) refl,
     ),
   )
+  bounded_entry left go s g f few (Extra more) l = (
+    omega (arith, few),
+    (rx_owned, omega arith),
+    λ a. (omega (arith, few), (rx_owned, omega arith), λ b. bounded_extra (receive w left) go s g f few (l more refl) more a b (extra_taken s a b) refl),
+  )
 
-  bounded_poll_rx : (s : State) → HasFlags s → Bounded within Any (poll_rx w s) 16435
-  bounded_poll_rx s f = bounded_bind within Any Any (look w.rx_frame s.rx) (after_rx_look w s) 3 16432 16435 (bounded_look w.rx_frame s.rx rx_owned) (λ o t. by o) (omega arith)
+  bounded_receive : (left : ℕ) → GoesOn (receive w left)
+  bounded_receive zero s g f few l = tt
+  bounded_receive (suc left) s g f few l = bounded_entry left (bounded_receive left) s g f few g.next l
+
+  bounded_poll_rx : (s : State) → HasFlags s → Bounded within Any (poll_rx w s) 16438
+  bounded_poll_rx s f = bounded_bind within Any Any (look w.rx_frame s.rx) (after_rx_look w s) 3 16435 16438 (bounded_look w.rx_frame s.rx rx_owned) (λ o t. by o) (omega arith)
     where
-      by : (o : Option ℕ) → Bounded within Any (after_rx_look w s o) 16432
+      by : (o : Option ℕ) → Bounded within Any (after_rx_look w s o) 16435
       by None = tt
       by (Some zero) = tt
-      by (Some (suc n)) = bounded_receive (suc n) s (record { slots = 0; bad = false; bytes = [] }) f (omega arith)
+      by (Some (suc n)) = bounded_receive (suc n) s nothing_gathered f (omega arith) (λ m q. let z : Slot ≡ Extra m = q in absurd (cc))
 
   bounded_judged : (rest : Steps Ending) (s : State) (r : TxRsp) (known : Bool) → HasFlags s → in_flight s.tx r.id ≡ known →
-      (HasFlags (took s r) → Bounded within Any rest (2 * count (set s.tx.out r.id false) + 16436)) → Bounded within Any (judged w s r known rest) (2 * count s.tx.out + 16436 - 1)
+      (HasFlags (took s r) → Bounded within Any rest (2 * count (set s.tx.out r.id false) + 16439)) → Bounded within Any (judged w s r known rest) (2 * count s.tx.out + 16439 - 1)
   bounded_judged rest s r false f e go = tt
   bounded_judged rest s r true f e go =
       let id : r.id < 256 = omega (arith, flag_inside s.tx.out r.id e, f.tx) in
@@ -297,23 +358,23 @@ module _ (w : Wiring) (h : IsWired w) where
       let keeps : HasFlags (took s r) = record { tx = length-set s.tx.out r.id false ∙ f.tx; rx = f.rx } in (
         omega (arith, less),
         (tx_grant_owned r.id id).flags,
-        λ v. bounded_le within Any rest (2 * count (set s.tx.out r.id false) + 16436) (2 * count s.tx.out + 16436 - 1 - 1) (go keeps) (omega (arith, less)),
+        λ v. bounded_le within Any rest (2 * count (set s.tx.out r.id false) + 16439) (2 * count s.tx.out + 16439 - 1 - 1) (go keeps) (omega (arith, less)),
       )
 
-  bounded_take : (n : ℕ) (s : State) → HasFlags s → Bounded within Any (take_all w n s) (2 * count s.tx.out + 16436)
-  bounded_take zero s f = bounded_le within Any (poll_rx w s) 16435 (2 * count s.tx.out + 16436) (bounded_poll_rx s f) (omega arith)
+  bounded_take : (n : ℕ) (s : State) → HasFlags s → Bounded within Any (take_all w n s) (2 * count s.tx.out + 16439)
+  bounded_take zero s f = bounded_le within Any (poll_rx w s) 16438 (2 * count s.tx.out + 16439) (bounded_poll_rx s f) (omega arith)
   bounded_take (suc n) s f = (
     omega arith,
     (tx_owned, omega arith),
     λ a. let r = tx_rsp_of (a ∷ []) in bounded_judged (take_all w n (took s r)) s r (in_flight s.tx r.id) f refl (bounded_take n (took s r)),
   )
 
-  pub bounded_poll : (s : State) → HasFlags s → Bounded within Any (poll w s) 16951
-  bounded_poll s f = bounded_bind within Any Any (look w.tx_frame s.tx) (after_tx_look w s) 3 16948 16951 (bounded_look w.tx_frame s.tx tx_owned) (λ o t. by o) (omega arith)
+  pub bounded_poll : (s : State) → HasFlags s → Bounded within Any (poll w s) 16954
+  bounded_poll s f = bounded_bind within Any Any (look w.tx_frame s.tx) (after_tx_look w s) 3 16951 16954 (bounded_look w.tx_frame s.tx tx_owned) (λ o t. by o) (omega arith)
     where
-      by : (o : Option ℕ) → Bounded within Any (after_tx_look w s o) 16948
+      by : (o : Option ℕ) → Bounded within Any (after_tx_look w s o) 16951
       by None = tt
-      by (Some n) = bounded_le within Any (take_all w n s) (2 * count s.tx.out + 16436) 16948 (bounded_take n s f) (omega (arith, count-le-length s.tx.out, f.tx))
+      by (Some n) = bounded_le within Any (take_all w n s) (2 * count s.tx.out + 16439) 16951 (bounded_take n s f) (omega (arith, count-le-length s.tx.out, f.tx))
 
 on_bus : (w : Wiring) → IsWired w → (frame : ℕ) → Contains (frames_of w) frame → frame < w.frames
 on_bus w h frame c = subst (λ f. f < w.frames) c.2 (h.on_bus c.0 frame c.1)

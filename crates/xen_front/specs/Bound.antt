@@ -38,7 +38,8 @@ pub record HasFlags (s : State) : Type 0 where
   pub rx : length s.rx.out ≡ 256
 
 -- Each activity of a wired front keeps to the front's frames, and has at most this many events: a send 16 pieces of 2 + 1,024 + 3
--- words and the push, a poll two looks of 3, 2 for each of 256 tx responses and a last one, and 16 slots of 3 + 1,024 words.
+-- words and the push, a poll two looks of 3, 2 for each of 256 tx responses and a last one, 16 slots of 3 + 1,024 words, and 3 for an
+-- extra.
 pub record AreShort : Type 0 where
   pub sends : (w : Wiring) (s : State) (p ids : List ℕ) (t : List Event) (s' : State) (g : Given) → IsWired w → length ids ≤ 16 →
       All (λ id. id < 256) ids →
@@ -46,4 +47,4 @@ pub record AreShort : Type 0 where
   pub posts : (w : Wiring) (s : State) (id : ℕ) (t : List Event) (s' : State) (g : Given) → IsWired w → id < 256 →
       IsPost w s id t s' g → (length t ≤ 7) × AreOwn w t
   pub polls : (w : Wiring) (s : State) (t : List Event) (s' : State) (g : Given) → IsWired w → HasFlags s → IsPoll w s t s' g →
-      (length t ≤ 16951) × AreOwn w t
+      (length t ≤ 16954) × AreOwn w t

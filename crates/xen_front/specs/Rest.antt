@@ -11,7 +11,8 @@ use Rattle.xen_steps.specs.declared.want.Want.TheVariants as want
 use Rattle.xen_front.specs.Given.{Ending, Idle, given}
 use Rattle.xen_front.specs.Slots.{buffer, covered_bytes, ended, filling, grant_place, piece_request, piece_words, piece_writes}
 use Rattle.xen_front.specs.Slots.{post_writes, send_writes, tx_writes}
-use Rattle.xen_front.specs.Tree.{Gathered, after_rx_look, after_tx_look, announce, chained, first_word, grown, look_again, notice}
+use Rattle.xen_front.specs.Tree.{Extra, Gathered, Slot, after_rx_look, after_tx_look, announce, chained, continues, extra_first, extra_second}
+use Rattle.xen_front.specs.Tree.{first_word, grown, look_again, notice}
 use Rattle.xen_front.specs.Tree.{poll, publish, read_event, read_page, receive, second_word, take_all}
 use Rattle.xen_front.specs.declared.by_event.phase.Chained.{Chained}
 use Rattle.xen_front.specs.declared.by_event.phase.Part.{Part}
@@ -47,11 +48,15 @@ abbrev pub posting : Wiring → State → (id start j : ℕ) → Steps Ending
 posting w s id start j = write_all (drop j (post_writes w start id)) (publish w w.rx_frame start (add32 start 1) s)
 
 abbrev pub gathered : Chained → List ℕ → Gathered
-gathered c q = record { slots = c.slots; bad = c.bad; bytes = q }
+gathered c q = record { slots = c.slots; bad = c.bad; bytes = q; offload = c.offload; next = Slot }
+
+-- before the extra of a packet, behind which the chain goes on or doesn't
+abbrev pub before_extra : Chained → Bool → List ℕ → Gathered
+before_extra c more q = record (gathered c q) { next = Extra more }
 
 -- after a part's page words
 abbrev pub part_rest : Wiring → State → Part → List ℕ → Steps Ending
-part_rest w s x bytes = chained x.response.flags.more_data s (grown (gathered x.chained []) x.response bytes) (receive w x.chained.left)
+part_rest w s x bytes = chained (continues x.response.flags) s (grown (gathered x.chained []) x.response bytes) (receive w x.chained.left)
 
 -- with the packet that is sent, and the bytes that are received so far
 abbrev pub rest_at : Wiring → State → List ℕ → List ℕ → Phase → Steps Ending
@@ -84,6 +89,10 @@ rest_at w s p q (phase.RxEnd x) =
     (λ _. read_page w s (gathered x.chained q) x.response (receive w x.chained.left))
 rest_at w s p q (phase.RxPage g) =
     bind (copy_words g.fragment g.frame g.place (suc g.more) q) (part_rest w s g.part)
+rest_at w s p q (phase.ExtraFirst x) = extra_first w x.more s (before_extra x.chained x.more q) (receive w x.chained.left)
+rest_at w s p q (phase.ExtraSecond x a) = extra_second w x.more s (before_extra x.chained x.more q) a (receive w x.chained.left)
+rest_at w s p q (phase.ExtraEnd x id) =
+    ask (want.Write (ended w (buffer w.rx.now id)).at 0) (λ _. chained x.more s (gathered x.chained q) (receive w x.chained.left))
 rest_at w s p q (phase.Ended kind) = done (s, given kind q)
 
 -- the bytes of a fragment from a place's word on

@@ -1,5 +1,6 @@
 //! An activity one event at a time: where it is, what it wants, and what it does with an answer.
 
+pub(crate) mod extras;
 pub(crate) mod feeding;
 pub(crate) mod ids;
 pub(crate) mod phase;

@@ -3,7 +3,7 @@
 //!
 //! - `front`: a front and all of its calls
 //! - `by_event`: what an activity wants and does with an answer (`feeding`): a send (`sending`), a post (`posting`), a poll
-//!   (`taking` for tx responses, `receiving` for a packet); its ids and places
+//!   (`taking` for tx responses, `receiving` for a packet, `extras` for its extra); its ids and places
 //! - `in_one_go`: a whole activity over a bus (`drive`), a packet's pieces on references alone (`straight`)
 //! - `packet`, `state`, `turn`: what these work on; `laws`: what holds of every activity
 //!
@@ -23,3 +23,4 @@ pub use front::Front;
 pub use state::{Counts, Ring, State};
 pub use turn::{Halt, PollRefusal, PostRefusal, RxTurn, SendRefusal};
 pub use xen_buffers::{Buffer, FrontDesc, Wiring};
+pub use xen_netif::{ACCEPTS_WHOLE, Accepts, RxOffload};

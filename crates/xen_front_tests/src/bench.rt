@@ -3,7 +3,7 @@ ghost use Rattle.std.specs.Prelude.{◌≡◌, IfSome};
 ghost use Rattle.xen_front.specs.Fronts.{wiring_of};
 
 use std::alloc::{AllocError, Global};
-use xen_front::{Buffer, Front, FrontDesc};
+use xen_front::{ACCEPTS_WHOLE, Accepts, Buffer, Front, FrontDesc};
 use xen_page::{Owners, Table};
 use xen_ring::Port;
 
@@ -83,11 +83,18 @@ impl Bench {
     pub fn front(&self, start: u32) -> Option<Front<'_>>
         ensures { IfSome result (λ front. (wiring_of front).frames ≡ 531) }
     {
+        self.front_accepting(start, ACCEPTS_WHOLE)
+    }
+
+    /// A front that accepts so much.
+    pub fn front_accepting(&self, start: u32, accepts: Accepts) -> Option<Front<'_>>
+        ensures { IfSome result (λ front. (wiring_of front).frames ≡ 531) }
+    {
         let desc = self.desc(start);
         if !desc.is_wired() {
             return None;
         }
-        Front::make(self.alloc, desc).ok()
+        Front::make(self.alloc, desc, accepts).ok()
     }
 
     /// A front whose back is this domain.
@@ -96,6 +103,6 @@ impl Bench {
         if !desc.is_wired() {
             return None;
         }
-        Front::make(self.alloc, desc).ok()
+        Front::make(self.alloc, desc, ACCEPTS_WHOLE).ok()
     }
 }

@@ -1,7 +1,9 @@
 //! Fronts before honest and hostile backs.
 
+mod answers;
 mod buffers;
 mod example;
+mod extras;
 mod fixtures;
 mod growth;
 mod hostile;

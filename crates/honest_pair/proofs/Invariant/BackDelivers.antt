@@ -11,6 +11,7 @@ use Rattle.xen_turns.specs.declared.wiring.Wiring.{Wiring as BackWiring}
 use Rattle.xen_buffers.specs.declared.wiring.Wiring.{Wiring}
 use Rattle.xen_steps.specs.Places.{add32}
 use Rattle.xen_steps.specs.Steps.{bind}
+use Rattle.xen_netif.specs.declared.offload.RxOffload.TheVariants.{Whole}
 use Rattle.xen_rx_fill.specs.Transmit.{transmit}
 use Rattle.xen_rx_fill.specs.declared.by_event.phase.Outcome.{Outcome}
 use Rattle.xen_rx_fill.specs.declared.by_event.phase.Outcome.TheVariants as outcome
@@ -75,29 +76,29 @@ module _ (w : Wiring) (start : ℕ) (small : start < 2 ^ 32) (v : BackWiring) (j
         subst (λ b2. Ends b2 (after_slots s n, delivery.Sent n)) (sym h.2)
         (subst (λ z. Resting sl start (after_slots s n) (bytes_in d) z (resting_with (g ++ x ∷ []) rs)) given (rests (g ++ x ∷ []) rs (after_slots s n) between))
 
-    running_safe : (rs : List ℕ) → BackSafe w start K Ends (resting_with g rs) (unless_halted (over w v).vif s packet None)
+    running_safe : (rs : List ℕ) → BackSafe w start K Ends (resting_with g rs) (unless_halted (over w v).vif s Whole packet None)
     running_safe rs =
-        subst (λ i. BackSafe w start K Ends (resting_with g rs) (bind (transmit (over w v).vif i packet) (arrived s))) (sym at.rx)
-        (safe_bind w start K Transmitted Ends (resting_with g rs) (transmit (over w v).vif (add32 start (length (slots g))) packet) (arrived s)
+        subst (λ i. BackSafe w start K Ends (resting_with g rs) (bind (transmit (over w v).vif i Whole packet) (arrived s))) (sym at.rx)
+        (safe_bind w start K Transmitted Ends (resting_with g rs) (transmit (over w v).vif (add32 start (length (slots g))) Whole packet) (arrived s)
         (transmits.transmit_safe w start small v j y d a 0 g e sl packet fit K none_more one_more rs) arrived_safe)
 
-  framed_safe : Rests → (rs : List ℕ) (b : Bool) → is_frame packet ≡ b → BackSafe w start K Ends (resting_with g rs) (if_frame (over w v).vif s packet b)
+  framed_safe : Rests → (rs : List ℕ) (b : Bool) → is_frame packet ≡ b → BackSafe w start K Ends (resting_with g rs) (if_frame (over w v).vif (over w v).accepts s Whole packet b)
   framed_safe rests rs false q = rests g rs s at
   framed_safe rests rs true q =
-      subst (λ o. BackSafe w start K Ends (resting_with g rs) (unless_halted (over w v).vif s packet o)) (sym at.running) (running_safe (frame_fits packet q bytes) rests rs)
+      subst (λ o. BackSafe w start K Ends (resting_with g rs) (unless_halted (over w v).vif s Whole packet o)) (sym at.running) (running_safe (frame_fits packet q bytes) rests rs)
 
-  delivered_safe : Rests → (rs : List ℕ) → BackSafe w start K Ends (resting_with g rs) (whole_delivery v.vif s packet)
+  delivered_safe : Rests → (rs : List ℕ) → BackSafe w start K Ends (resting_with g rs) (whole_delivery v.vif v.accepts s Whole packet)
   delivered_safe rests rs =
-      subst (λ u. BackSafe w start K Ends (resting_with g rs) (whole_delivery u.vif s packet)) (same_wiring w v j) (framed_safe rests rs (is_frame packet) refl)
+      subst (λ u. BackSafe w start K Ends (resting_with g rs) (whole_delivery u.vif u.accepts s Whole packet)) (same_wiring w v j) (framed_safe rests rs (is_frame packet) refl)
 
 -- by what the back had copied and given
 carried : (w : Wiring) (start : ℕ) (v : BackWiring) (sl : Bool) (s : State) (packet : List ℕ) (c c2 g g2 : List (List ℕ)) (b b2 : Back) → c ≡ c2 → g ≡ g2 → b2 ≡ b →
-    BackSafe w start (GivesPacket g packet) (λ b3 e. Landed sl start c g packet b3 e.0 e.1) b (whole_delivery v.vif s packet) →
-    BackSafe w start (GivesPacket g2 packet) (λ b3 e. Landed sl start c2 g2 packet b3 e.0 e.1) b2 (whole_delivery v.vif s packet)
+    BackSafe w start (GivesPacket g packet) (λ b3 e. Landed sl start c g packet b3 e.0 e.1) b (whole_delivery v.vif v.accepts s Whole packet) →
+    BackSafe w start (GivesPacket g2 packet) (λ b3 e. Landed sl start c2 g2 packet b3 e.0 e.1) b2 (whole_delivery v.vif v.accepts s Whole packet)
 carried w start v sl s packet c c2 g g2 b b2 p q r h =
-    subst (λ b4. BackSafe w start (GivesPacket g2 packet) (λ b3 e. Landed sl start c2 g2 packet b3 e.0 e.1) b4 (whole_delivery v.vif s packet)) (sym r)
-    (subst (λ g4. BackSafe w start (GivesPacket g4 packet) (λ b3 e. Landed sl start c2 g4 packet b3 e.0 e.1) b (whole_delivery v.vif s packet)) q
-    (subst (λ c4. BackSafe w start (GivesPacket g packet) (λ b3 e. Landed sl start c4 g packet b3 e.0 e.1) b (whole_delivery v.vif s packet)) p h))
+    subst (λ b4. BackSafe w start (GivesPacket g2 packet) (λ b3 e. Landed sl start c2 g2 packet b3 e.0 e.1) b4 (whole_delivery v.vif v.accepts s Whole packet)) (sym r)
+    (subst (λ g4. BackSafe w start (GivesPacket g4 packet) (λ b3 e. Landed sl start c2 g4 packet b3 e.0 e.1) b (whole_delivery v.vif v.accepts s Whole packet)) q
+    (subst (λ c4. BackSafe w start (GivesPacket g packet) (λ b3 e. Landed sl start c4 g packet b3 e.0 e.1) b (whole_delivery v.vif v.accepts s Whole packet)) p h))
 
 pub delivery_safe : DeliveryLaw
 delivery_safe w start small y v j true s c g b h packet bytes =

@@ -8,6 +8,7 @@ use Rattle.xen_page.specs.declared.place.Place.{Place}
 use Rattle.xen_steps.specs.Places.{page_word}
 use Rattle.xen_steps.specs.Steps.{ask}
 use Rattle.xen_steps.specs.declared.want.Want.TheVariants as want
+use Rattle.xen_netif.specs.declared.offload.RxOffload.TheVariants.{Whole}
 use Rattle.xen_rx_fill.specs.Packets.{buffer_word, frame_in, pages, target_at, word_of, words}
 use Rattle.xen_rx_fill.specs.Transmit.{fill}
 use Rattle.xen_rx_fill.specs.declared.target.Target.{Target}
@@ -157,7 +158,7 @@ module _ (w : Wiring) (start : ℕ) (small : start < 2 ^ 32) (d a : List Sent) (
   target_there (suc n) i zero h = let z : i ≡ i + 0 = omega arith in ap target z
   target_there (suc n) i (suc q) h = let z : i + 1 + q ≡ i + suc q = omega arith in target_there n (i + 1) q (omega (arith, h)) ∙ ap target z
 
-  pub place_there : (k : ℕ) → k / 1024 < N → buffer_word (targets 0 N) k ≡ page_word (buffer w.rx.now (post (k / 1024))).frame (k % 1024)
+  pub place_there : (k : ℕ) → k / 1024 < N → buffer_word Whole (targets 0 N) k ≡ page_word (buffer w.rx.now (post (k / 1024))).frame (k % 1024)
   place_there k h = let z : 0 + k / 1024 ≡ k / 1024 = omega arith in ap (λ t. page_word (frame_in t.frame) (k % 1024)) (target_there N 0 (k / 1024) h ∙ ap target z)
 
   module _ (y : Laid w) (count : N ≡ pages packet) (p : first + N ≤ length rs) (low : (i : ℕ) → i < N → post i < 256) (good : IsSent gift) where
@@ -265,10 +266,10 @@ module _ (w : Wiring) (start : ℕ) (small : start < 2 ^ 32) (d a : List Sent) (
     abbrev pub Filled : Back → Unit {0} → Type 0
     Filled b x = b ≡ given_state (words packet) 0
 
-    pub fill_safe : (c k : ℕ) → k + c ≡ words packet → BackSafe w start (HasGiven g) Filled (given_state k 0) (fill (targets 0 N) packet c k)
+    pub fill_safe : (c k : ℕ) → k + c ≡ words packet → BackSafe w start (HasGiven g) Filled (given_state k 0) (fill Whole (targets 0 N) packet c k)
     fill_safe zero k q = ap (λ n. given_state n 0) (omega (arith, q))
     fill_safe (suc c) k q =
         let inside : k / 1024 < N = omega (arith, q, count) in
-        subst (λ at. BackSafe w start (HasGiven g) Filled (given_state k 0) (ask (want.Write at (word_of packet k)) (λ o. fill (targets 0 N) packet c (k + 1)))) (sym (place_there k inside))
-        (writes w start (HasGiven g) Filled (given_state k 0) (given_state (k + 1) 0) (page_word (buffer w.rx.now (post (k / 1024))).frame (k % 1024)) (word_of packet k) (λ o. fill (targets 0 N) packet c (k + 1)) refl
+        subst (λ at. BackSafe w start (HasGiven g) Filled (given_state k 0) (ask (want.Write at (word_of packet k)) (λ o. fill Whole (targets 0 N) packet c (k + 1)))) (sym (place_there k inside))
+        (writes w start (HasGiven g) Filled (given_state k 0) (given_state (k + 1) 0) (page_word (buffer w.rx.now (post (k / 1024))).frame (k % 1024)) (word_of packet k) (λ o. fill Whole (targets 0 N) packet c (k + 1)) refl
         (λ m f h. fills m f k (omega (arith, q)) h) (fill_safe c (k + 1) (omega (arith, q))))

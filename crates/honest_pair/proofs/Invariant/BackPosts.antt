@@ -1,5 +1,5 @@
 -- A packet is sent back: the posts are read, and their grants accepted.
-use Rattle.std.proofs.Common.{◌≡◌, ℕ, zero, suc, ◌+◌, ◌-◌, ◌^◌, ◌<◌, ◌≤◌, Bool, List, [], ◌∷◌, ◌++◌, length, length-append, append_assoc, Some, Result, Ok, refl, sym, ◌∙◌, ap, arith, subst}
+use Rattle.std.proofs.Common.{◌≡◌, ℕ, zero, suc, ◌+◌, ◌-◌, ◌^◌, ◌<◌, ◌≤◌, Bool, false, List, [], ◌∷◌, ◌++◌, length, length-append, append_assoc, Some, Result, Ok, refl, sym, ◌∙◌, ap, arith, subst}
 use Rattle.std.specs.Prelude.{get_or}
 use Rattle.std.proofs.lemmas.List.{get_or_append_left}
 use Rattle.xen_turns.specs.declared.wiring.Wiring.{Wiring as BackWiring}
@@ -14,6 +14,7 @@ use Rattle.xen_page.specs.declared.fault.GrantFault.{GrantFault}
 use Rattle.xen_page.specs.declared.entry.Rights.TheVariants.{ReadWrite}
 use Rattle.xen_steps.specs.Places.{add32, available, page_word, rx_entry}
 use Rattle.xen_steps.specs.Steps.{done}
+use Rattle.xen_netif.specs.declared.offload.RxOffload.TheVariants.{Whole}
 use Rattle.xen_rx_fill.specs.Entries.{entry, entry_at, entry_checked}
 use Rattle.xen_rx_fill.specs.Transmit.{Posted, posted_second, read_targets, requested, targeted}
 use Rattle.xen_rx_fill.specs.declared.target.Target.{Target}
@@ -145,7 +146,7 @@ module _ (w : Wiring) (start : ℕ) (small : start < 2 ^ 32) (v : BackWiring) (j
     request_of i s = let q : low (joined (post i) 0) ≡ post i = omega (arith, s) in ap (λ z. record { id = z; gref = (buffer w.rx.now (post i)).gref }) q
 
     targets_safe : (left i n : ℕ) (acc : List Target) → length acc ≡ i → n ≡ i + left → first + n ≤ length rs → IsSmall n → acc ++ targets i left ≡ targets 0 n →
-        BackSafe w start (HasGiven g) (HasPosted n) (posts_read rs i) (read_targets (over w v).vif (add32 start first) left acc)
+        BackSafe w start (HasGiven g) (HasPosted n) (posts_read rs i) (read_targets (over w v).vif (add32 start first) Whole left acc)
     targets_safe zero i n acc c q p s t = (ap (posts_read rs) (omega (arith, q)), ap Ok (sym (nil_right acc) ∙ t))
     targets_safe (suc left) i n acc c q p s t =
         let index = add32 (add32 start first) (length acc) in
@@ -153,16 +154,16 @@ module _ (w : Wiring) (start : ℕ) (small : start < 2 ^ 32) (v : BackWiring) (j
         let gref = (buffer w.rx.now (post i)).gref in
         let inside : first + i < length rs = omega (arith, q, p) in
         let small_id : post i < 256 = s i (omega (arith, q)) in
-        let go = targeted acc (read_targets (over w v).vif (add32 start first) left) in
-        read_known w start (HasGiven g) (HasPosted n) (posts_read rs i) (posts_read rs i) (rx_entry w.rx_frame index 0) (joined (post i) 0) (posted_second (over w v).vif index go) refl
+        let go = read_targets (over w v).vif (add32 start first) Whole left in
+        read_known w start (HasGiven g) (HasPosted n) (posts_read rs i) (posts_read rs i) (rx_entry w.rx_frame index 0) (joined (post i) 0) (posted_second (over w v).vif index (requested (over w v).vif false acc go)) refl
         (λ m f h. (post_word m f index i 0 at inside (omega arith) h, h))
-        (read_known w start (HasGiven g) (HasPosted n) (posts_read rs i) (posts_read rs (i + 1)) (rx_entry w.rx_frame index 1) gref (λ o. requested (over w v).vif (rx_req_of (joined (post i) 0 ∷ o ∷ [])) go) refl
+        (read_known w start (HasGiven g) (HasPosted n) (posts_read rs i) (posts_read rs (i + 1)) (rx_entry w.rx_frame index 1) gref (λ o. requested (over w v).vif false acc go (rx_req_of (joined (post i) 0 ∷ o ∷ []))) refl
         (λ m f h. (post_word m f index i 1 at inside (omega arith) h, post_read m f i inside h))
-        (subst (λ o. BackSafe w start (HasGiven g) (HasPosted n) (posts_read rs (i + 1)) (requested (over w v).vif o go)) (sym (request_of i small_id))
-        (safe_bind w start (HasGiven g) (Granted i) (HasPosted n) (posts_read rs (i + 1)) (entry (over w v).vif ReadWrite gref) (go (post i)) (grant_safe i inside small_id)
-        (λ b r h. onto (λ b2 r2. BackSafe w start (HasGiven g) (HasPosted n) b2 (go (post i) r2)) (posts_read rs (i + 1)) b (Ok (buffer w.rx.now (post i)).frame) r h.0 h.1
+        (subst (λ o. BackSafe w start (HasGiven g) (HasPosted n) (posts_read rs (i + 1)) (requested (over w v).vif false acc go o)) (sym (request_of i small_id))
+        (safe_bind w start (HasGiven g) (Granted i) (HasPosted n) (posts_read rs (i + 1)) (entry (over w v).vif ReadWrite gref) (targeted acc go (post i)) (grant_safe i inside small_id)
+        (λ b r h. onto (λ b2 r2. BackSafe w start (HasGiven g) (HasPosted n) b2 (targeted acc go (post i) r2)) (posts_read rs (i + 1)) b (Ok (buffer w.rx.now (post i)).frame) r h.0 h.1
         (targets_safe left (i + 1) n (acc ++ target i ∷ []) (length-append acc (target i ∷ []) ∙ omega (arith, c)) (omega (arith, q)) p s (append_assoc acc (target i ∷ []) (targets (i + 1) left) ∙ t))))))
 
     -- all posts that the packet needs are read, and their grants accepted
-    pub posts_safe : (n : ℕ) → first + n ≤ length rs → IsSmall n → BackSafe w start (HasGiven g) (HasPosted n) (posts_read rs 0) (read_targets (over w v).vif (add32 start first) n [])
+    pub posts_safe : (n : ℕ) → first + n ≤ length rs → IsSmall n → BackSafe w start (HasGiven g) (HasPosted n) (posts_read rs 0) (read_targets (over w v).vif (add32 start first) Whole n [])
     posts_safe n p s = targets_safe n 0 n [] refl (omega arith) p s refl

@@ -9,6 +9,7 @@ use Rattle.xen_ring.specs.Index.{is_due}
 use Rattle.xen_steps.specs.Places.{add32, page_word, rx_entry}
 use Rattle.xen_steps.specs.Steps.{ask}
 use Rattle.xen_steps.specs.declared.want.Want.TheVariants as want
+use Rattle.xen_netif.specs.declared.offload.RxOffload.TheVariants.{Whole}
 use Rattle.xen_rx_fill.specs.Packets.{pages, response_word, word_of, words}
 use Rattle.xen_rx_fill.specs.Transmit.{rx_answer, rx_event, rx_notice, rx_publish}
 use Rattle.xen_rx_fill.specs.declared.by_event.phase.Outcome.{Outcome}
@@ -198,23 +199,23 @@ module _ (w : Wiring) (start : ℕ) (small : start < 2 ^ 32) (d a : List Sent) (
         (read_any w start K WasSent given_all (page_word w.rx_frame 3) (λ event. rx_notice (over w v).vif (is_due (add32 start G) new_index event) (outcome.Sent N)) k2 (λ event. rx_notice_safe (is_due (add32 start G) new_index event)))
 
     rx_answer_safe : (c i wr n : ℕ) → n ≡ N → i + c ≡ N → wr ≡ 2 * i →
-        BackSafe w start K WasSent (now (words packet) wr) (rx_answer (over w v).vif (add32 start G) packet Passed n i (targets w start small d a used g e sl rs packet N i c))
+        BackSafe w start K WasSent (now (words packet) wr) (rx_answer (over w v).vif (add32 start G) Whole packet Passed n i (targets w start small d a used g e sl rs packet N i c))
     rx_answer_safe zero i wr n e1 e2 e3 = subst (λ o. BackSafe w start K WasSent (now (words packet) wr) (rx_publish (over w v).vif (add32 start G) Passed o)) (sym e1) (rx_publish_safe wr (omega (arith, e2, e3)))
     rx_answer_safe (suc c) i wr n e1 e2 e3 =
         let id = post w start small d a used g e sl rs packet N i in
-        let later = rx_answer (over w v).vif (add32 start G) packet Passed n (i + 1) (targets w start small d a used g e sl rs packet N (i + 1) c) in
+        let later = rx_answer (over w v).vif (add32 start G) Whole packet Passed n (i + 1) (targets w start small d a used g e sl rs packet N (i + 1) c) in
         let index = add32 (add32 start G) i in
         let ic : length (X.ids) ≡ n = ids_count w start small d a used g e sl rs packet N N 0 ∙ sym e1 in
         let inside : i < N = omega (arith, e2) in
-        writes w start K WasSent (now (words packet) wr) (now (words packet) (wr + 1)) (rx_entry w.rx_frame index 0) (response_word Passed packet n i id 0)
-        (λ o. ask (want.Write (rx_entry w.rx_frame index 1) (response_word Passed packet n i id 1)) (λ o2. later)) (k1 (words packet) (wr + 1))
-        (λ m f h. subst (λ z. Inv w start (after (want.Write (rx_entry w.rx_frame index 0) (response_word Passed packet z i id 0)) m) f (now (words packet) (wr + 1))) ic
+        writes w start K WasSent (now (words packet) wr) (now (words packet) (wr + 1)) (rx_entry w.rx_frame index 0) (response_word Whole Passed packet n i id 0)
+        (λ o. ask (want.Write (rx_entry w.rx_frame index 1) (response_word Whole Passed packet n i id 1)) (λ o2. later)) (k1 (words packet) (wr + 1))
+        (λ m f h. subst (λ z. Inv w start (after (want.Write (rx_entry w.rx_frame index 0) (response_word Whole Passed packet z i id 0)) m) f (now (words packet) (wr + 1))) ic
         (replies m f (words packet) i 0 wr (16 + 2 * (index % 256) + 0) inside (omega arith) (omega (arith, e3)) (ap (λ o. 16 + 2 * (o % 256) + 0) (add_add start G i)) h))
-        (writes w start K WasSent (now (words packet) (wr + 1)) (now (words packet) (wr + 1 + 1)) (rx_entry w.rx_frame index 1) (response_word Passed packet n i id 1) (λ o2. later) (k1 (words packet) (wr + 1 + 1))
-        (λ m f h. subst (λ z. Inv w start (after (want.Write (rx_entry w.rx_frame index 1) (response_word Passed packet z i id 1)) m) f (now (words packet) (wr + 1 + 1))) ic
+        (writes w start K WasSent (now (words packet) (wr + 1)) (now (words packet) (wr + 1 + 1)) (rx_entry w.rx_frame index 1) (response_word Whole Passed packet n i id 1) (λ o2. later) (k1 (words packet) (wr + 1 + 1))
+        (λ m f h. subst (λ z. Inv w start (after (want.Write (rx_entry w.rx_frame index 1) (response_word Whole Passed packet z i id 1)) m) f (now (words packet) (wr + 1 + 1))) ic
         (replies m f (words packet) i 1 (wr + 1) (16 + 2 * (index % 256) + 1) inside (omega arith) (omega (arith, e3)) (ap (λ o. 16 + 2 * (o % 256) + 1) (add_add start G i)) h))
         (rx_answer_safe c (i + 1) (wr + 1 + 1) n e1 (omega (arith, e2)) (omega (arith, e3))))
 
     -- all responses are written, and published
-    pub rx_respond_safe : (n : ℕ) → n ≡ N → BackSafe w start K WasSent (now (words packet) 0) (rx_answer (over w v).vif (add32 start G) packet Passed n 0 (targets w start small d a used g e sl rs packet N 0 N))
+    pub rx_respond_safe : (n : ℕ) → n ≡ N → BackSafe w start K WasSent (now (words packet) 0) (rx_answer (over w v).vif (add32 start G) Whole packet Passed n 0 (targets w start small d a used g e sl rs packet N 0 N))
     rx_respond_safe n e1 = rx_answer_safe N 0 0 n e1 (omega arith) (omega arith)

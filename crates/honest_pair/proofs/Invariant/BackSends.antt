@@ -10,6 +10,7 @@ use Rattle.xen_netif.specs.Chain.{Slot}
 use Rattle.xen_netif.specs.declared.status.Status.TheVariants as status
 use Rattle.xen_steps.specs.Places.{add32}
 use Rattle.xen_steps.specs.Steps.{bind}
+use Rattle.xen_netif.specs.declared.offload.RxOffload.TheVariants.{Whole}
 use Rattle.xen_rx_fill.specs.Transmit.{transmit}
 use Rattle.xen_rx_fill.specs.declared.by_event.phase.Outcome.{Outcome}
 use Rattle.xen_rx_fill.specs.declared.by_event.phase.Outcome.TheVariants as outcome
@@ -82,8 +83,8 @@ module _ (w : Wiring) (start : ℕ) (small : start < 2 ^ 32) (v : BackWiring) (j
 
     send_ends : (rs : List ℕ) → BackSafe w start K Ends (working d a used 0 g rs e) (send (over w v) state all r.packet r.ops)
     send_ends rs =
-        subst (λ i. BackSafe w start K Ends (working d a used 0 g rs e) (bind (transmit (over w v).vif i r.packet) (after_transmit (over w v) state all r.packet r.ops))) (sym at.rx)
-        (safe_bind w start K Transmitted Ends (working d a used 0 g rs e) (transmit (over w v).vif (add32 start (length (slots g))) r.packet) (after_transmit (over w v) state all r.packet r.ops)
+        subst (λ i. BackSafe w start K Ends (working d a used 0 g rs e) (bind (transmit (over w v).vif i Whole r.packet) (after_transmit (over w v) state all r.packet r.ops))) (sym at.rx)
+        (safe_bind w start K Transmitted Ends (working d a used 0 g rs e) (transmit (over w v).vif (add32 start (length (slots g))) Whole r.packet) (after_transmit (over w v) state all r.packet r.ops)
         (transmits.transmit_safe w start small v j y d a used g e false r.packet fits K none_more one_more rs) transmitted_safe)
 
 pub send_safe : (w : Wiring) (start : ℕ) → start < 2 ^ 32 → (v : BackWiring) → Joined w v → Laid w → SendSafe w start v

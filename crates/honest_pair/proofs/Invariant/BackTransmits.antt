@@ -6,6 +6,7 @@ use Rattle.xen_turns.specs.declared.wiring.Wiring.{Wiring as BackWiring}
 use Rattle.xen_buffers.specs.declared.wiring.Wiring.{Wiring}
 use Rattle.xen_steps.specs.Places.{add32}
 use Rattle.xen_steps.specs.Steps.{Steps, done, bind}
+use Rattle.xen_netif.specs.declared.offload.RxOffload.TheVariants.{Whole}
 use Rattle.xen_rx_fill.specs.Packets.{pages, words}
 use Rattle.xen_rx_fill.specs.Transmit.{after_targets, fill, found, read_targets, rx_respond, transmit}
 use Rattle.xen_rx_fill.specs.declared.by_event.phase.Outcome.{Outcome}
@@ -84,12 +85,12 @@ module _ (w : Wiring) (start : ℕ) (small : start < 2 ^ 32) (v : BackWiring) (j
     now = fills.given_state w start small d a used g e sl rs packet N 0 0
 
     abbrev later : Unit {0} → Steps Outcome
-    later u = rx_respond (over w v).vif (add32 start G) packet Passed tg
+    later u = rx_respond (over w v).vif (add32 start G) Whole packet Passed tg
 
-    gives_safe : BackSafe w start K Transmitted now (bind (fill tg packet (words packet - 0) 0) later)
+    gives_safe : BackSafe w start K Transmitted now (bind (fill Whole tg packet (words packet - 0) 0) later)
     gives_safe =
-        safe_bind w start K (fills.Filled w start small d a used g e sl rs packet N y refl p low good) Transmitted now (fill tg packet (words packet - 0) 0) later
-        (safe_less w start (HasGiven g) K (fills.Filled w start small d a used g e sl rs packet N y refl p low good) (fills.Filled w start small d a used g e sl rs packet N y refl p low good) now (fill tg packet (words packet - 0) 0)
+        safe_bind w start K (fills.Filled w start small d a used g e sl rs packet N y refl p low good) Transmitted now (fill Whole tg packet (words packet - 0) 0) later
+        (safe_less w start (HasGiven g) K (fills.Filled w start small d a used g e sl rs packet N y refl p low good) (fills.Filled w start small d a used g e sl rs packet N y refl p low good) now (fill Whole tg packet (words packet - 0) 0)
         k1 (λ b x h. h)
         (fills.fill_safe w start small d a used g e sl rs packet N y refl p low good (words packet - 0) 0 (omega arith)))
         (λ b u h. subst (λ b2. BackSafe w start K Transmitted b2 (later u)) (sym h)
@@ -99,25 +100,25 @@ module _ (w : Wiring) (start : ℕ) (small : start < 2 ^ 32) (v : BackWiring) (j
         (rx_respond_safe w start small d a used g e sl rs packet N y refl p v K (λ fl wr. k1 (fills.given_state w start small d a used g e sl rs packet N fl wr) refl) (k2 (sending d a used (g ++ X rs ∷ []) rs e sl 0 [] 0 0) (X rs) refl refl) (length tg) (targets_count rs N 0))))
 
     -- the first word that is written begins the giving
-    filled_safe : BackSafe w start K Transmitted (posts.posts_read w start small v j d a used g e sl rs N) (bind (fill tg packet (words packet - 0) 0) later)
+    filled_safe : BackSafe w start K Transmitted (posts.posts_read w start small v j d a used g e sl rs N) (bind (fill Whole tg packet (words packet - 0) 0) later)
     filled_safe =
         let z = some_words in
-        subst (λ n. BackSafe w start K Transmitted (posts.posts_read w start small v j d a used g e sl rs N) (bind (fill tg packet n 0) later)) (sym z.1)
-        (λ m f h. (subst (λ n. BackSafe w start K Transmitted now (bind (fill tg packet n 0) later)) z.1 gives_safe) m f (fills.begins w start small d a used g e sl rs packet N m f p good h))
+        subst (λ n. BackSafe w start K Transmitted (posts.posts_read w start small v j d a used g e sl rs N) (bind (fill Whole tg packet n 0) later)) (sym z.1)
+        (λ m f h. (subst (λ n. BackSafe w start K Transmitted now (bind (fill Whole tg packet n 0) later)) z.1 gives_safe) m f (fills.begins w start small d a used g e sl rs packet N m f p good h))
 
-    posted_safe : BackSafe w start K Transmitted (state_of rs) (bind (read_targets (over w v).vif (add32 start G) N []) (after_targets (over w v).vif (add32 start G) packet))
+    posted_safe : BackSafe w start K Transmitted (state_of rs) (bind (read_targets (over w v).vif (add32 start G) Whole N []) (after_targets (over w v).vif (add32 start G) Whole packet))
     posted_safe =
-        safe_bind w start K (posts.HasPosted w start small v j d a used g e sl rs N) Transmitted (state_of rs) (read_targets (over w v).vif (add32 start G) N []) (after_targets (over w v).vif (add32 start G) packet)
-        (safe_less w start (HasGiven g) K (posts.HasPosted w start small v j d a used g e sl rs N) (posts.HasPosted w start small v j d a used g e sl rs N) (state_of rs) (read_targets (over w v).vif (add32 start G) N [])
+        safe_bind w start K (posts.HasPosted w start small v j d a used g e sl rs N) Transmitted (state_of rs) (read_targets (over w v).vif (add32 start G) Whole N []) (after_targets (over w v).vif (add32 start G) Whole packet)
+        (safe_less w start (HasGiven g) K (posts.HasPosted w start small v j d a used g e sl rs N) (posts.HasPosted w start small v j d a used g e sl rs N) (state_of rs) (read_targets (over w v).vif (add32 start G) Whole N [])
         k1 (λ b x h. h) (posts.posts_safe w start small v j d a used g e sl rs N p low))
-        (λ b o h. onto (λ b2 o2. BackSafe w start K Transmitted b2 (after_targets (over w v).vif (add32 start G) packet o2)) (posts.posts_read w start small v j d a used g e sl rs N) b (Ok (posts.targets w start small v j d a used g e sl rs 0 N)) o h.0 h.1
-        (subst (λ t. BackSafe w start K Transmitted (posts.posts_read w start small v j d a used g e sl rs N) (after_targets (over w v).vif (add32 start G) packet (Ok t))) (sym (targets_equal rs N 0)) filled_safe))
+        (λ b o h. onto (λ b2 o2. BackSafe w start K Transmitted b2 (after_targets (over w v).vif (add32 start G) Whole packet o2)) (posts.posts_read w start small v j d a used g e sl rs N) b (Ok (posts.targets w start small v j d a used g e sl rs 0 N)) o h.0 h.1
+        (subst (λ t. BackSafe w start K Transmitted (posts.posts_read w start small v j d a used g e sl rs N) (after_targets (over w v).vif (add32 start G) Whole packet (Ok t))) (sym (targets_equal rs N 0)) filled_safe))
 
-  found_safe : (rs : List ℕ) → ((i : ℕ) → i < length rs → id_at rs i < 256) → BackSafe w start K Transmitted (state_of rs) (found (over w v).vif (add32 start G) packet (Some (length rs - G)))
+  found_safe : (rs : List ℕ) → ((i : ℕ) → i < length rs → id_at rs i < 256) → BackSafe w start K Transmitted (state_of rs) (found (over w v).vif (add32 start G) Whole packet (Some (length rs - G)))
   found_safe rs low = by (nat_lt (length rs - G) N) refl
     where
       by : (b : Bool) → nat_lt (length rs - G) N ≡ b →
-          BackSafe w start K Transmitted (state_of rs) (if b then done outcome.TooFew else bind (read_targets (over w v).vif (add32 start G) N []) (after_targets (over w v).vif (add32 start G) packet))
+          BackSafe w start K Transmitted (state_of rs) (if b then done outcome.TooFew else bind (read_targets (over w v).vif (add32 start G) Whole N []) (after_targets (over w v).vif (add32 start G) Whole packet))
       by true c = (rs, refl)
       by false c =
           let q = fit.least in
@@ -126,11 +127,11 @@ module _ (w : Wiring) (start : ℕ) (small : start < 2 ^ 32) (v : BackWiring) (j
           posted_safe rs p (λ i h. low (G + i) (omega (arith, p, h)))
 
   -- The posts are read, the packet is written, and the responses are; or there are too few posts.
-  pub transmit_safe : (rs : List ℕ) → BackSafe w start K Transmitted (state_of rs) (transmit (over w v).vif (add32 start G) packet)
+  pub transmit_safe : (rs : List ℕ) → BackSafe w start K Transmitted (state_of rs) (transmit (over w v).vif (add32 start G) Whole packet)
   transmit_safe rs = λ m f h. (
     state_of f.posts,
     posts.rx_knows w start small v j d a used g e sl rs m f h,
     k1 (state_of f.posts) refl,
     λ n q.
-        subst (λ o. BackSafe w start K Transmitted (state_of f.posts) (found (over w v).vif (add32 start G) packet o)) (sym (posts.rx_sees w start small v j d a used g e sl rs m f h)) (found_safe f.posts h.rx.ids),
+        subst (λ o. BackSafe w start K Transmitted (state_of f.posts) (found (over w v).vif (add32 start G) Whole packet o)) (sym (posts.rx_sees w start small v j d a used g e sl rs m f h)) (found_safe f.posts h.rx.ids),
   )

@@ -7,7 +7,7 @@ use Rattle.std.proofs.lemmas.Bool.Decides.{nat_tests}
 use Rattle.xen_buffers.specs.declared.wiring.Wiring.{Wiring}
 use Rattle.xen_front.specs.Given.{Ending, Idle}
 use Rattle.xen_front.specs.Slots.{post_writes}
-use Rattle.xen_front.specs.Tree.{flown, notice, post, publish}
+use Rattle.xen_front.specs.Tree.{flown_post, notice, post, publish}
 use Rattle.xen_front.specs.declared.state.State.{State}
 use Rattle.xen_netif.specs.Slots.{rx_req_words}
 use Rattle.xen_page.specs.declared.place.Place.{Place}
@@ -173,10 +173,10 @@ module _ (w : Wiring) (laid : Numbers w) (start : ℕ) (K : Front → Type 0) (P
   notice_safe f id e true k r = λ m b h. (posted f id false, woken f id m b h, k, λ a l. r)
 
   pub post_tree_safe : (f : Front) (s : State) (id : ℕ) → s.rx.prod ≡ add32 start (length f.posts) → id < 256 → IsFreePost w start f id → length f.posts < f.got + 256 → f.reading ≡ None → f.posting ≡ false → start < 2 ^ 32 →
-      ((l : List PageWrite) → K (with_notes f l)) → ((going : Bool) → K (posted f id going)) → P (posted f id false) (record s { rx = flown s.rx (id ∷ []) }, Idle) →
+      ((l : List PageWrite) → K (with_notes f l)) → ((going : Bool) → K (posted f id going)) → P (posted f id false) (flown_post s id, Idle) →
       Safe (Inv w start) K P (with_notes f []) (post w s id)
   post_tree_safe f s id at small free room quiet closed low kn k r =
-      let e : State = record s { rx = flown s.rx (id ∷ []) } in
+      let e : State = flown_post s id in
       let i = add32 start (length f.posts) in
       let new = add32 start (length f.posts + 1) in
       let T : ℕ → Type 0 = λ i. Safe (Inv w start) K P (with_notes f []) (write_all (post_writes w i id) (publish w w.rx_frame i (add32 i 1) e)) in

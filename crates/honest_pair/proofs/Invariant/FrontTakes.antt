@@ -1,10 +1,11 @@
 -- A whole poll is safe.
-use Rattle.std.proofs.Common.{◌≡◌, ℕ, zero, suc, ◌+◌, ◌-◌, ◌^◌, ◌<◌, false, List, [], ◌∷◌, ◌++◌, length, length-append, get_or, sym, ◌∙◌, ap, arith, subst, Option, Some, None, append_assoc}
+use Rattle.std.proofs.Common.{◌≡◌, ℕ, zero, suc, ◌+◌, ◌-◌, ◌^◌, ◌<◌, List, [], ◌∷◌, ◌++◌, length, length-append, get_or, sym, ◌∙◌, ap, arith, subst, Option, Some, None, append_assoc}
 use Rattle.xen_buffers.specs.declared.wiring.Wiring.{Wiring}
 use Rattle.xen_front.specs.Given.{Ending, Idle, Packet}
-use Rattle.xen_front.specs.Tree.{after_rx_look, look, poll_rx, receive}
+use Rattle.xen_front.specs.Tree.{after_rx_look, look, nothing_gathered, poll_rx, receive}
 use Rattle.xen_front.specs.declared.state.Ring.{Ring}
 use Rattle.xen_front.specs.declared.state.State.{State}
+use Rattle.xen_netif.specs.declared.offload.RxOffload.TheVariants.{Whole}
 use Rattle.xen_steps.specs.Places.{add32}
 use Rattle.honest_pair.specs.Invariant.Ghosts.{Sent, Piece, Front, Back, slots, piece, pieces_in, id_at, IsSent, AllOf}
 use Rattle.honest_pair.specs.Invariant.Inv.{Inv}
@@ -33,7 +34,7 @@ module _ (w : Wiring) (laid : Numbers w) (start : ℕ) (small : start < 2 ^ 32) 
     (finally : (q : Sent) (x : List Sent) → K (rxing f (length (slots before) + length q.ids) (before ++ q ∷ x) None (rcv ++ q.bytes ∷ [])))
     (idle : (x : List Sent) (s : State) → s.halt ≡ None → s.tx ≡ tx0 → Ringed start s.rx (id_at f.posts) (length (slots before)) (length f.posts) → P (rxing f (length (slots before)) (before ++ x) None rcv) (s, Idle))
     (packet : (q : Sent) (x : List Sent) (s : State) → s.halt ≡ None → s.tx ≡ tx0 → Ringed start s.rx (id_at f.posts) (length (slots before) + length q.ids) (length f.posts) →
-    P (rxing f (length (slots before) + length q.ids) (before ++ q ∷ x) None (rcv ++ q.bytes ∷ [])) (s, Packet q.bytes)) where
+    P (rxing f (length (slots before) + length q.ids) (before ++ q ∷ x) None (rcv ++ q.bytes ∷ [])) (s, Packet Whole q.bytes)) where
   base : ℕ
   base = length (slots before)
 
@@ -82,7 +83,7 @@ module _ (w : Wiring) (laid : Numbers w) (start : ℕ) (small : start < 2 ^ 32) 
       let go = receive_safe w laid start K P f (before ++ q ∷ x) q.bytes q.ids (length (slots before)) rcv tx0 g.most g.bytes count (omega (arith, len, len3, len4)) (piece_of_next before q x)
       (λ c rd. during c (q ∷ x) rd) (finally q x) (λ s' h t u. packet q x s' h t u) j 0 n s None (omega (arith, some)) (omega (arith, e, len3, len4, some)) halt same
       (subst (λ c. Ringed start s.rx (id_at f.posts) c (length f.posts)) (sym zero_at) r) in
-      subst (λ c. Safe (Inv w start) K P (rxing f c (before ++ q ∷ x) None rcv) (receive w (suc n) s (record { slots = 0; bad = false; bytes = [] }))) zero_at go
+      subst (λ c. Safe (Inv w start) K P (rxing f c (before ++ q ∷ x) None rcv) (receive w (suc n) s nothing_gathered)) zero_at go
 
   pub poll_rx_safe : (x : List Sent) (s : State) → s.halt ≡ None → s.tx ≡ tx0 → Ringed start s.rx (id_at f.posts) (length (slots before)) (length f.posts) →
       Safe (Inv w start) K P (rxing f (length (slots before)) (before ++ x) None rcv) (poll_rx w s)

@@ -9,11 +9,15 @@ use Rattle.std.proofs.lemmas.Nat.{le_bytes_4}
 use Rattle.xen_front.specs.Slots.{fault_of, in_flight}
 use Rattle.xen_front.specs.declared.state.Ring.{Ring}
 use Rattle.xen_netif.specs.Copy.{bytes_in, covered}
-use Rattle.xen_netif.specs.Slots.{rx_flags_of, rx_flag_bits, rx_rsp_of}
+use Rattle.xen_netif.specs.Offloads.{data_flags}
+use Rattle.xen_netif.specs.Slots.{rx_flags_of, rx_flag_bits, rx_rsp_of, rx_rsp_words}
 use Rattle.xen_netif.specs.declared.flags.RxFlags.{RxFlags}
 use Rattle.xen_netif.specs.declared.fragment.Fragment.{Fragment}
+use Rattle.xen_netif.specs.declared.offload.Accepts.{Accepts}
 use Rattle.xen_rx_fill.proofs.ByteLemmas.{four}
-use Rattle.xen_rx_fill.specs.Packets.{response_word, rx_response, size_at, word_of}
+use Rattle.xen_netif.specs.declared.offload.RxOffload.TheVariants.{Whole}
+use Rattle.xen_rx_fill.specs.Packets.{has_more, response_word, size_at, status_at, word_of, words_or}
+use Rattle.xen_rx_fill.specs.Whole.{plain_response}
 use Rattle.xen_rx_fill.specs.declared.target.Grants.TheVariants.{Passed}
 use Rattle.honest_pair.proofs.Invariant.FrontReceives.{gathered}
 use Rattle.xen_netif.proofs.SlotLemmas.{rx_rsp_of-joined}
@@ -29,13 +33,25 @@ flags_fit : (m : Bool) → rx_flag_bits (flags_with m) < 2 ^ 16
 flags_fit true = omega arith
 flags_fit false = omega arith
 
-status_back : (n : ℕ) → n < 2 ^ 15 → cast_signed w16 (cast_unsigned w16 (pos n)) ≡ pos n
+pub status_back : (n : ℕ) → n < 2 ^ 15 → cast_signed w16 (cast_unsigned w16 (pos n)) ≡ pos n
 status_back n h = to_z-of_z w16 (pos n) (first_of (omega arith, search rules, grind arith))
 
+-- its words say nothing of an offload, by whether its slot is the second, and whether its page is the first
+plain_words : (p : List ℕ) (n k id : ℕ) (second first : Bool) →
+    words_or (if second then None else None)
+    (rx_rsp_words (record { id = id; offset = 0; flags = data_flags (if first then Whole else Whole) (has_more Whole Passed n k); status = status_at Passed p k }))
+    ≡ rx_rsp_words (plain_response Passed p n k id)
+plain_words p n k id true true = refl
+plain_words p n k id true false = refl
+plain_words p n k id false true = refl
+plain_words p n k id false false = refl
+
 -- a response, from its words
-pub response_back : (p : List ℕ) (n k id : ℕ) → id < 2 ^ 16 → size_at p k < 2 ^ 15 → rx_rsp_of (response_word Passed p n k id 0 ∷ response_word Passed p n k id 1 ∷ []) ≡ rx_response Passed p n k id
+pub response_back : (p : List ℕ) (n k id : ℕ) → id < 2 ^ 16 → size_at p k < 2 ^ 15 → rx_rsp_of (response_word Whole Passed p n k id 0 ∷ response_word Whole Passed p n k id 1 ∷ []) ≡ plain_response Passed p n k id
 response_back p n k id small few =
-    rx_rsp_of-joined (rx_response Passed p n k id) (response_word Passed p n k id 0) (response_word Passed p n k id 1) (rx_flag_bits (flags_with (nat_lt (k + 1) n))) (cast_unsigned w16 (pos (size_at p k)))
+    let words = rx_rsp_words (plain_response Passed p n k id) in
+    ap (λ l. rx_rsp_of (slice_index l 0 ∷ slice_index l 1 ∷ [])) (plain_words p n k id (k == 1) (k == 0))
+    ∙ rx_rsp_of-joined (plain_response Passed p n k id) (slice_index words 0) (slice_index words 1) (rx_flag_bits (flags_with (nat_lt (k + 1) n))) (cast_unsigned w16 (pos (size_at p k)))
     refl refl small (flags_fit (nat_lt (k + 1) n)) (flags_back (nat_lt (k + 1) n)) (status_back (size_at p k) few)
 
 not_lt : (a b : ℕ) → b ≤ a → nat_lt a b ≡ false
@@ -49,8 +65,8 @@ fifteen n k h = by (k == 15) refl
     by false e = refl
 
 -- it halts nothing
-pub no_fault : (r : Ring) (p : List ℕ) (n k id len : ℕ) → in_flight r id ≡ true → size_at p k ≤ 4096 → n ≤ 16 → len + size_at p k ≤ 65535 → fault_of r k len (rx_response Passed p n k id) ≡ None
-no_fault r p n k id len flight size few room =
+pub no_fault : (accepts : Accepts) (r : Ring) (p : List ℕ) (n k id len : ℕ) → in_flight r id ≡ true → size_at p k ≤ 4096 → n ≤ 16 → len + size_at p k ≤ 65535 → fault_of accepts r k len (plain_response Passed p n k id) ≡ None
+no_fault accepts r p n k id len flight size few room =
     rw (flight, not_lt 4096 (0 + size_at p k) (omega arith), fifteen n k few, not_lt 65535 (len + size_at p k) room) refl
 
 -- of a list's first four items, and zeros

@@ -5,6 +5,7 @@ use Rattle.honest_pair.specs.Machine.Halves.{half_turn}
 use Rattle.std.specs.Prelude.{All, get_or, nat_lt, if◌then◌else◌}
 use Rattle.std.proofs.lemmas.List.Elements.{All-head, All-tail}
 use Rattle.bpf_verify.specs.Consistent.{Accepted, IsConsistent}
+use Rattle.xen_netif.specs.declared.offload.RxOffload.TheVariants.{Whole}
 use Rattle.xen_turns.specs.Turned.{Turned, Idle, Ran, Refused, Halted}
 use Rattle.xen_turns.specs.declared.delivery.delivering.Delivery.{Delivery}
 use Rattle.xen_turns.specs.declared.delivery.delivering.Delivery.TheVariants as delivery
@@ -160,6 +161,7 @@ module _ (accepted : Accepted) (bw : BackWiring) (fw : FrontWiring) (start : ℕ
   landed_end asleep c g packet b s (delivery.Refused slots) h = absurd h
   landed_end asleep c g packet b s (delivery.Halted cause) h = absurd h
   landed_end asleep c g packet b s delivery.NoFrame h = rests_as asleep s c g b h
+  landed_end asleep c g packet b s delivery.NotAccepted h = absurd h
 
   half_end : (s : BackState) (c g : List (List ℕ)) (b : Back) (x : Half) → ended.HalfEnd fw start bw s c g b x →
       pairs.HalfEnd bw fw (Inv fw start) (Rest start) Sends Posts Polls Keeps Windowless Postless (Ready start) (Slept start) givens s c g b x
@@ -204,7 +206,7 @@ module _ (accepted : Accepted) (bw : BackWiring) (fw : FrontWiring) (start : ℕ
             (λ b2 k. k) (λ b2 x k. half_end s c g b2 x k) (half_safe fw start small (laid fw isf) bw (ends_joined fw isf accepted bw ib) (programmed accepted bw cons ib) s c g b h);
         delivery_safe = λ asleep s c g b packet h bytes.
             safe_less (λ m b2 f. Inv fw start m f b2) (ended.GivesPacket g packet) (ended.GivesPacket g packet) (λ b2 e. ended.Landed asleep start c g packet b2 e.0 e.1)
-            (λ b2 e. pairs.EndedDelivery bw fw (Inv fw start) (Rest start) Sends Posts Polls Keeps Windowless Postless (Ready start) (Slept start) givens asleep c g packet b2 e) b (whole_delivery bw.vif s packet)
+            (λ b2 e. pairs.EndedDelivery bw fw (Inv fw start) (Rest start) Sends Posts Polls Keeps Windowless Postless (Ready start) (Slept start) givens asleep c g packet b2 e) b (whole_delivery bw.vif bw.accepts s Whole packet)
             (λ b2 k. k) (λ b2 e k. landed_end asleep c g packet b2 e.0 e.1 k)
             (delivery_safe fw start small (laid fw isf) bw (ends_joined fw isf accepted bw ib) asleep s c g b (resting_as asleep s c g b h) packet (bytes_small packet bytes));
         wait_asks = λ asleep s c g b pages m f h i.

@@ -1,6 +1,7 @@
 -- Each event of the pair adds to what its front has.
 use Rattle.std.proofs.Common.{◌≡◌, ℕ, refl, sym, ◌∙◌, ap, subst, Bool, true, false, List, [], ◌∷◌, ◌++◌, Result, Ok, Err, append_assoc}
 use Rattle.std.proofs.lemmas.List.{append-nil}
+use Rattle.xen_netif.specs.declared.offload.RxOffload.TheVariants.{Whole}
 use Rattle.xen_steps.specs.Drive.{LedBy}
 use Rattle.xen_steps.specs.Event.{Event}
 use Rattle.xen_steps.specs.Steps.{Runs, Steps, done, ask, never}
@@ -249,8 +250,8 @@ back_keeps w (Waiting asleep pages (done e)) p n = as_it_was p
 back_keeps w (Waiting asleep pages never) p n = as_it_was p
 
 deliver_keeps : (w : BackWiring) (at : BackAt) (p : Pair) (packet : List ℕ) → Keeps p (on_deliver w at p packet)
-deliver_keeps w Asleep p packet = delivering_keeps w p true packet (whole_delivery w.vif p.back packet)
-deliver_keeps w (First false t) p packet = delivering_keeps w p false packet (whole_delivery w.vif p.back packet)
+deliver_keeps w Asleep p packet = delivering_keeps w p true packet (whole_delivery w.vif w.accepts p.back Whole packet)
+deliver_keeps w (First false t) p packet = delivering_keeps w p false packet (whole_delivery w.vif w.accepts p.back Whole packet)
 deliver_keeps w (First true t) p packet = as_it_was p
 deliver_keeps w (Second copy left t) p packet = as_it_was p
 deliver_keeps w (Delivering asleep other t) p packet = as_it_was p

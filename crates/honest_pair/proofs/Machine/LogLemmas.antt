@@ -1,5 +1,6 @@
 -- What the memory answers is what was last written.
 use Rattle.std.proofs.Common.{◌≡◌, ℕ, refl, subst, Bool, true, false, List, [], ◌∷◌, ◌++◌, Result, Ok, Err}
+use Rattle.xen_netif.specs.declared.offload.RxOffload.TheVariants.{Whole}
 use Rattle.xen_page.specs.declared.place.Place.{Place}
 use Rattle.xen_steps.specs.Steps.{Steps, done, ask, never}
 use Rattle.xen_steps.specs.declared.want.Want.{Want}
@@ -56,8 +57,8 @@ delivering_words w p asleep packet (ask v k) = refl
 delivering_words w p asleep packet never = refl
 
 deliver_words : (w : BackWiring) (at : BackAt) (p : Pair) (packet : List ℕ) → (on_deliver w at p packet).memory ≡ p.memory
-deliver_words w Asleep p packet = delivering_words w p true packet (whole_delivery w.vif p.back packet)
-deliver_words w (First false t) p packet = delivering_words w p false packet (whole_delivery w.vif p.back packet)
+deliver_words w Asleep p packet = delivering_words w p true packet (whole_delivery w.vif w.accepts p.back Whole packet)
+deliver_words w (First false t) p packet = delivering_words w p false packet (whole_delivery w.vif w.accepts p.back Whole packet)
 deliver_words w (First true t) p packet = refl
 deliver_words w (Second copy left t) p packet = refl
 deliver_words w (Delivering asleep other t) p packet = refl

@@ -3,6 +3,7 @@ use Rattle.std.proofs.Common.{◌≡◌, ℕ, ◌<◌, ◌^◌, ◌⊎◌, inl, 
 use Rattle.std.specs.Prelude.{◌==◌, if◌then◌else◌, flat_map, nat_lt}
 use Rattle.std.proofs.lemmas.List.{append-nil, append_assoc}
 use Rattle.std.proofs.lemmas.Bool.Decides.{nat_tests}
+use Rattle.xen_netif.specs.declared.offload.RxOffload.TheVariants.{Whole}
 use Rattle.xen_ring.specs.Index.{distance}
 use Rattle.xen_steps.specs.Places.{add32, available, page_word}
 use Rattle.xen_steps.specs.Steps.{Steps, done, ask, never}
@@ -89,6 +90,7 @@ module _ (bw : BackWiring) (fw : FrontWiring) {Front Back : Type 0} (Inv : Memor
   Landed asleep c g packet b s (delivery.Refused slots) = ⊥
   Landed asleep c g packet b s (delivery.Halted cause) = ⊥
   Landed asleep c g packet b s delivery.NoFrame = Resting asleep s c g b
+  Landed asleep c g packet b s delivery.NotAccepted = ⊥
 
   abbrev pub EndedDelivery : Bool → Packets → Packets → List ℕ → Back → Arrival → Type 0
   EndedDelivery asleep c g packet b a = Landed asleep c g packet b a.0 a.1
@@ -107,7 +109,7 @@ module _ (bw : BackWiring) (fw : FrontWiring) {Front Back : Type 0} (Inv : Memor
     pub wakes : (s : BackState) (c g : Packets) (b : Back) (m : Memory) (f : Front) → Slept s c g b → Inv m f b → (b' : Back) × Inv (record m { pending = false; awaits = awaits.Nothing }) f b' × Ready s c g b'
     pub half_safe : (s : BackState) (c g : Packets) (b : Back) → Ready s c g b → Safe BackInv (GivenAll g) (HalfEnd s c g) b (half_turn bw s)
     pub delivery_safe : (asleep : Bool) (s : BackState) (c g : Packets) (b : Back) (packet : List ℕ) → Resting asleep s c g b → All IsByte packet →
-        Safe BackInv (GivesPacket g packet) (EndedDelivery asleep c g packet) b (whole_delivery bw.vif s packet)
+        Safe BackInv (GivesPacket g packet) (EndedDelivery asleep c g packet) b (whole_delivery bw.vif bw.accepts s Whole packet)
     pub wait_asks : (asleep : Bool) (s : BackState) (c g : Packets) (b : Back) (pages : ℕ) (m : Memory) (f : Front) → Resting asleep s c g b → Inv m f b →
         Inv (record (after (want.Write (page_word bw.vif.rx 1) (add32 s.rx_index pages)) m) { awaits = awaits.Asked s.rx_index pages }) f b
     pub wait_looks : (asleep : Bool) (s : BackState) (c g : Packets) (b : Back) (pages : ℕ) (m : Memory) (f : Front) → Resting asleep s c g b → Inv m f b →
@@ -398,6 +400,7 @@ module _ (bw : BackWiring) (fw : FrontWiring) {Front Back : Type 0} (Inv : Memor
         landed_as p asleep packet c f b s delivery.FewSlots i h (subst (λ x. Resting asleep s c x b) (sym (append-nil (flat_map given_by p.deeds))) r) tt q u
     landed_stands p asleep packet c f b s (delivery.Refused slots) i h r q u = absurd r
     landed_stands p asleep packet c f b s (delivery.Halted cause) i h r q u = absurd r
+    landed_stands p asleep packet c f b s delivery.NotAccepted i h r q u = absurd r
     landed_stands p asleep packet c f b s delivery.NoFrame i h r q u =
         landed_as p asleep packet c f b s delivery.NoFrame i h (subst (λ x. Resting asleep s c x b) (sym (append-nil (flat_map given_by p.deeds))) r) tt q u
 
@@ -526,7 +529,7 @@ module _ (bw : BackWiring) (fw : FrontWiring) {Front Back : Type 0} (Inv : Memor
     begun_stands : (p : Pair) (packet : List ℕ) (c : Packets) (f : Front) (b : Back) (asleep : Bool) → All IsByte packet → Resting asleep p.back c (flat_map given_by p.deeds) b → Stands p c f b →
         Good (begin_delivery bw p asleep packet)
     begun_stands p packet c f b asleep q r g =
-        delivering_stands p asleep packet c f b (whole_delivery bw.vif p.back packet) g.inv g.front (inl (rest_gives p.back c (flat_map given_by p.deeds) b asleep r).0)
+        delivering_stands p asleep packet c f b (whole_delivery bw.vif bw.accepts p.back Whole packet) g.inv g.front (inl (rest_gives p.back c (flat_map given_by p.deeds) b asleep r).0)
         (l.delivery_safe asleep p.back c (flat_map given_by p.deeds) b packet r q) g.running g.copies g.sent
 
     deliver_stands : (p : Pair) (packet : List ℕ) (c : Packets) (f : Front) (b : Back) (at : BackAt) → p.at ≡ at → All IsByte packet → Stands p c f b → Good (on_deliver bw at p packet)

@@ -1,6 +1,7 @@
 -- Each event of the pair adds to what its back's queue has.
 use Rattle.std.proofs.Common.{◌≡◌, ℕ, refl, sym, ◌∙◌, ap, subst, Bool, true, false, List, [], ◌∷◌, ◌++◌, Option, Some, None, Result, Ok, Err, append_assoc}
 use Rattle.std.proofs.lemmas.List.{append-nil}
+use Rattle.xen_netif.specs.declared.offload.RxOffload.TheVariants.{Whole}
 use Rattle.xen_netif.specs.Chain.{Slot}
 use Rattle.xen_steps.specs.Drive.{LedBy}
 use Rattle.xen_steps.specs.Event.{Event}
@@ -63,7 +64,7 @@ deeds_turn w _ _ _ _ _ f new v q n j d (traces.waited s mid end pages t more fro
     traces.waited s mid new pages t more [] answer (ds ++ OfTurn v ∷ []) i (deeds_turn w mid more ds end front f new v q n j d h)
 
 deeds_delivery : (w : Wiring) (s : State) (items : List Item) (ds : List Deed) (end : State) (front : List Item) (p : List ℕ) (f : List Event) (new : State) (o : Delivery) → front ≡ Given p ∷ all_came f →
-    IsDelivery w end p f new o → HaveDeeds w s items ds end front → HaveDeeds w s items (ds ++ OfDelivery p o ∷ []) new []
+    IsDelivery w end Whole p f new o → HaveDeeds w s items ds end front → HaveDeeds w s items (ds ++ OfDelivery p o ∷ []) new []
 deeds_delivery w _ _ _ _ _ p f new o q j (traces.begun s front) =
     subst (λ l. HaveDeeds w s l (OfDelivery p o ∷ []) new []) (ap (λ l. Given p ∷ l) (append-nil (all_came f)) ∙ sym q) (traces.delivered s new new p f [] [] o [] j (traces.begun new []))
 deeds_delivery w _ _ _ _ _ p f new o q j (traces.turned s mid end t more front x ds m i c h) =
@@ -145,11 +146,11 @@ module _ (w : Wiring) (start : ℕ) (items : List Item) where
 
   -- the delivery goes on, or is over
   delivering_at : (p : Pair) (asleep : Bool) (packet : List ℕ) (f : List Event) (t : Steps Arrival) → HaveDeeds w (new_back start) items p.deeds p.back (Given packet ∷ all_came f) →
-      LedBy (whole_delivery w.vif p.back packet) f t → Traced w start items (delivering w p asleep packet t)
+      LedBy (whole_delivery w.vif w.accepts p.back Whole packet) f t → Traced w start items (delivering w p asleep packet t)
   delivering_at p asleep packet f (done a) h g = record {
     front = [];
     deeds = deeds_delivery w (new_back start) items p.deeds p.back (Given packet ∷ all_came f) packet f a.0 a.1 refl
-        (delivery_rows w p.back packet f a.0 a.1 (runs_of_gone (whole_delivery w.vif p.back packet) (done a) f a g refl)) h;
+        (delivery_rows w p.back Whole packet f a.0 a.1 (runs_of_gone (whole_delivery w.vif w.accepts p.back Whole packet) (done a) f a g refl)) h;
     at = rested_at w a.0 asleep;
   }
   delivering_at p asleep packet f (ask v k) h g = record { front = Given packet ∷ all_came f; deeds = h; at = (f, refl, g) }
@@ -219,8 +220,8 @@ back_follows w p (Delivering asleep packet never) n i h = follows_none w p
 back_follows w p (Delivering asleep packet (ask v k)) n i h = λ start past t.
     let a : ℕ = answer v p.memory n in
     let e : Event = h.0 in
-    let z : (f : List Event) × (t.front ≡ Given packet ∷ all_came f) × LedBy (whole_delivery w.vif p.back packet) f (ask v k) = subst (λ x. IsAt w p.back x t.front) i t.at in
-    let more : LedBy (whole_delivery w.vif p.back packet) (z.0 ++ e ∷ []) (k a) = gone_more (whole_delivery w.vif p.back packet) (ask v k) (k a) z.0 e z.2 (a, h.2, refl) in
+    let z : (f : List Event) × (t.front ≡ Given packet ∷ all_came f) × LedBy (whole_delivery w.vif w.accepts p.back Whole packet) f (ask v k) = subst (λ x. IsAt w p.back x t.front) i t.at in
+    let more : LedBy (whole_delivery w.vif w.accepts p.back Whole packet) (z.0 ++ e ∷ []) (k a) = gone_more (whole_delivery w.vif w.accepts p.back Whole packet) (ask v k) (k a) z.0 e z.2 (a, h.2, refl) in
     subst (λ l. Traced w start (past ++ all_came l) (delivering w (record p { memory = after v p.memory }) asleep packet (k a))) (sym h.1)
     (delivering_at w start (past ++ Came e ∷ []) (record p { memory = after v p.memory }) asleep packet (z.0 ++ e ∷ []) (k a)
     (subst (HaveDeeds w (new_back start) (past ++ Came e ∷ []) p.deeds p.back) (begun_more t.front (Given packet) z.0 e z.1) (deeds_more w (new_back start) past p.deeds p.back t.front (Came e ∷ []) t.deeds)) more)
@@ -238,7 +239,7 @@ back_follows w p (Waiting asleep pages (ask v k)) n i h = λ start past t.
 -- A delivery begins.
 begun_follows : (w : Wiring) (p : Pair) (asleep : Bool) (packet : List ℕ) → ((front : List Item) → IsAt w p.back p.at front → front ≡ []) → Follows w p (begin_delivery w p asleep packet) (Given packet ∷ [])
 begun_follows w p asleep packet i = λ start past t.
-    delivering_at w start (past ++ Given packet ∷ []) p asleep packet [] (whole_delivery w.vif p.back packet)
+    delivering_at w start (past ++ Given packet ∷ []) p asleep packet [] (whole_delivery w.vif w.accepts p.back Whole packet)
     (subst (HaveDeeds w (new_back start) (past ++ Given packet ∷ []) p.deeds p.back) (ap (λ l. l ++ Given packet ∷ []) (i t.front t.at)) (deeds_more w (new_back start) past p.deeds p.back t.front (Given packet ∷ []) t.deeds)) refl
 
 pub deliver_follows : (w : Wiring) (p : Pair) (packet : List ℕ) (at : BackAt) → p.at ≡ at → Follows w p (on_deliver w at p packet) (begun_at at (Given packet))

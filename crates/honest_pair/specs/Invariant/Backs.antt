@@ -1,6 +1,7 @@
 -- Stated: claims rest on this file.
 -- What holds of the back of an honest pair.
 use Rattle.std.specs.Prelude.{ℕ, ◌≡◌, ◌<◌, ◌^◌, Bool, true, false, List, ◌++◌, Some, None, get_or, nat_lt}
+use Rattle.xen_netif.specs.declared.offload.RxOffload.TheVariants.{Whole}
 use Rattle.xen_turns.specs.Deliveries.{whole_delivery}
 use Rattle.xen_turns.specs.declared.state.State.{State}
 use Rattle.xen_turns.specs.declared.wiring.Wiring.{Wiring as BackWiring}
@@ -31,7 +32,7 @@ DeliveryLaw = (w : Wiring) (start : ℕ) → start < 2 ^ 32 → Laid w → (v : 
     (asleep : Bool) (s : State) (copies given : List (List ℕ)) (b : Back) → Resting asleep start s copies given b →
     (packet : List ℕ) → ((i : ℕ) → get_or packet i 0 < 256) →
     BackSafe w start (GivesPacket given packet) (λ b' e. Landed asleep start copies given packet b' e.0 e.1) b
-    (whole_delivery v.vif s packet)
+    (whole_delivery v.vif v.accepts s Whole packet)
 
 -- Awake.
 abbrev pub woken : Back → Back

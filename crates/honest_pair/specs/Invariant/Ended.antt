@@ -129,6 +129,7 @@ Landed asleep start copies given packet b s delivery.FewSlots = Resting asleep s
 Landed asleep start copies given packet b s (delivery.Refused slots) = ⊥
 Landed asleep start copies given packet b s (delivery.Halted cause) = ⊥
 Landed asleep start copies given packet b s delivery.NoFrame = Resting asleep start s copies given b
+Landed asleep start copies given packet b s delivery.NotAccepted = ⊥
 
 -- No fault, and each exit leaves a packet of which P holds.
 abbrev pub Leaves : (List ℕ → Type 0) → Course → Type 0

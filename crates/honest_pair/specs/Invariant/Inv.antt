@@ -10,6 +10,7 @@ use Rattle.xen_netif.specs.Words.{joined, low}
 use Rattle.xen_page.specs.Mapping.{frame_place}
 use Rattle.xen_page.specs.declared.place.Place.{Place}
 use Rattle.xen_steps.specs.Places.{add32, page_word, rx_entry, tx_entry}
+use Rattle.xen_netif.specs.declared.offload.RxOffload.TheVariants.{Whole}
 use Rattle.xen_rx_fill.specs.Packets.{response_word, word_of, words}
 use Rattle.xen_rx_fill.specs.declared.target.Grants.TheVariants.{Passed}
 use Rattle.honest_pair.specs.Invariant.Ghosts.{AllOf, Sent, Piece, slots, piece, id_at, IsSent, Front, Back, tx_sent, tx_answered, rx_given, AllNotes}
@@ -36,7 +37,7 @@ module _ (w : Wiring) (start : ℕ) where
   tx_words s = tx_req_words (piece_request w s.bytes s.n s.k s.id)
 
   abbrev pub rx_word_of : Piece → ℕ → ℕ
-  rx_word_of s j = response_word Passed s.bytes s.n s.k s.id j
+  rx_word_of s j = response_word Whole Passed s.bytes s.n s.k s.id j
 
   -- A grant to the back, with these flags.
   pub record IsLent (x : Place → ℕ) (b : Buffer) (kind : ℕ) : Type 0 where

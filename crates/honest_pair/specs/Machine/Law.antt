@@ -47,6 +47,7 @@ delivered packet delivery.FewSlots = []
 delivered packet (delivery.Refused slots) = []
 delivered packet (delivery.Halted cause) = []
 delivered packet delivery.NoFrame = []
+delivered packet delivery.NotAccepted = []
 
 -- What a turn sent back, or the host delivered.
 abbrev pub given_by : Deed → List (List ℕ)
@@ -75,6 +76,7 @@ HasArrived delivery.FewSlots = Unit {0}
 HasArrived (delivery.Refused slots) = ⊥
 HasArrived (delivery.Halted cause) = ⊥
 HasArrived delivery.NoFrame = Unit {0}
+HasArrived delivery.NotAccepted = ⊥
 
 -- A wait ends with as many slots posted as were awaited, or with fewer.
 abbrev pub HasLooked : Awaited → Type 0

@@ -3,6 +3,7 @@
 use Rattle.std.specs.Prelude.{ℕ, Bool, true, false, List, [], ◌∷◌, ◌++◌, length, get_or, Option, Some, None, Result}
 use Rattle.std.specs.Prelude.{Ok, Err, nat_lt}
 use Rattle.xen_steps.specs.Steps.{Steps, done, ask, never}
+use Rattle.xen_netif.specs.declared.offload.RxOffload.TheVariants.{Whole}
 use Rattle.xen_turns.specs.Deliveries.{Arrival, whole_delivery}
 use Rattle.xen_turns.specs.Tree.{Left, after_run}
 use Rattle.xen_turns.specs.Turned.{Turned, Idle, Ran, Refused, Halted, Ending}
@@ -84,7 +85,7 @@ pub record Pair : Type 0 where
 -- The packets that an activity gave.
 abbrev pub packets_of : Given → List (List ℕ)
 packets_of given.Idle = []
-packets_of (given.Packet bytes) = bytes ∷ []
+packets_of (given.Packet offload bytes) = bytes ∷ []
 packets_of given.Refused = []
 packets_of (given.Halted cause) = []
 
@@ -211,7 +212,7 @@ delivering w p asleep packet (ask v k) = record p { at = Delivering asleep packe
 delivering w p asleep packet never = record p { at = Delivering asleep packet never }
 
 abbrev pub begin_delivery : BackWiring → Pair → Bool → List ℕ → Pair
-begin_delivery w p asleep packet = delivering w p asleep packet (whole_delivery w.vif p.back packet)
+begin_delivery w p asleep packet = delivering w p asleep packet (whole_delivery w.vif w.accepts p.back Whole packet)
 
 -- Inside a turn, a delivery or a wait nothing is done.
 abbrev pub on_deliver : BackWiring → BackAt → Pair → List ℕ → Pair

@@ -7,6 +7,7 @@ use Rattle.xen_steps.specs.Drive.{LedBy}
 use Rattle.xen_steps.specs.Event.{Event, Occurs}
 use Rattle.xen_steps.specs.Steps.{Runs, Steps, done, ask, never}
 use Rattle.xen_turns.specs.Awaited.{IsAwaiting}
+use Rattle.xen_netif.specs.declared.offload.RxOffload.TheVariants.{Whole}
 use Rattle.xen_turns.specs.Delivered.{IsDelivery}
 use Rattle.xen_turns.specs.Deliveries.{whole_delivery}
 use Rattle.xen_turns.specs.Tree.{Left, after_run}
@@ -46,7 +47,7 @@ pub data HaveDeeds (w : Wiring) : State → List Item → List Deed → State �
       s.halt ≡ None → IsTurn w s t mid p.turn → IsCopied w s t p.copy → HaveDeeds w mid more ds end front →
       HaveDeeds w s (all_came t ++ more) (OfTurn p ∷ ds) end front
   delivered : (s mid end : State) (packet : List ℕ) (t : List Event) (more front : List Item) (what : Delivery) (ds : List Deed) →
-      IsDelivery w s packet t mid what → HaveDeeds w mid more ds end front →
+      IsDelivery w s Whole packet t mid what → HaveDeeds w mid more ds end front →
       HaveDeeds w s (Given packet ∷ (all_came t ++ more)) (OfDelivery packet what ∷ ds) end front
   waited : (s mid end : State) (pages : ℕ) (t : List Event) (more front : List Item) (answer : Awaited) (ds : List Deed) →
       IsAwaiting w s pages t mid answer → HaveDeeds w mid more ds end front →
@@ -68,7 +69,7 @@ IsAt w s (First false t) front = (front ≡ []) × (t ≡ half_turn w s)
 IsAt w s (First true t) front = (f : List Event) × (front ≡ all_came f) × LedBy (half_turn w s) f t
 IsAt w s (Second packet left t) front = (f : List Event) × (front ≡ all_came f) × IsSecond w s packet left t f
 IsAt w s (Delivering asleep packet t) front =
-    (f : List Event) × (front ≡ Given packet ∷ all_came f) × LedBy (whole_delivery w.vif s packet) f t
+    (f : List Event) × (front ≡ Given packet ∷ all_came f) × LedBy (whole_delivery w.vif w.accepts s Whole packet) f t
 IsAt w s (Waiting asleep pages t) front =
     (f : List Event) × (front ≡ SlotsAwaited pages ∷ all_came f) × LedBy (whole_wait w.vif.rx s pages) f t
 

@@ -12,7 +12,8 @@ ghost use Rattle.xen_ring.specs.Layout.{rsp_event};
 ghost use Rattle.xen_steps.specs.Places.{add32, page_word};
 ghost use Rattle.xen_steps.specs.Steps.{done, next_by, want_of};
 
-use crate::by_event::phase::{Chained, Phase};
+use crate::by_event::extras::{after_extra, extra_ended};
+use crate::by_event::phase::{Chained, Extra, Phase};
 use crate::by_event::posting::{
     after_event, post_first, post_flags, post_frame, post_second, posted,
 };
@@ -88,6 +89,9 @@ pub(crate) fn phase_want(wiring: &Wiring, state: &State, sent: &[u8], phase: &Ph
             frame: paging.frame,
             word: paging.place,
         }),
+        Phase::ExtraFirst(_) => Want::Read(rx_entry(wiring.rx_frame, state.rx.cons, 0)),
+        Phase::ExtraSecond { .. } => Want::Read(rx_entry(wiring.rx_frame, state.rx.cons, 1)),
+        Phase::ExtraEnd { id, .. } => end_grant(wiring, &buffer_of(wiring.rx, *id)),
         Phase::Ended(_) => Want::Done,
     }
 }
@@ -111,6 +115,13 @@ fn response_begun(chained: Chained, first: u32) -> Phase
     ensures { result ≡ phases.RxSecond chained first }
 {
     Phase::RxSecond { chained, first }
+}
+
+/// After an extra's first word.
+fn extra_begun(extra: Extra, first: u32) -> Phase
+    ensures { result ≡ phases.ExtraSecond extra first }
+{
+    Phase::ExtraSecond { extra, first }
 }
 
 /// The phase after an answer.
@@ -162,11 +173,14 @@ pub(crate) fn phase_fed(
         Phase::RxSecond { chained, first } => after_response(state, received, chained, first, word),
         Phase::RxEnd(part) => grant_ended(wiring, state, part),
         Phase::RxPage(paging) => after_word(state, received, paging, word),
+        Phase::ExtraFirst(extra) => extra_begun(extra, word),
+        Phase::ExtraSecond { extra, first } => after_extra(state, extra, first, word),
+        Phase::ExtraEnd { extra, .. } => extra_ended(state, extra),
         Phase::Ended(outcome) => Phase::Ended(outcome),
     }
 }
 
-/// What the activity gave, without the packet.
+/// What the activity gave, without the packet's bytes.
 pub(crate) fn ending(phase: Phase) -> Outcome
     requires { (w : Wiring) × (s : State) × (p : List ℕ) × (q : List ℕ) × (want_of (rest_at w s p q phase) ≡ Want.Done) }
     ensures { (w : Wiring) (s : State) (p q : List ℕ) → rest_at w s p q phase ≡ done (s, given result q) }
@@ -184,7 +198,10 @@ pub(crate) fn show<'t>(received: &'t Packet, outcome: Outcome) -> RxTurn<'t>
 {
     match outcome {
         Outcome::Idle => RxTurn::Idle,
-        Outcome::Packet => RxTurn::Packet(received.bytes()),
+        Outcome::Packet(offload) => RxTurn::Packet {
+            offload,
+            bytes: received.bytes(),
+        },
         Outcome::Refused => RxTurn::Refused,
         Outcome::Halted { cause } => RxTurn::Halted { cause },
     }

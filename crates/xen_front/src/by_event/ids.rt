@@ -3,13 +3,16 @@
 ghost use Rattle.std.specs.Prelude.{◌≡◌, ◌≤◌, length};
 ghost use Rattle.xen_front.specs.Fronts.{chosen};
 ghost use Rattle.xen_front.specs.Slots.{pieces_of as pieces_of_spec};
-ghost use Rattle.xen_front.specs.Tree.{flown, fly as fly_spec};
+ghost use Rattle.xen_front.specs.Tree.{flown, flown_post, fly as fly_spec};
 
-use crate::state::Ring;
+use crate::state::{Ring, State};
 use arrayvec::ArrayVec;
 
 /// The bytes of a page.
 const PAGE: usize = 4096;
+
+/// The entries of a ring.
+pub(crate) const ENTRIES: u32 = 256;
 
 /// The number of pieces of a packet.
 pub(crate) fn pieces_of(len: usize) -> u32
@@ -46,6 +49,15 @@ pub(crate) fn fly(ring: &mut Ring, ids: &[u8])
 {
     fly_all(&mut ring.out, ids);
     ring.prod = ring.prod.wrapping_add(ids.len() as u32);
+}
+
+/// Marks the id of a posted buffer as in flight, notes the entry of its request, and advances the producer past it.
+pub(crate) fn fly_post(state: &mut State, id: u8)
+    ensures { state.new ≡ flown_post state.old id }
+{
+    let entry = state.rx.prod % ENTRIES;
+    state.posts[entry as usize] = id;
+    fly(&mut state.rx, &[id]);
 }
 
 /// Marks the ids as in flight.

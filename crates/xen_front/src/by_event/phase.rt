@@ -5,7 +5,7 @@ ghost use Rattle.xen_netif.specs.Copy.{Covers};
 
 use crate::turn::Outcome;
 use arrayvec::ArrayVec;
-use xen_netif::{Fragment, RxRsp};
+use xen_netif::{Fragment, RxOffload, RxRsp};
 
 /// A piece of the packet that is being sent, and the ids of all its pieces. The first piece's slot has the index `start`.
 #[derive(Drop)]
@@ -26,12 +26,13 @@ pub struct Filling {
 }
 
 /// A chain that is being received: how many responses are left after the one that is being read, how many slots came
-/// before it, and whether one of their statuses was negative.
+/// before it, whether one of their statuses was negative, and what the packet leaves to the front.
 #[derive(Clone, Copy)]
 pub struct Chained {
     pub left: u32,
     pub slots: u32,
     pub bad: bool,
+    pub offload: RxOffload,
     ghost few: { slots ≤ 15 },
 }
 
@@ -41,6 +42,14 @@ pub struct Part {
     pub chained: Chained,
     pub response: RxRsp,
     ghost room: { response.flags.more_data ≡ true → chained.slots ≤ 14 },
+    ghost extra: { response.flags.extra_info ≡ true → chained.slots ≡ 0 },
+}
+
+/// The extra behind the first response of a chain, and whether further responses follow it.
+#[derive(Clone, Copy)]
+pub struct Extra {
+    pub chained: Chained,
+    pub more: bool,
 }
 
 /// Before the word at a place of the part's page, after which `more` words are covered.
@@ -97,5 +106,9 @@ pub enum Phase {
     RxSecond { chained: Chained, first: u32 },
     RxEnd(Part),
     RxPage(Paging),
+    /// The words of an extra, and the grant of the request in whose entry it lies.
+    ExtraFirst(Extra),
+    ExtraSecond { extra: Extra, first: u32 },
+    ExtraEnd { extra: Extra, id: u16 },
     Ended(Outcome),
 }

@@ -1,22 +1,25 @@
 //! A poll's packet: the responses of the rx ring, checked one by one, and their pages.
 
-ghost use Rattle.std.specs.Prelude.{◌≡◌, ◌<◌, ◌≤◌, ◌+◌, ◌-◌, ◌/◌, ◌++◌, ◌∷◌, ℕ, List, [], ◌||◌, suc, length};
+ghost use Rattle.std.specs.Prelude.{◌≡◌, ◌<◌, ◌≤◌, ◌+◌, ◌-◌, ◌/◌, ◌++◌, ◌∷◌, ℕ, List, [], ◌||◌, ◌&&◌, not, suc, length, if◌then◌else◌};
 ghost use Rattle.xen_front.specs.Rest.{HasSpace, bytes_left, gathered, part_rest, rest_at};
-ghost use Rattle.xen_front.specs.Slots.{covered_bytes as covered_bytes_spec, fault_of, is_negative as is_negative_spec};
-ghost use Rattle.xen_front.specs.Slots.{part_of as part_of_spec, passes_page as passes_page_spec};
+ghost use Rattle.xen_front.specs.Slots.{covered_bytes as covered_bytes_spec, fault_of, in_flight, is_negative as is_negative_spec};
+ghost use Rattle.xen_front.specs.Slots.{may_have_extra as may_have_extra_spec, part_of as part_of_spec, passes_page as passes_page_spec};
+ghost use Rattle.xen_front.specs.Slots.{first_said as first_said_spec, said_by};
+ghost use Rattle.xen_front.specs.Given as givens;
 ghost use Rattle.xen_front.specs.Tree.{after_rx_look, checked, first_word, read_page, receive, seen};
 ghost use Rattle.xen_netif.specs.Copy.{Covers, bytes_in};
 ghost use Rattle.xen_netif.specs.Slots.{rx_rsp_of};
 ghost use Rattle.xen_steps.specs.Pages.{copy_words};
-ghost use Rattle.xen_steps.specs.Steps.{bind};
+ghost use Rattle.xen_steps.specs.Steps.{bind, done};
 
+use crate::by_event::extras::extra_next;
 use crate::by_event::phase::{Chained, Paging, Part, Phase};
 use crate::by_event::taking::{halt, is_in_flight, land};
 use crate::packet::Packet;
-use crate::state::{Ring, State};
+use crate::state::State;
 use crate::turn::{Halt, Outcome};
 use xen_buffers::{Buffer, Wiring, buffer_of};
-use xen_netif::{Fragment, RxRsp};
+use xen_netif::{Accepts, Fragment, RxFlags, RxOffload, RxRsp};
 
 /// After the first look at the rx ring.
 pub(crate) fn rx_first_looked(state: &mut State, received: &mut Packet, n: Option<u32>) -> Phase
@@ -48,7 +51,12 @@ pub(crate) fn rx_looked(state: &mut State, received: &mut Packet, n: Option<u32>
                 Phase::Ended(Outcome::Idle)
             } else {
                 received.clear();
-                before_response(n - 1, 0, false)
+                before_response(Chained {
+                    left: n - 1,
+                    slots: 0,
+                    bad: false,
+                    offload: RxOffload::Whole,
+                })
             }
         }
     }
@@ -76,12 +84,34 @@ fn passes_page(offset: u16, status: i16) -> bool
     i32::from(offset) + i32::from(status) > 4096
 }
 
-/// Why a response halts the front, if it does.
-fn fault(ring: &Ring, slots: u32, bytes: u32, response: &RxRsp) -> Option<Halt>
-    requires { bytes ≤ 65535 }
-    ensures { result ≡ fault_of ring.now slots bytes response.now }
+/// Whether an extra may lie behind the slot that comes after so many.
+fn may_have_extra(accepts: &Accepts, slots: u32) -> bool
+    ensures { result ≡ may_have_extra_spec accepts.now slots }
 {
-    if !is_in_flight(ring, response.id) || response.flags.extra_info || response.flags.gso_prefix {
+    slots == 0 && (accepts.segments.gso_tcpv4 || accepts.segments.gso_tcpv6)
+}
+
+/// Whether a response names no buffer in flight, or its flags ask for what may not come.
+fn is_strange(state: &State, slots: u32, response: &RxRsp) -> bool
+    ensures { result ≡ (not (in_flight state.now.rx response.now.id)
+        || (response.now.flags.extra_info && not (may_have_extra_spec state.now.accepts slots)) || response.now.flags.gso_prefix) }
+{
+    let RxFlags {
+        extra_info,
+        gso_prefix,
+        ..
+    } = response.flags;
+    !is_in_flight(&state.rx, response.id)
+        || extra_info && !may_have_extra(&state.accepts, slots)
+        || gso_prefix
+}
+
+/// Why a response halts the front, if it does.
+fn fault(state: &State, slots: u32, bytes: u32, response: &RxRsp) -> Option<Halt>
+    requires { bytes ≤ 65535 }
+    ensures { result ≡ fault_of state.now.accepts state.now.rx slots bytes response.now }
+{
+    if is_strange(state, slots, response) {
         return Some(Halt::RxSlot);
     }
     if passes_page(response.offset, response.status) {
@@ -106,12 +136,12 @@ pub(crate) fn after_response(
     ensures space { HasSpace result received.now }
     ensures rest { (w : Wiring) (p : List ℕ) → rest_at w state.new p received.now result
         ≡ checked w state.old (gathered chained received.now) (rx_rsp_of (first ∷ second ∷ []))
-        (fault_of state.old.rx chained.slots (length received.now) (rx_rsp_of (first ∷ second ∷ [])))
+        (fault_of state.old.accepts state.old.rx chained.slots (length received.now) (rx_rsp_of (first ∷ second ∷ [])))
         (receive w chained.left) }
 {
     let response = RxRsp::of_words([first, second]);
     match fault(
-        &state.rx,
+        state,
         chained.slots,
         received.bytes().len() as u32,
         &response,
@@ -170,27 +200,50 @@ fn before_word(part: Part, frame: u32, fragment: Fragment, place: u32, more: u32
     })
 }
 
-/// Before a response, with `left` responses after it.
-fn before_response(left: u32, slots: u32, bad: bool) -> Phase
-    requires { slots ≤ 15 }
+/// Before a response of the chain.
+fn before_response(chained: Chained) -> Phase
     ensures space { (q : List ℕ) → HasSpace result q }
     ensures rest { (w : Wiring) (s : State) (p q : List ℕ) → rest_at w s p q result
-        ≡ first_word w s (record { slots = slots; bad = bad; bytes = q }) (receive w left) }
+        ≡ first_word w s (gathered chained q) (receive w chained.left) }
 {
-    Phase::RxFirst(Chained { left, slots, bad })
+    Phase::RxFirst(chained)
 }
 
-/// Before a further response of the chain, or the halt if the producer showed none.
-fn more_responses(state: &mut State, left: u32, slots: u32, bad: bool) -> Phase
-    requires { slots ≤ 15 }
+/// Before a further response of the chain, or the halt if the producer showed none: here `left` counts that one too.
+pub(crate) fn more_responses(state: &mut State, chained: Chained) -> Phase
     ensures space { (q : List ℕ) → HasSpace result q }
-    ensures rest { (w : Wiring) (p q : List ℕ) → rest_at w state.new p q result
-        ≡ receive w left state.old (record { slots = slots; bad = bad; bytes = q }) }
+    ensures rest { (w : Wiring) (p q : List ℕ) → rest_at w state.new p q result ≡ receive w chained.left state.old (gathered chained q) }
 {
-    if left == 0 {
+    if chained.left == 0 {
         halt(state, Halt::ShortChain)
     } else {
-        before_response(left - 1, slots, bad)
+        before_response(one_less(chained))
+    }
+}
+
+/// The chain with one response less that is left.
+pub(crate) fn one_less(chained: Chained) -> Chained
+    requires { 0 < chained.left }
+    ensures left { result.left ≡ chained.left - 1 }
+    ensures gathered { (q : List ℕ) → gathered result q ≡ gathered chained q }
+{
+    Chained {
+        left: chained.left - 1,
+        slots: chained.slots,
+        bad: chained.bad,
+        offload: chained.offload,
+    }
+}
+
+/// What a whole chain gives.
+pub(crate) fn given(bad: bool, offload: RxOffload) -> Phase
+    ensures space { (q : List ℕ) → HasSpace result q }
+    ensures rest { (w : Wiring) (s : State) (p q : List ℕ) → rest_at w s p q result ≡ done (s, if bad then givens.Refused else givens.Packet offload q) }
+{
+    if bad {
+        Phase::Ended(Outcome::Refused)
+    } else {
+        Phase::Ended(Outcome::Packet(offload))
     }
 }
 
@@ -201,18 +254,57 @@ fn is_bad(part: &Part) -> bool
     part.chained.bad || is_negative(part.response.status)
 }
 
+/// What a response behind so many slots says of the packet's checksum, if it is the first; else what was known.
+fn first_said(slots: u32, known: RxOffload, said: RxOffload) -> RxOffload
+    ensures { result ≡ first_said_spec slots known said }
+{
+    if slots == 0 { said } else { known }
+}
+
+/// What the packet leaves to the front, as far as this part and those before it say.
+fn said(part: &Part) -> RxOffload
+    ensures { result ≡ said_by part.now.response.flags part.now.chained.slots part.now.chained.offload }
+{
+    let RxFlags {
+        csum_blank,
+        data_validated,
+        ..
+    } = part.response.flags;
+    let Chained { slots, offload, .. } = part.chained;
+    if csum_blank {
+        first_said(slots, offload, RxOffload::Blank)
+    } else if data_validated {
+        first_said(slots, offload, RxOffload::Validated)
+    } else {
+        offload
+    }
+}
+
 /// After a part's page.
 fn after_part(state: &mut State, part: Part) -> Phase
     ensures space { (q : List ℕ) → HasSpace result q }
     ensures rest { (w : Wiring) (p q : List ℕ) → rest_at w state.new p q result ≡ part_rest w state.old part q }
 {
     let bad = is_bad(&part);
-    if part.response.flags.more_data {
-        more_responses(state, part.chained.left, part.chained.slots + 1, bad)
-    } else if bad {
-        Phase::Ended(Outcome::Refused)
+    let offload = said(&part);
+    let RxFlags {
+        extra_info,
+        more_data,
+        ..
+    } = part.response.flags;
+    if !extra_info && !more_data {
+        return given(bad, offload);
+    }
+    let chained = Chained {
+        left: part.chained.left,
+        slots: part.chained.slots + 1,
+        bad,
+        offload,
+    };
+    if extra_info {
+        extra_next(state, chained, more_data)
     } else {
-        Phase::Ended(Outcome::Packet)
+        more_responses(state, chained)
     }
 }
 

@@ -6,7 +6,7 @@ ghost use Rattle.xen_front.specs.Slots.{pieces_of as pieces_of_spec};
 ghost use Rattle.xen_front.specs.Tree.{poll, post, send};
 
 use crate::by_event::feeding::is_busy;
-use crate::by_event::ids::{choose, fly, pieces_of};
+use crate::by_event::ids::{choose, fly, fly_post, pieces_of};
 use crate::by_event::posting::begin_post;
 use crate::by_event::sending::first_piece;
 use crate::by_event::taking::begin_poll;
@@ -82,7 +82,7 @@ impl<'p> Front<'p> {
         match ids.as_slice().get(0) {
             Some(id) => {
                 let start = self.state.rx.prod;
-                fly(&mut self.state.rx, &[*id]);
+                fly_post(&mut self.state, *id);
                 self.phase = begin_post(*id, start);
                 Ok(())
             }

@@ -10,6 +10,7 @@ use crate::packet::Packet;
 use crate::state::{Counts, Ring, State};
 use std::alloc::{AllocError, Global};
 use xen_buffers::{FrontDesc, Wiring};
+use xen_netif::Accepts;
 
 /// A ring with nothing in flight, at this index.
 fn new_ring(start: u32) -> Ring
@@ -23,11 +24,16 @@ fn new_ring(start: u32) -> Ring
 }
 
 impl<'p> Front<'p> {
-    /// A front between activities. All the memory that it ever needs is allocated here: room for a packet to be sent and
-    /// for one received. [`FrontDesc::is_wired`] is the test of its condition.
-    pub fn make(alloc: Global, desc: FrontDesc<'p>) -> Result<Front<'p>, AllocError>
+    /// A front between activities. All the memory that it ever needs is allocated here: room for a packet to be sent and for
+    /// one received. [`FrontDesc::is_wired`] tests its condition. The features in XenStore tell the other end what the front
+    /// accepts.
+    pub fn make(
+        alloc: Global,
+        desc: FrontDesc<'p>,
+        accepts: Accepts,
+    ) -> Result<Front<'p>, AllocError>
         requires { IsWired (wiring_in desc) }
-        ensures { IfOk result (IsMade desc.entry) }
+        ensures { IfOk result (IsMade desc.entry accepts) }
     {
         let wiring = Wiring {
             frames: desc.frames,
@@ -42,6 +48,8 @@ impl<'p> Front<'p> {
         let state = State {
             tx: new_ring(desc.start),
             rx: new_ring(desc.start),
+            posts: [0; 256],
+            accepts,
             counts: Counts {
                 okay: 0,
                 dropped: 0,

@@ -15,7 +15,7 @@ use xen_page::Bus;
 use xen_ring::Ports;
 use xen_steps::{Answer, Want};
 
-/// More events than an activity has: a send has at most 16,467 and a poll at most 16,951.
+/// More events than an activity has: a send has at most 16,467 and a poll at most 16,954.
 const MOST_EVENTS: u32 = 17_000;
 
 /// The most pieces of a packet.

@@ -6,7 +6,9 @@ ghost use Rattle.xen_front.specs.Fronts.{wiring_of};
 
 use crate::bench::{Bench, FRAMES};
 use std::alloc::{AllocError, Global};
-use xen_front::{Front, Halt, PollRefusal, PostRefusal, RxTurn, SendRefusal};
+use xen_front::{
+    ACCEPTS_WHOLE, Accepts, Front, Halt, PollRefusal, PostRefusal, RxOffload, RxTurn, SendRefusal,
+};
 use xen_page::{Access, ScriptBus};
 use xen_ring::{Port, Ports};
 use xen_steps::{Answer, Want};
@@ -29,7 +31,7 @@ pub enum Call<'a> {
 #[derive(Clone, Copy, Debug, PartialEq, Eq)]
 pub enum End {
     Idle,
-    Packet,
+    Packet(RxOffload),
     Refused,
     Halted(Halt),
     NotSent(SendRefusal),
@@ -78,7 +80,15 @@ pub fn has(accesses: &[Access], from: usize, rows: &[Row]) -> bool {
 impl Bench {
     /// Two fronts between activities.
     pub fn fronts(&self, start: u32) -> Option<Fronts<'_>> {
-        match (self.front(start), self.front(start)) {
+        self.fronts_accepting(start, ACCEPTS_WHOLE)
+    }
+
+    /// Two fronts between activities that accept so much.
+    pub fn fronts_accepting(&self, start: u32, accepts: Accepts) -> Option<Fronts<'_>> {
+        match (
+            self.front_accepting(start, accepts),
+            self.front_accepting(start, accepts),
+        ) {
             (Some(driven), Some(fed)) => Some(Fronts {
                 alloc: self.alloc,
                 driven,
@@ -93,7 +103,7 @@ impl Bench {
 fn copied(alloc: Global, turn: RxTurn) -> Result<(End, Vec<u8>), AllocError> {
     let (end, bytes): (End, &[u8]) = match turn {
         RxTurn::Idle => (End::Idle, &[]),
-        RxTurn::Packet(bytes) => (End::Packet, bytes),
+        RxTurn::Packet { offload, bytes } => (End::Packet(offload), bytes),
         RxTurn::Refused => (End::Refused, &[]),
         RxTurn::Halted { cause } => (End::Halted(cause), &[]),
     };

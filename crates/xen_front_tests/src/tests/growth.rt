@@ -4,7 +4,7 @@
 use crate::bench::Bench;
 use std::alloc::{AllocError, Global};
 use std::test::Fail;
-use xen_front::Front;
+use xen_front::{ACCEPTS_WHOLE, Front};
 
 /// What a front stands on.
 fn bench(alloc: Global) -> Result<Bench, AllocError> {
@@ -18,7 +18,7 @@ fn bench(alloc: Global) -> Result<Bench, AllocError> {
 fn is_made(alloc: Global, bench: &Bench) -> Result<bool, Fail> {
     let desc = bench.desc(0);
     if desc.is_wired() {
-        Ok(Front::make(alloc, desc).is_ok())
+        Ok(Front::make(alloc, desc, ACCEPTS_WHOLE).is_ok())
     } else {
         Err("not wired".into())
     }

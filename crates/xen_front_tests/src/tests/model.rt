@@ -2,9 +2,13 @@
 
 ghost use Rattle.std.specs.Prelude.{◌<◌};
 
+use super::answers::{
+    extra_words, flags_and_status, given, is_negative, said, segments_in, size_of,
+};
 use super::fixtures::End;
 use std::alloc::{AllocError, Global};
-use xen_front::Halt;
+use xen_front::{Accepts, Halt, RxOffload};
+use xen_netif::Segments;
 
 /// Numbers that look random, the same in each run (Knuth's MMIX generator).
 #[derive(Clone, Copy)]
@@ -29,17 +33,20 @@ impl Random {
     }
 
     /// Whether the next answer is any number at all.
-    fn is_wild(&mut self) -> bool {
+    pub fn is_wild(&mut self) -> bool {
         self.small(255) == 0
     }
 }
 
-/// One ring: its two indices, and the ids in flight.
+/// One ring: its two indices, the ids in flight, and all ids in the order of their requests.
 #[derive(Drop)]
 struct Ring {
     prod: u32,
     cons: u32,
     open: Vec<u32>,
+    all: Vec<u32>,
+    /// How many responses were taken.
+    taken: usize,
 }
 
 impl Ring {
@@ -48,6 +55,7 @@ impl Ring {
         for id in 0..256u32 {
             if !self.open.contains(&id) {
                 self.open.push(id)?;
+                self.all.push(id)?;
                 self.prod = self.prod.wrapping_add(1);
                 return Ok(());
             }
@@ -57,7 +65,23 @@ impl Ring {
 
     fn end(&mut self, id: u32) {
         self.open.retain(|other| *other != id);
+        self.taken = self.taken.saturating_add(1);
         self.cons = self.cons.wrapping_add(1);
+    }
+
+    fn new(alloc: Global, start: u32) -> Ring {
+        Ring {
+            prod: start,
+            cons: start,
+            open: Vec::new(alloc),
+            all: Vec::new(alloc),
+            taken: 0,
+        }
+    }
+
+    /// The id of the request in the entry of the next response.
+    fn next_id(&self) -> Option<u32> {
+        self.all.get(self.taken).copied()
     }
 
     /// An id in flight, mostly.
@@ -88,6 +112,7 @@ pub struct Model {
     alloc: Global,
     tx: Ring,
     rx: Ring,
+    accepts: Accepts,
     pub statuses: [u64; 4],
 }
 
@@ -126,22 +151,6 @@ impl Poll {
     }
 }
 
-/// The word of an rx response's flags and status, mostly of a small one, with `left` responses left after it.
-fn flags_and_status(left: u32, random: &mut Random) -> u32 {
-    if random.is_wild() {
-        return random.number();
-    }
-    let wants_more = random.small(1) == 0 && (left > 0 || random.is_wild());
-    let more = if wants_more { 4 } else { 0 };
-    let status = match random.small(15) {
-        0 => 0xFFFF,
-        1 => 0,
-        2 => 4096,
-        _ => random.small(63),
-    };
-    more | status << 16
-}
-
 /// Which count a status two below this number belongs to: OKAY, DROPPED, ERROR or another.
 fn place_of(status: u32) -> usize
     ensures { result < 4 }
@@ -155,19 +164,12 @@ fn place_of(status: u32) -> usize
 }
 
 impl Model {
-    pub fn new(alloc: Global, start: u32) -> Model {
+    pub fn new(alloc: Global, start: u32, accepts: Accepts) -> Model {
         Model {
             alloc,
-            tx: Ring {
-                prod: start,
-                cons: start,
-                open: Vec::new(alloc),
-            },
-            rx: Ring {
-                prod: start,
-                cons: start,
-                open: Vec::new(alloc),
-            },
+            tx: Ring::new(alloc, start),
+            rx: Ring::new(alloc, start),
+            accepts,
             statuses: [0; 4],
         }
     }
@@ -238,45 +240,99 @@ impl Model {
         random: &mut Random,
     ) -> Result<End, AllocError> {
         let mut bad = false;
-        for slot in 0..responses {
-            let id = self.rx.some_id(random);
-            let offset = random.small(31);
-            let second = flags_and_status(responses.saturating_sub(slot + 1), random);
-            poll.answer(id | offset << 16)?;
-            poll.answer(second)?;
-            if !self.rx.open.contains(&id) {
-                return Ok(End::Halted(Halt::RxSlot));
-            }
-            if let Some(cause) = poll.fault(slot, offset, second) {
-                return Ok(End::Halted(cause));
-            }
-            self.rx.end(id);
-            poll.wrote();
-            bad = bad || is_negative(second);
-            page(offset, size_of(second), poll, random)?;
-            if second & 4 == 0 {
-                return Ok(if bad { End::Refused } else { End::Packet });
+        let mut offload = RxOffload::Whole;
+        let mut slots = 0u32;
+        let mut extra: Option<bool> = None;
+        for response in 0..responses {
+            let left = responses.saturating_sub(response.saturating_add(1));
+            match extra {
+                Some(more) => {
+                    extra = None;
+                    match self.extra(poll, random)? {
+                        Some(segments) => offload = RxOffload::Segmented(segments),
+                        None => return Ok(End::Halted(Halt::RxSlot)),
+                    }
+                    if !more {
+                        return Ok(given(bad, offload));
+                    }
+                }
+                None => {
+                    let second = match self.slot(slots, left, poll, random)? {
+                        Ok(second) => second,
+                        Err(cause) => return Ok(End::Halted(cause)),
+                    };
+                    bad = bad || is_negative(second);
+                    if slots == 0 {
+                        offload = said(second);
+                    }
+                    slots = slots.saturating_add(1);
+                    let more = second & 4 != 0;
+                    if second & 8 != 0 {
+                        extra = Some(more);
+                    } else if !more {
+                        return Ok(given(bad, offload));
+                    }
+                }
             }
         }
         Ok(End::Halted(Halt::ShortChain))
     }
-}
 
-/// Whether the status of a response with this second word is negative.
-fn is_negative(second: u32) -> bool {
-    second >> 16 >= 0x8000
-}
+    /// A response to a slot and its page: its second word, or why the front halts.
+    fn slot(
+        &mut self,
+        slots: u32,
+        left: u32,
+        poll: &mut Poll,
+        random: &mut Random,
+    ) -> Result<Result<u32, Halt>, AllocError> {
+        let id = self.rx.some_id(random);
+        let offset = random.small(31);
+        let may_have_extra = slots == 0 && self.accepts.segments.gso_tcpv4;
+        let second = flags_and_status(left, may_have_extra, random);
+        poll.answer(id | offset << 16)?;
+        poll.answer(second)?;
+        if !self.rx.open.contains(&id) || second & 8 != 0 && !may_have_extra {
+            return Ok(Err(Halt::RxSlot));
+        }
+        if let Some(cause) = poll.fault(slots, offset, second) {
+            return Ok(Err(cause));
+        }
+        self.rx.end(id);
+        poll.wrote();
+        page(offset, size_of(second), poll, random)?;
+        Ok(Ok(second))
+    }
 
-/// How many bytes a response with this second word has.
-fn size_of(second: u32) -> u32 {
-    if is_negative(second) { 0 } else { second >> 16 }
+    /// An extra: the segments that it says, if it is taken.
+    fn extra(
+        &mut self,
+        poll: &mut Poll,
+        random: &mut Random,
+    ) -> Result<Option<Segments>, AllocError> {
+        let words = extra_words(random);
+        poll.answer(words[0])?;
+        poll.answer(words[1])?;
+        let Some(id) = self.rx.next_id() else {
+            return Ok(None);
+        };
+        if !self.rx.open.contains(&id) {
+            return Ok(None);
+        }
+        let segments = segments_in(words);
+        if segments.is_some() {
+            self.rx.end(id);
+            poll.wrote();
+        }
+        Ok(segments)
+    }
 }
 
 impl Poll {
     /// Why a response to a buffer in flight halts the front, if it does.
     fn fault(&self, slot: u32, offset: u32, second: u32) -> Option<Halt> {
         let size = size_of(second);
-        if second & 24 != 0 {
+        if second & 16 != 0 {
             Some(Halt::RxSlot)
         } else if !is_negative(second) && offset.saturating_add(size) > 4096 {
             Some(Halt::RxSize)

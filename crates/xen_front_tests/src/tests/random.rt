@@ -5,11 +5,14 @@ use super::model::{Model, Poll, Random};
 use super::steps::Step;
 use crate::bench::Bench;
 use std::alloc::Global;
+use xen_front::{ACCEPTS_WHOLE, Accepts};
+use xen_netif::Offers;
 
-/// How often each outcome came: packets, packets refused, halts.
+/// How often each outcome came: packets, those of them with an extra, packets refused, halts.
 #[derive(Clone, Copy, Debug)]
 struct Outcomes {
     packets: u32,
+    extras: u32,
     refused: u32,
     halts: u32,
 }
@@ -18,7 +21,12 @@ impl Outcomes {
     /// Counts what a poll gave, and returns whether the front goes on.
     fn count(&mut self, end: End) -> bool {
         match end {
-            End::Packet => self.packets = self.packets.saturating_add(1),
+            End::Packet(offload) => {
+                self.packets = self.packets.saturating_add(1);
+                if offload.has_extra() {
+                    self.extras = self.extras.saturating_add(1);
+                }
+            }
             End::Refused => self.refused = self.refused.saturating_add(1),
             End::Halted(_) => {
                 self.halts = self.halts.saturating_add(1);
@@ -32,7 +40,8 @@ impl Outcomes {
 
 /// Whether a poll came to what its model came to.
 fn is_same(played: &Played, poll: &Poll, end: End) -> bool {
-    let is_packet = end != End::Packet || played.packet.as_slice() == poll.packet.as_slice();
+    let is_packet = !matches!(end, End::Packet(_))
+        || played.packet.as_slice() == poll.packet.as_slice();
     played.end == end && is_packet && played.accesses.len() == poll.accesses
 }
 
@@ -98,6 +107,7 @@ fn plays(
 fn plays_from(
     alloc: Global,
     start: u32,
+    accepts: Accepts,
     calls: u32,
     random: &mut Random,
     outcomes: &mut Outcomes,
@@ -105,9 +115,9 @@ fn plays_from(
     let Ok(bench) = Bench::make(alloc) else {
         return false;
     };
-    match bench.fronts(start) {
+    match bench.fronts_accepting(start, accepts) {
         Some(mut fronts) => {
-            let mut model = Model::new(alloc, start);
+            let mut model = Model::new(alloc, start, accepts);
             plays(&mut fronts, &mut model, calls, random, outcomes)
                 && fronts.statuses() == Some(model.statuses)
         }
@@ -115,23 +125,42 @@ fn plays_from(
     }
 }
 
+/// A front that takes an extra of TCP over IPv4.
+const TCP_OVER_IPV4: Accepts = Accepts {
+    blank_checksums: true,
+    segments: Offers {
+        gso_tcpv4: true,
+        gso_tcpv6: false,
+    },
+};
+
 #[test]
 fn as_a_model_by_lists(rt: HostRuntime) {
     let mut random = Random::new(20_261_122);
     let mut outcomes = Outcomes {
         packets: 0,
+        extras: 0,
         refused: 0,
         halts: 0,
     };
-    for round in 0..40u32 {
+    for round in 0..120u32 {
         let start = if round % 2 == 0 { 0 } else { 0xFFFF_FFF0 };
-        let is_same = plays_from(rt.alloc(), start, 300, &mut random, &mut outcomes);
+        let accepts = if round % 4 < 2 {
+            ACCEPTS_WHOLE
+        } else {
+            TCP_OVER_IPV4
+        };
+        let is_same = plays_from(rt.alloc(), start, accepts, 300, &mut random, &mut outcomes);
         assert!(rt; is_same, "round {round}");
     }
     let Outcomes {
         packets,
+        extras,
         refused,
         halts,
     } = outcomes;
-    assert!(rt; packets > 100 && refused > 10 && halts > 10, "{outcomes:?}");
+    assert!(rt;
+        packets > 100 && extras > 10 && refused > 10 && halts > 10,
+        "{outcomes:?}"
+    );
 }

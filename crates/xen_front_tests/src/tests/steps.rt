@@ -3,6 +3,7 @@
 use super::fixtures::{Call, End, Fronts, Played, Row, SMALL, has};
 use crate::bench::Bench;
 use std::alloc::Global;
+use xen_front::{ACCEPTS_WHOLE, Accepts, RxOffload};
 
 /// A call with its answers, how often it is made, and what it has to come to.
 #[derive(Clone, Copy)]
@@ -50,7 +51,15 @@ impl<'a> Step<'a> {
     pub fn receives(answers: &'a [u32], packet: &'a [u8]) -> Step<'a> {
         Step {
             packet,
-            ..Step::of(Call::Poll, answers, End::Packet)
+            ..Step::of(Call::Poll, answers, End::Packet(RxOffload::Whole))
+        }
+    }
+
+    /// The packet that it receives leaves so much to the front.
+    pub fn leaves(self, offload: RxOffload) -> Step<'a> {
+        Step {
+            end: End::Packet(offload),
+            ..self
         }
     }
 
@@ -138,10 +147,20 @@ impl Fronts<'_> {
 /// The counts of tx responses by status after these steps of new fronts, or the number of the first step that comes to
 /// something else. It is 0 if there are no fronts.
 pub fn after(alloc: Global, start: u32, steps: &[Step]) -> Result<[u64; 4], usize> {
+    after_accepting(alloc, start, ACCEPTS_WHOLE, steps)
+}
+
+/// The same of fronts that accept so much.
+pub fn after_accepting(
+    alloc: Global,
+    start: u32,
+    accepts: Accepts,
+    steps: &[Step],
+) -> Result<[u64; 4], usize> {
     let Ok(bench) = Bench::make(alloc) else {
         return Err(0);
     };
-    let Some(mut fronts) = bench.fronts(start) else {
+    let Some(mut fronts) = bench.fronts_accepting(start, accepts) else {
         return Err(0);
     };
     match fronts.first_other(steps) {

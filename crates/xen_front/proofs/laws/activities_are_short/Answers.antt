@@ -20,5 +20,5 @@ returns c = record {
   polls = λ w s t s' g h f is.
       let b = bounded_poll w h s f in
       let run = runs_poll w s t s' g is in
-      (bounded_runs (IsOwnWant w) Any (poll w s) 16951 t (s', g) b run, own_runs w (poll w s) 16951 t (s', g) b run);
+      (bounded_runs (IsOwnWant w) Any (poll w s) 16954 t (s', g) b run, own_runs w (poll w s) 16954 t (s', g) b run);
 }

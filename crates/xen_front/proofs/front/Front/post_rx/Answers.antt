@@ -2,7 +2,7 @@ use Rattle.std.proofs.Common.{◌≡◌, List, [], ◌∷◌, ℕ, take, get_or,
 use Rattle.xen_front.specs.Fronts.{all_free}
 use Rattle.xen_front.specs.Rest.{posting}
 use Rattle.xen_front.specs.Tree.{post}
-use Rattle.xen_front.specs.declared.state.Ring.{Ring}
+use Rattle.xen_front.specs.declared.state.State.{State}
 use Rattle.xen_front.proofs.BoundLemmas.{bounded_post}
 use Rattle.xen_front.proofs.IdLemmas.{first_id}
 use Rattle.xen_front.proofs.ShortLemmas.{short_begun}
@@ -21,8 +21,8 @@ returns-in-Some-get-clause-ok c =
     let found : c.in-Some-get.id.now ≡ get_or c.as_slice.result.now 0 0 = c.in-Some-get.ensures.lookup.3.1 0 in
     let id : c.in-Some-get.id.now ≡ get_or free 0 0 = found ∙ ap (λ (l : List ℕ). get_or l 0 0) (c.as_slice.ensures.value ∙ c.choose-ids.ensures) ∙ first_taken free in
     record {
-      rest = c.begin_post-self.ensures.rest w (record s { rx = c.fly.new.ring }) f.sent f.received
-          ∙ ap (λ (r : Ring). posting w (record s { rx = r }) c.in-Some-get.id.now s.rx.prod 0) c.fly.ensures
+      rest = c.begin_post-self.ensures.rest w c.fly_post.new.state f.sent f.received
+          ∙ ap (λ (x : State). posting w x c.in-Some-get.id.now s.rx.prod 0) c.fly_post.ensures
           ∙ ap (λ (i : ℕ). post w s i) id;
       wiring = refl;
     }
@@ -35,7 +35,7 @@ invariant_of-self-clause-short c =
     let free = all_free s.rx.out in
     let found : c.in-Some-get.id.now ≡ get_or c.as_slice.result.now 0 0 = c.in-Some-get.ensures.lookup.3.1 0 in
     let id : c.in-Some-get.id.now ≡ get_or free 0 0 = found ∙ ap (λ (l : List ℕ). get_or l 0 0) (c.as_slice.ensures.value ∙ c.choose-ids.ensures) ∙ first_taken free in
-    short_begun w (record s { rx = c.fly.new.ring }) f.sent f.received c.begin_post-self.result (post w s (get_or free 0 0)) 7 f.wired (omega arith) (bounded_post w f.wired s (get_or free 0 0) (first_id s.rx.out))
-    (c.begin_post-self.ensures.rest w (record s { rx = c.fly.new.ring }) f.sent f.received
-    ∙ ap (λ (r : Ring). posting w (record s { rx = r }) c.in-Some-get.id.now s.rx.prod 0) c.fly.ensures
+    short_begun w c.fly_post.new.state f.sent f.received c.begin_post-self.result (post w s (get_or free 0 0)) 7 f.wired (omega arith) (bounded_post w f.wired s (get_or free 0 0) (first_id s.rx.out))
+    (c.begin_post-self.ensures.rest w c.fly_post.new.state f.sent f.received
+    ∙ ap (λ (x : State). posting w x c.in-Some-get.id.now s.rx.prod 0) c.fly_post.ensures
     ∙ ap (λ (i : ℕ). post w s i) id)
