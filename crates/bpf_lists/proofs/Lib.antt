@@ -8,3 +8,4 @@ pub mod FindLemmas
 pub mod OneLemmas
 pub mod ChainLemmas
 pub mod LeadLemmas
+pub mod FrontLemmas

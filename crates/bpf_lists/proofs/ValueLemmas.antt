@@ -40,10 +40,10 @@ value_below (x ∷ xs) h =
     let w = one_more (length xs) in
     omega arith
 
-cmp_less : (a b : ℕ) → a < b → nat_cmp a b ≡ Less
+pub cmp_less : (a b : ℕ) → a < b → nat_cmp a b ≡ Less
 cmp_less a b h = grind (arith, nat_tests)
 
-cmp_more : (a b : ℕ) → b < a → nat_cmp a b ≡ Greater
+pub cmp_more : (a b : ℕ) → b < a → nat_cmp a b ≡ Greater
 cmp_more a b h = grind (arith, nat_tests)
 
 cmp_shift : (k a b : ℕ) → nat_cmp a b ≡ nat_cmp (k + a) (k + b)

@@ -72,6 +72,11 @@ Differ kind keys rows = (place : ℕ) → place + 1 < length rows →
 abbrev pub lead : List ℕ → ℕ
 lead bytes = value (take 8 bytes)
 
+-- that number for each row
+pub record AreFronts (kind : Kind) (keys fronts : List ℕ) : Type 0 where
+  pub long : length fronts ≡ count kind keys
+  pub each : (r : ℕ) → r < count kind keys → slice_index fronts r ≡ lead (data_of kind (row kind keys r))
+
 -- that number for each place
 pub record AreLeads (o : Ordered) (leads : List ℕ) : Type 0 where
   pub long : length leads ≡ length o.rows

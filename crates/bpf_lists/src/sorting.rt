@@ -5,7 +5,7 @@ ghost use Rattle.std.specs.List.{range_with_len};
 ghost use Rattle.bpf_note.specs.Keys.{size as size_of};
 ghost use Rattle.bpf_lists.specs.Keys.{row as row_of, count as count_of};
 ghost use Rattle.bpf_lists.specs.Refusals.{AreRows, AreListed, IsRefused};
-ghost use Rattle.bpf_lists.specs.Order.{AreParents, AreLeads, AreSorted, spot, Differ};
+ghost use Rattle.bpf_lists.specs.Order.{AreParents, AreLeads, AreFronts, AreSorted, spot, Differ};
 
 use crate::order::Order;
 use crate::refusal::Refusal;
@@ -25,6 +25,35 @@ fn compare_rows(kind: Kind, keys: &[u8], last: u32, a: u32, b: u32) -> Ordering
     numbers::compare(kind.data_bytes(x), kind.data_bytes(y))
         .then(kind.data_bits(x).cmp(&kind.data_bits(y)))
         .then(a.cmp(&b))
+}
+
+/// For each row the number at the front of its data.
+fn fronts(alloc: Global, kind: Kind, keys: &[u8], count: u32) -> Result<Vec<u64>, AllocError>
+    requires rows { AreRows kind keys.now }
+    requires count { count ≡ count_of kind keys.now }
+    ensures { IfOk result (λ fronts. AreFronts kind keys.now fronts.items) }
+{
+    let mut fronts = Vec::with_capacity(alloc, count as usize)?;
+    for row in 0..count {
+        let key = keys::key_at(kind, keys, row as usize);
+        fronts.push(numbers::lead(kind.data_bytes(key)))?;
+    }
+    Ok(fronts)
+}
+
+/// Compares rows as `compare_rows` does, by the numbers at their fronts where these differ.
+fn compare_fronts(kind: Kind, keys: &[u8], fronts: &[u64], last: u32, a: u32, b: u32) -> Ordering
+    requires rows { AreRows kind keys.now }
+    requires fronts { AreFronts kind keys.now fronts.now }
+    requires last { last < count_of kind keys.now }
+    ensures { result ≡ nat_cmp (spot kind keys.now last a) (spot kind keys.now last b) }
+{
+    let first = fronts[a.min(last) as usize];
+    let second = fronts[b.min(last) as usize];
+    if first != second {
+        return first.cmp(&second);
+    }
+    compare_rows(kind, keys, last, a, b)
 }
 
 /// The numbers below `count`.
@@ -48,8 +77,10 @@ fn sorted(alloc: Global, kind: Kind, keys: &[u8], count: u32) -> Result<Vec<u32>
     if count == 0 {
         return Ok(rows);
     }
+    let fronts = fronts(alloc, kind, keys, count)?;
+    let fronts = fronts.as_slice();
     let last = count - 1;
-    rows.sort_unstable_by(|a, b| compare_rows(kind, keys, last, *a, *b));
+    rows.sort_unstable_by(|a, b| compare_fronts(kind, keys, fronts, last, *a, *b));
     Ok(rows)
 }
 
