@@ -1,4 +1,5 @@
 mod OneLemmas
 mod ProgramLemmas
-mod RowLemmas
+mod ReferenceLemmas
+mod SoughtLemmas
 mod TypeLemmas

@@ -1,31 +1,12 @@
 -- Programs, and why there is none, from what was found of the function's symbol.
-use Rattle.std.proofs.Common.{ℕ, ◌≡◌, ◌/◌, List, length, map, sym, subst}
+use Rattle.std.proofs.Common.{ℕ, ◌≡◌, List, sym, subst}
 use Rattle.bpf_object.specs.Object.{Parts}
-use Rattle.bpf_object.specs.Symbol.{symbol, HasCode, code}
-use Rattle.bpf_object.specs.Program.{IsOneFunction, AreRows, AreInOrder, AllNameMaps, reference, within, IsProgram}
+use Rattle.bpf_object.specs.Symbol.{symbol, HasCode}
+use Rattle.bpf_object.specs.Program.{IsOneFunction, AreRows, AreInOrder}
 use Rattle.bpf_object.specs.Program.{HasNoTable, IsLow, HasNoReferences, IsNoProgram, no_code, no_table, not_rising, no_references}
 use Rattle.bpf_object.specs.declared.symbol.Symbol.{Symbol}
-use Rattle.bpf_object.specs.declared.program.MapReference.{MapReference}
 use Rattle.bpf_object.specs.declared.fault.ProgramFault.{ProgramFault}
 use Rattle.bpf_object.specs.declared.fault.ProgramFault.TheVariants.{Code}
-
-pub made : (o : Parts) (name bytes rows : List ℕ) (references : List MapReference) (n : ℕ) (f : Symbol) → f ≡ symbol o.symbols n →
-    IsOneFunction o name n → HasCode o f → AreRows o f.section rows → AreInOrder rows → AllNameMaps o f rows (length rows / 16) →
-    bytes ≡ code o f → references ≡ map (reference f) (within f rows (length rows / 16)) → IsProgram o name bytes references
-made o name bytes rows references n f e is =
-    subst
-    (λ (g : Symbol). HasCode o g → AreRows o g.section rows → AreInOrder rows → AllNameMaps o g rows (length rows / 16) →
-    bytes ≡ code o g → references ≡ map (reference g) (within g rows (length rows / 16)) → IsProgram o name bytes references)
-    (sym e)
-    (λ has table order maps taken refers. record {
-      number = n;
-      rows = rows;
-      has = record { is = is; has = has; table = table };
-      order = order;
-      maps = maps;
-      taken = taken;
-      refers = refers;
-    })
 
 pub refused_code : (o : Parts) (name : List ℕ) (n : ℕ) (f : Symbol) → f ≡ symbol o.symbols n → IsOneFunction o name n →
     (HasCode o f → ⊥) → IsNoProgram o name Code

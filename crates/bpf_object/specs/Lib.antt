@@ -4,6 +4,9 @@ pub mod Header
 pub mod Object
 pub mod Symbol
 pub mod Program
+pub mod References
+pub mod Constants
 pub mod Types
 pub mod Definition
 pub mod Map
+pub mod Sought

@@ -2,17 +2,17 @@
 -- Programs of an object, and why it has none. The causes are tried in this order.
 -- Relocations: gABI chapter 4, "Relocation" (Elf64_Rel, of 16 bytes); their types and what they change: Linux's
 -- Documentation/bpf/llvm_reloc.rst.
-use Rattle.std.specs.Prelude.{ℕ, ◌≡◌, ◌+◌, ◌-◌, ◌*◌, ◌/◌, ◌%◌, ◌<◌, ◌≤◌, ◌⊎◌, Bool, IsTrue, ◌&&◌, nat_le, nat_lt, List, [], map, length, slice_index}
-use Rattle.std.specs.List.{filter, range_with_len}
+use Rattle.std.specs.Prelude.{ℕ, ◌≡◌, ◌+◌, ◌-◌, ◌*◌, ◌/◌, ◌%◌, ◌<◌, ◌≤◌, ◌⊎◌, Bool, true, false, IsTrue, ◌&&◌, nat_le, nat_lt, List, [], ◌∷◌, ◌++◌, length, slice_index}
 use Rattle.bpf_object.specs.Bytes.{word, long}
 use Rattle.bpf_object.specs.Section.{shnum, section, contents}
 use Rattle.bpf_object.specs.Object.{Parts}
-use Rattle.bpf_object.specs.Symbol.{symbol, IsFunction, IsMap, HasCode, code}
+use Rattle.bpf_object.specs.Symbol.{symbol, IsFunction, IsMap, IsConstant, IsGlobal, HasCode, code}
 use Rattle.bpf_object.specs.declared.symbol.Symbol.{Symbol}
 use Rattle.bpf_object.specs.declared.relocation.Relocation.{Relocation}
-use Rattle.bpf_object.specs.declared.program.MapReference.{MapReference}
+use Rattle.bpf_object.specs.declared.reference.ConstantReference.{ConstantReference}
+use Rattle.bpf_object.specs.declared.reference.MapReference.{MapReference}
 use Rattle.bpf_object.specs.declared.fault.RelocationFault.{RelocationFault}
-use Rattle.bpf_object.specs.declared.fault.RelocationFault.TheVariants.{Kind, Place, Map}
+use Rattle.bpf_object.specs.declared.fault.RelocationFault.TheVariants.{Kind, Place, InsideMap, Outside, Global, Other}
 use Rattle.bpf_object.specs.declared.fault.ProgramFault.{ProgramFault}
 use Rattle.bpf_object.specs.declared.fault.ProgramFault.TheVariants.{NoFunction, TwoFunctions, Code, TwoTables, Table, Order, Relocation as Wrong, Memory}
 
@@ -49,38 +49,74 @@ AreInOrder rows = (i : ℕ) → i + 1 < length rows / 16 → (relocation rows i)
 abbrev pub is_within : Symbol → Relocation → Bool
 is_within f r = nat_le f.value r.offset && nat_lt r.offset (f.value + f.size)
 
--- It changes a wide load (RFC 9669 section 5.4: opcode 0x18, two slots) of a number, and the number is 0: no place inside the map.
+-- It changes a wide load of a number (RFC 9669 section 5.4: opcode 0x18, two slots).
 pub record IsLoad (f : Symbol) (bytes : List ℕ) (r : Relocation) : Type 0 where
   pub slot : (r.offset - f.value) % 8 ≡ 0
   pub inside : r.offset - f.value + 16 ≤ f.size
   pub opcode : slice_index bytes (r.offset - f.value) ≡ 0x18
   pub source : slice_index bytes (r.offset - f.value + 1) / 16 ≡ 0
+
+-- the number is 0: no place inside a map
+pub record IsOfZero (f : Symbol) (bytes : List ℕ) (r : Relocation) : Type 0 where
   pub low : word bytes (r.offset - f.value + 4) ≡ 0
   pub high : word bytes (r.offset - f.value + 12) ≡ 0
 
--- R_BPF_64_64 (1), of a wide load, with the symbol of a map
+-- R_BPF_64_64 (1), of a wide load of 0, with the symbol of a map
 pub record NamesMap (o : Parts) (f : Symbol) (r : Relocation) : Type 0 where
   pub kind : r.kind ≡ 1
   pub load : IsLoad f (code o f) r
+  pub zero : IsOfZero f (code o f) r
   pub is : IsMap o r.symbol
 
--- why a relocation doesn't name a map
+-- Where a constant lies in its section: the load's imm and the symbol's value, in 32 bits (libbpf's bpf_object__relocate_data).
+abbrev pub constant_place : Parts → Symbol → Relocation → ℕ
+constant_place o f r = (word (code o f) (r.offset - f.value + 4) + (symbol o.symbols r.symbol).value % 4294967296) % 4294967296
+
+-- the relocation's symbol lies in a section of more bytes than are before that place
+abbrev pub IsInsideSection : Parts → Symbol → Relocation → Type 0
+IsInsideSection o f r = constant_place o f r < (section o.bytes (symbol o.symbols r.symbol).section).size
+
+-- R_BPF_64_64, of a wide load, with a symbol among constants
+pub record NamesConstant (o : Parts) (f : Symbol) (r : Relocation) : Type 0 where
+  pub kind : r.kind ≡ 1
+  pub load : IsLoad f (code o f) r
+  pub is : IsConstant o r.symbol
+  pub inside : IsInsideSection o f r
+
+-- why the symbol of a wide load's relocation is neither
+abbrev pub IsWrongSymbol : Parts → Symbol → Relocation → RelocationFault → Type 0
+IsWrongSymbol o f r InsideMap = IsMap o r.symbol × (IsOfZero f (code o f) r → ⊥)
+IsWrongSymbol o f r Outside = IsConstant o r.symbol × (IsInsideSection o f r → ⊥)
+IsWrongSymbol o f r Global = IsGlobal o r.symbol
+IsWrongSymbol o f r Other = (IsMap o r.symbol → ⊥) × (IsConstant o r.symbol → ⊥) × (IsGlobal o r.symbol → ⊥)
+IsWrongSymbol o f r _ = ⊥
+
+-- why a relocation names neither a map nor a constant
 abbrev pub IsWrong : Parts → Symbol → Relocation → RelocationFault → Type 0
 IsWrong o f r Kind = r.kind ≡ 1 → ⊥
 IsWrong o f r Place = (r.kind ≡ 1) × (IsLoad f (code o f) r → ⊥)
-IsWrong o f r Map = (r.kind ≡ 1) × IsLoad f (code o f) r × (IsMap o r.symbol → ⊥)
+IsWrong o f r cause = (r.kind ≡ 1) × IsLoad f (code o f) r × IsWrongSymbol o f r cause
 
 -- the slot of the wide load, and the symbol of the map
 abbrev pub reference : Symbol → Relocation → MapReference
 reference f r = record { slot = (r.offset - f.value) / 8; map = r.symbol }
 
--- the relocations of the first n rows that lie in the function
-abbrev pub within : Symbol → List ℕ → ℕ → List Relocation
-within f rows n = filter (is_within f) (map (relocation rows) (range_with_len 0 n))
+-- the slot of the wide load, the section of constants, and the place there
+abbrev pub constant_reference : Parts → Symbol → Relocation → ConstantReference
+constant_reference o f r =
+    record { slot = (r.offset - f.value) / 8; section = (symbol o.symbols r.symbol).section; place = constant_place o f r }
 
--- each of the first n rows that lies in the function names a map
-abbrev pub AllNameMaps : Parts → Symbol → List ℕ → ℕ → Type 0
-AllNameMaps o f rows n = (i : ℕ) → i < n → IsTrue (is_within f (relocation rows i)) → NamesMap o f (relocation rows i)
+-- The first n rows refer to these maps and constants: each row that lies in the function names one.
+pub data AreReferences (o : Parts) (f : Symbol) (rows : List ℕ) : ℕ → List MapReference → List ConstantReference → Type 0 where
+  nothing : AreReferences o f rows 0 [] []
+  outside : (n : ℕ) (ms : List MapReference) (cs : List ConstantReference) → AreReferences o f rows n ms cs →
+      is_within f (relocation rows n) ≡ false → AreReferences o f rows (n + 1) ms cs
+  one_map : (n : ℕ) (ms : List MapReference) (cs : List ConstantReference) → AreReferences o f rows n ms cs →
+      is_within f (relocation rows n) ≡ true → NamesMap o f (relocation rows n) →
+      AreReferences o f rows (n + 1) (ms ++ reference f (relocation rows n) ∷ []) cs
+  one_constant : (n : ℕ) (ms : List MapReference) (cs : List ConstantReference) → AreReferences o f rows n ms cs →
+      is_within f (relocation rows n) ≡ true → NamesConstant o f (relocation rows n) →
+      AreReferences o f rows (n + 1) ms (cs ++ constant_reference o f (relocation rows n) ∷ [])
 
 -- symbol n is the one function of this name
 pub record IsOneFunction (o : Parts) (name : List ℕ) (n : ℕ) : Type 0 where
@@ -93,15 +129,14 @@ pub record HasRows (o : Parts) (name : List ℕ) (n : ℕ) (rows : List ℕ) : T
   pub has : HasCode o (symbol o.symbols n)
   pub table : AreRows o (symbol o.symbols n).section rows
 
--- the program of this name has these bytes and refers to these maps
-pub record IsProgram (o : Parts) (name : List ℕ) (bytes : List ℕ) (references : List MapReference) : Type 0 where
+-- the program of this name has these bytes and refers to these maps and constants
+pub record IsProgram (o : Parts) (name bytes : List ℕ) (maps : List MapReference) (constants : List ConstantReference) : Type 0 where
   pub number : ℕ
   pub rows : List ℕ
   pub has : HasRows o name number rows
   pub order : AreInOrder rows
-  pub maps : AllNameMaps o (symbol o.symbols number) rows (length rows / 16)
   pub taken : bytes ≡ code o (symbol o.symbols number)
-  pub refers : references ≡ map (reference (symbol o.symbols number)) (within (symbol o.symbols number) rows (length rows / 16))
+  pub refers : AreReferences o (symbol o.symbols number) rows (length rows / 16) maps constants
 
 -- there isn't one function of this name
 abbrev pub IsNotFound : Parts → List ℕ → ProgramFault → Type 0
@@ -128,12 +163,14 @@ abbrev pub IsLow : List ℕ → ProgramFault → Type 0
 IsLow rows (Order i) = IsFirstLow rows i
 IsLow rows _ = ⊥
 
--- row i is the first that changes the function and doesn't name a map
+-- row i is the first that changes the function and names neither a map nor a constant
 pub record IsFirstWrong (o : Parts) (f : Symbol) (rows : List ℕ) (i : ℕ) (cause : RelocationFault) : Type 0 where
   pub below : i < length rows / 16
   pub inside : IsTrue (is_within f (relocation rows i))
   pub wrong : IsWrong o f (relocation rows i) cause
-  pub before : AllNameMaps o f rows i
+  pub maps : List MapReference
+  pub constants : List ConstantReference
+  pub before : AreReferences o f rows i maps constants
 
 abbrev pub HasNoReferences : Parts → Symbol → List ℕ → ProgramFault → Type 0
 HasNoReferences o f rows (Wrong i cause) = IsFirstWrong o f rows i cause

@@ -1,7 +1,7 @@
 -- Stated: claims rest on this file.
--- Symbols (gABI chapter 4, "Symbol Table": Elf64_Sym, of 24 bytes), functions and maps.
-use Rattle.std.specs.Prelude.{ℕ, ◌≡◌, ◌+◌, ◌*◌, ◌/◌, ◌%◌, ◌<◌, ◌≤◌, List, length, slice_index, slice_range, codes}
-use Rattle.bpf_object.specs.Bytes.{half, word, long, IsText}
+-- Symbols (gABI chapter 4, "Symbol Table": Elf64_Sym, of 24 bytes): functions, maps, constants and globals.
+use Rattle.std.specs.Prelude.{ℕ, ◌≡◌, ◌+◌, ◌*◌, ◌/◌, ◌%◌, ◌<◌, ◌≤◌, ◌⊎◌, List, length, slice_index, slice_range, codes}
+use Rattle.bpf_object.specs.Bytes.{half, word, long, IsText, Begins}
 use Rattle.bpf_object.specs.Section.{shnum, section, contents}
 use Rattle.bpf_object.specs.Object.{Parts}
 use Rattle.bpf_object.specs.declared.symbol.Symbol.{Symbol}
@@ -42,6 +42,30 @@ pub record IsMap (o : Parts) (n : ℕ) : Type 0 where
   pub below : n < symbol_count o
   pub kind : (symbol o.symbols n).kind ≡ 1
   pub there : IsMapSection o (symbol o.symbols n).section
+
+-- section s has this name, or one that begins so
+pub record IsCalled (o : Parts) (s : ℕ) (name beginning : List ℕ) : Type 0 where
+  pub below : s < shnum o.bytes
+  pub named : IsText o.names (section o.bytes s).name name ⊎ Begins o.names (section o.bytes s).name beginning
+
+-- section s has constants, as libbpf knows them (bpf_object__elf_collect): by its name, and the type SHT_PROGBITS (1)
+pub record IsOfConstants (o : Parts) (s : ℕ) : Type 0 where
+  pub called : IsCalled o s (codes ".rodata") (codes ".rodata.")
+  pub kind : (section o.bytes s).kind ≡ 1
+
+-- section s has globals, which programs may write to
+abbrev pub IsOfGlobals : Parts → ℕ → Type 0
+IsOfGlobals o s = IsCalled o s (codes ".data") (codes ".data.") ⊎ IsCalled o s (codes ".bss") (codes ".bss.")
+
+-- symbol n lies among constants: a constant (STT_OBJECT), or their section (STT_SECTION)
+pub record IsConstant (o : Parts) (n : ℕ) : Type 0 where
+  pub below : n < symbol_count o
+  pub there : IsOfConstants o (symbol o.symbols n).section
+
+-- symbol n lies among globals
+pub record IsGlobal (o : Parts) (n : ℕ) : Type 0 where
+  pub below : n < symbol_count o
+  pub there : IsOfGlobals o (symbol o.symbols n).section
 
 -- a symbol's bytes are 1 or more whole slots of a section of the type SHT_PROGBITS (1)
 pub record HasCode (o : Parts) (f : Symbol) : Type 0 where

@@ -1,6 +1,6 @@
 //! Numbers and names in an object's bytes.
 ghost use Rattle.std.specs.Prelude.{◌≡◌, ◌≢◌, ◌+◌, ◌≤◌, ℕ, List, length, ◌↔◌, IsTrue, IfSome, IfNone, All};
-ghost use Rattle.bpf_object.specs.Bytes.{half as half_at, word as word_at, long as long_at, IsText};
+ghost use Rattle.bpf_object.specs.Bytes.{half as half_at, word as word_at, long as long_at, IsText, Begins};
 
 /// The number in the two bytes at a place.
 #[tactic(auto, unfolding(crate::specs::Bytes::half))]
@@ -37,7 +37,32 @@ pub(crate) fn is_text(table: &[u8], at: usize, name: &[u8]) -> bool
         return false;
     }
     let end = at + name.len();
-    &table[at..end] == name && table[end] == 0 && is_plain(name)
+    table[end] == 0 && is_same(&table[at..end], name) && is_plain(name)
+}
+
+/// Whether a table has these bytes at a place, whatever follows them.
+pub(crate) fn begins(table: &[u8], at: usize, text: &[u8]) -> bool
+    ensures { IsTrue result ↔ Begins table.now at text.now }
+{
+    at <= table.len()
+        && text.len() <= table.len() - at
+        && is_same(&table[at..at + text.len()], text)
+}
+
+/// Whether two texts of one length are the same, which is tried from their last bytes on. A name has no 0, so one that ends in a table
+/// before a 0 is compared no further than to the 0 before that: all places of the table together take no longer than the table.
+fn is_same(left: &[u8], right: &[u8]) -> bool
+    requires { length left.now ≡ length right.now }
+    ensures { IsTrue result ↔ (left.now ≡ right.now) }
+{
+    let mut rest = left.len();
+    while rest > 0 {
+        rest -= 1;
+        if left[rest] != right[rest] {
+            return false;
+        }
+    }
+    true
 }
 
 /// Whether no byte is 0.

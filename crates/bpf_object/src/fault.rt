@@ -40,21 +40,38 @@ pub enum ProgramFault {
     Table(u16),
     /// The relocation doesn't lie above the one before it. Relocations are numbered in their section.
     Order(usize),
-    /// The relocation doesn't name a map.
+    /// The relocation names neither a map nor a constant.
     Relocation(usize, RelocationFault),
     /// Memory ran out.
     Memory,
 }
 
-/// Why a relocation doesn't name a map. The causes are tried in this order.
+/// Why a relocation names neither a map nor a constant. The causes are tried in this order.
 #[derive(Clone, Copy, Debug, PartialEq, Eq, Drop)]
 pub enum RelocationFault {
     /// Its type isn't R_BPF_64_64: it is a call (R_BPF_64_32), say.
     Kind,
-    /// It doesn't change a wide load of 0.
+    /// It doesn't change a wide load of a number.
     Place,
-    /// Its symbol isn't an object in the section `.maps`.
-    Map,
+    /// The number isn't 0, and its symbol is a map.
+    InsideMap,
+    /// It is for a place outside of its section of constants.
+    Outside,
+    /// Its symbol lies among globals that programs may write to.
+    Global,
+    /// Its symbol is neither an object in the section `.maps` nor lies among constants.
+    Other,
+}
+
+/// Why a section has no constants that can be read. The causes are tried in this order.
+#[derive(Clone, Copy, Debug, PartialEq, Eq, Drop)]
+pub enum ConstantsFault {
+    /// It isn't one of constants.
+    NoConstants,
+    /// It has no name.
+    Name,
+    /// It holds addresses: relocations change it.
+    Addresses,
 }
 
 /// Why an object's types can't be read. The causes are tried in this order, and types from the first on.

@@ -8,6 +8,7 @@ ghost use Rattle.bpf_object.specs.Symbol.{symbol_count};
 use crate::definition::{MOST_STEPS, MapDefinition};
 use crate::fault::{MapFault, TypesFault};
 use crate::object::Object;
+use crate::sought::Sought;
 use crate::symbol::OBJECT;
 use crate::types::{ROW_BYTES, SECTION, STRUCT, TypeRow, Types, VARIABLE};
 use crate::{bytes, section, types};
@@ -203,27 +204,31 @@ impl<'a> Object<'a> {
         Types::parse(alloc, self.contents(number))
     }
 
-    /// Whether a symbol is a global variable of this name.
-    fn is_variable_symbol(&self, name: &[u8], number: usize) -> bool
-        requires { number < symbol_count self.now }
-        ensures { IsTrue result ↔ IsVariableSymbol self.now name.now number }
+    /// Whether a symbol is a global variable of the name that is sought.
+    fn is_variable_symbol(&self, sought: &mut Sought, number: usize) -> bool
+        requires table { sought.old.table ≡ self.now.strings }
+        requires below { number < symbol_count self.now }
+        ensures value { IsTrue result ↔ IsVariableSymbol self.now sought.old.name number }
+        ensures kept { sought.new ≡ sought.old }
     {
         let symbol = self.symbol(number);
         symbol.kind == OBJECT
             && (symbol.binding == GLOBAL_BINDING || symbol.binding == WEAK_BINDING)
-            && bytes::is_text(self.strings, symbol.name as usize, name)
+            && sought.is_at(symbol.name as usize)
     }
 
-    /// The first global variable of this name from a symbol on.
-    fn next_variable_symbol(&self, name: &[u8], from: usize) -> Option<usize>
-        ensures some { IfSome result (λ n. IsVariableSymbol self.now name.now n) }
+    /// The first global variable of the name that is sought, from a symbol on.
+    fn next_variable_symbol(&self, sought: &mut Sought, from: usize) -> Option<usize>
+        requires { sought.old.table ≡ self.now.strings }
+        ensures kept { sought.new ≡ sought.old }
+        ensures some { IfSome result (λ n. IsVariableSymbol self.now sought.old.name n) }
         ensures from { IfSome result (λ n. from ≤ n) }
         ensures below { IfSome result (λ n. n < 2 ^ 60) }
-        ensures before { IfSome result (λ n. (m : ℕ) → from ≤ m → m < n → IsVariableSymbol self.now name.now m → ⊥) }
-        ensures none { IfNone result ((m : ℕ) → from ≤ m → IsVariableSymbol self.now name.now m → ⊥) }
+        ensures before { IfSome result (λ n. (m : ℕ) → from ≤ m → m < n → IsVariableSymbol self.now sought.old.name m → ⊥) }
+        ensures none { IfNone result ((m : ℕ) → from ≤ m → IsVariableSymbol self.now sought.old.name m → ⊥) }
     {
         for number in from..self.symbol_count() {
-            if self.is_variable_symbol(name, number) {
+            if self.is_variable_symbol(sought, number) {
                 return Some(number);
             }
         }
@@ -231,24 +236,25 @@ impl<'a> Object<'a> {
     }
 
     /// Whether a symbol is the one global variable of this name.
-    fn is_one_variable_symbol(&self, name: &[u8], number: usize) -> bool
+    fn is_one_variable_symbol(&self, alloc: Global, name: &'a [u8], number: usize) -> bool
         requires { number < symbol_count self.now }
         ensures { IsTrue result ↔ IsOneVariableSymbol self.now name.now number }
     {
-        let Some(first) = self.next_variable_symbol(name, 0) else {
+        let mut sought = Sought::new(alloc, self.strings, name);
+        let Some(first) = self.next_variable_symbol(&mut sought, 0) else {
             return false;
         };
         if first != number {
             return false;
         }
-        match self.next_variable_symbol(name, first + 1) {
+        match self.next_variable_symbol(&mut sought, first + 1) {
             Some(_second) => false,
             None => true,
         }
     }
 
-    /// The name of a map's symbol.
-    fn map_name(&self, number: usize) -> Result<&'a [u8], MapFault>
+    /// The name of a map's symbol. Its memory is at most the names of the symbols.
+    pub fn map_name(&self, alloc: Global, number: usize) -> Result<&'a [u8], MapFault>
         ensures ok { IfOk result (λ name. IsNamedMap self.now number name.now) }
         ensures err { IfErr result (HasNoName self.now number) }
     {
@@ -258,20 +264,20 @@ impl<'a> Object<'a> {
         let Some(name) = bytes::text(self.strings, self.symbol(number).name as usize) else {
             return Err(MapFault::Name);
         };
-        if !self.is_one_variable_symbol(name, number) {
+        if !self.is_one_variable_symbol(alloc, name, number) {
             return Err(MapFault::Symbol);
         }
         Ok(name)
     }
 
-    /// The struct that defines the map of a symbol.
+    /// The struct that defines the map of a symbol of this name.
     #[tactic(auto, using(crate::proofs::TypeLemmas::struct_inside))]
-    fn map_struct(&self, types: &Types, number: usize) -> Result<TypeRow, MapFault>
+    fn map_struct(&self, types: &Types, number: usize, name: &[u8]) -> Result<TypeRow, MapFault>
+        requires { IsNamedMap self.now number name.now }
         ensures ok { IfOk result (IsStructOf self.now types.now number) }
         ensures inside { IfOk result (λ r. r.at + 12 + 12 * r.count ≤ length types.now.bytes) }
         ensures err { IfErr result (IsNoMap self.now types.now number) }
     {
-        let name = self.map_name(number)?;
         let section = types.maps()?;
         let declared = types.variable_type(section, name)?;
         let Some(row) = types.plain(MOST_STEPS, declared) else {
@@ -283,12 +289,32 @@ impl<'a> Object<'a> {
         Ok(row)
     }
 
-    /// What the map of a symbol is, by the object's types.
-    pub fn map(&self, types: &Types, number: usize) -> Result<MapDefinition, MapFault>
+    /// What the map of a symbol is, whose name was found, by the object's types.
+    pub fn named_map(
+        &self,
+        types: &Types,
+        number: usize,
+        name: &[u8],
+    ) -> Result<MapDefinition, MapFault>
+        requires { IsNamedMap self.now number name.now }
         ensures ok { IfOk result (IsMapOf self.now types.now number) }
         ensures refused { IfErr result (IsNoMap self.now types.now number) }
     {
-        let row = self.map_struct(types, number)?;
+        let row = self.map_struct(types, number, name)?;
         types.definition(row)
+    }
+
+    /// What the map of a symbol is, by the object's types.
+    pub fn map(
+        &self,
+        alloc: Global,
+        types: &Types,
+        number: usize,
+    ) -> Result<MapDefinition, MapFault>
+        ensures ok { IfOk result (IsMapOf self.now types.now number) }
+        ensures refused { IfErr result (IsNoMap self.now types.now number) }
+    {
+        let name = self.map_name(alloc, number)?;
+        self.named_map(types, number, name)
     }
 }

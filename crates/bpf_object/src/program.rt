@@ -1,33 +1,28 @@
-//! A function of an object, and the maps that it refers to.
-ghost use Rattle.std.specs.Prelude.{◌≡◌, ◌+◌, ◌/◌, ◌^◌, ◌<◌, ◌≤◌, ℕ, [], ◌∷◌, ◌++◌, length, map, ◌↔◌, IsTrue, OnOk, IfOk, IfErr, IfSome, IfNone};
+//! A function of an object, and the maps and constants that it refers to.
+ghost use Rattle.std.specs.Prelude.{◌≡◌, ◌+◌, ◌*◌, ◌/◌, ◌^◌, ◌<◌, ◌≤◌, ℕ, All, length, ◌↔◌, IsTrue, OnOk, IfOk, IfErr, IfSome, IfNone};
 ghost use Rattle.bpf_object.specs.Section.{section as section_of, shnum, contents as contents_of};
-ghost use Rattle.bpf_object.specs.Symbol.{symbol as symbol_of, symbol_count, IsFunction, HasCode, code as code_of};
-ghost use Rattle.bpf_object.specs.Program.{relocation as relocation_of, is_within, NamesMap, IsWrong, AppliesTo, IsTable, AreRows, AreInOrder};
-ghost use Rattle.bpf_object.specs.Program.{IsOneFunction, HasRows, AllNameMaps, within, reference as reference_of, IsProgram, IsNoProgram, IsNotFound, HasNoTable, IsLow, HasNoReferences};
+ghost use Rattle.bpf_object.specs.Symbol.{symbol as symbol_of, symbol_count, IsConstant, IsFunction, HasCode, code as code_of};
+ghost use Rattle.bpf_object.specs.Program.{AppliesTo, IsTable, AreRows, AreInOrder, AreReferences, IsInsideSection, IsLoad, IsWrong, IsWrongSymbol, constant_place};
+ghost use Rattle.bpf_object.specs.References.{IsTarget};
+ghost use Rattle.bpf_object.specs.Program.{IsOneFunction, IsProgram, IsNoProgram, IsNotFound, HasNoTable, IsLow, HasNoReferences};
 
 use crate::fault::{ProgramFault, RelocationFault};
 use crate::object::Object;
+use crate::reference::{ConstantReference, MapReference, References, Target};
 use crate::relocation::{self, Relocation};
 use crate::section;
 use crate::symbol::Symbol;
-use std::alloc::{AllocError, Global};
+use std::alloc::Global;
 
-/// A function's instructions, and the maps that it refers to, by rising slots.
+/// A function's instructions, and the maps and constants that it refers to, by rising slots.
 #[derive(Drop)]
 pub struct Program<'a> {
     /// The bytes of its instructions: 8 bytes per slot.
     pub code: &'a [u8],
     /// The maps.
-    pub references: Vec<MapReference>,
-}
-
-/// A wide load of a map.
-#[derive(Clone, Copy, Debug, PartialEq, Eq, Drop)]
-pub struct MapReference {
-    /// The slot of the wide load, from 0 on in the function.
-    pub slot: usize,
-    /// The number of the map's symbol.
-    pub map: usize,
+    pub maps: Vec<MapReference>,
+    /// The constants.
+    pub constants: Vec<ConstantReference>,
 }
 
 /// The types of sections that are relocations, without addends and with them.
@@ -45,14 +40,6 @@ fn check_order(rows: &[u8]) -> Result<(), ProgramFault>
             return Err(ProgramFault::Order(row));
         }
     }
-    Ok(())
-}
-
-/// Adds a map.
-fn add(references: &mut Vec<MapReference>, reference: MapReference) -> Result<(), AllocError>
-    ensures { OnOk result (references.new.items ≡ references.old.items ++ reference ∷ []) }
-{
-    references.push(reference)?;
     Ok(())
 }
 
@@ -83,7 +70,7 @@ impl<'a> Object<'a> {
     }
 
     /// The first relocations of a section from a section on.
-    fn next_table(&self, target: u16, from: u16) -> Option<u16>
+    pub(crate) fn next_table(&self, target: u16, from: u16) -> Option<u16>
         ensures some { IfSome result (AppliesTo self.now target) }
         ensures from { IfSome result (λ r. from ≤ r) }
         ensures below { IfSome result (λ r. r < 65535) }
@@ -136,17 +123,90 @@ impl<'a> Object<'a> {
         Ok(self.contents(first))
     }
 
-    /// Refuses a relocation that doesn't name a map.
-    fn check_reference(
+    /// Where the constant of a relocation lies in its section.
+    fn constant_place(&self, function: Symbol, code: &[u8], relocation: Relocation) -> u32
+        requires within { function.value ≤ relocation.offset }
+        requires code { code.now ≡ code_of self.now function }
+        requires len { length code.now ≡ function.size }
+        requires load { IsLoad function code.now relocation }
+        requires constant { IsConstant self.now relocation.symbol }
+        ensures { result ≡ constant_place self.now function relocation }
+    {
+        let start = (self.symbol(relocation.symbol as usize).value % 4_294_967_296) as u32;
+        relocation.imm(function, code).wrapping_add(start)
+    }
+
+    /// What the wide load of a constant's relocation refers to.
+    fn constant(
         &self,
         function: Symbol,
         code: &[u8],
         relocation: Relocation,
-    ) -> Result<(), RelocationFault>
+    ) -> Result<Target, RelocationFault>
         requires within { function.value ≤ relocation.offset }
         requires code { code.now ≡ code_of self.now function }
         requires len { length code.now ≡ function.size }
-        ensures ok { OnOk result (NamesMap self.now function relocation) }
+        requires kind { relocation.kind ≡ 1 }
+        requires load { IsLoad function code.now relocation }
+        requires constant { IsConstant self.now relocation.symbol }
+        ensures ok { IfOk result (IsTarget self.now function relocation) }
+        ensures err { IfErr result (IsWrongSymbol self.now function relocation) }
+    {
+        let section = self.symbol(relocation.symbol as usize).section;
+        let place = self.constant_place(function, code, relocation);
+        if u64::from(place) >= section::at(self.bytes, section).size {
+            return Err(RelocationFault::Outside);
+        }
+        Ok(Target::Constant(ConstantReference {
+            slot: relocation.slot(function),
+            section,
+            place,
+        }))
+    }
+
+    /// What the wide load of a relocation refers to.
+    fn target_of_load(
+        &self,
+        function: Symbol,
+        code: &[u8],
+        relocation: Relocation,
+    ) -> Result<Target, RelocationFault>
+        requires within { function.value ≤ relocation.offset }
+        requires code { code.now ≡ code_of self.now function }
+        requires len { length code.now ≡ function.size }
+        requires kind { relocation.kind ≡ 1 }
+        requires load { IsLoad function code.now relocation }
+        ensures ok { IfOk result (IsTarget self.now function relocation) }
+        ensures err { IfErr result (IsWrongSymbol self.now function relocation) }
+    {
+        let symbol = relocation.symbol as usize;
+        if self.is_map(symbol) {
+            return if relocation.is_of_zero(function, code) {
+                Ok(Target::Map(relocation.reference(function)))
+            } else {
+                Err(RelocationFault::InsideMap)
+            };
+        }
+        if self.is_constant(symbol) {
+            return self.constant(function, code, relocation);
+        }
+        if self.is_global(symbol) {
+            return Err(RelocationFault::Global);
+        }
+        Err(RelocationFault::Other)
+    }
+
+    /// What a relocation refers to.
+    fn target(
+        &self,
+        function: Symbol,
+        code: &[u8],
+        relocation: Relocation,
+    ) -> Result<Target, RelocationFault>
+        requires within { function.value ≤ relocation.offset }
+        requires code { code.now ≡ code_of self.now function }
+        requires len { length code.now ≡ function.size }
+        ensures ok { IfOk result (IsTarget self.now function relocation) }
         ensures err { IfErr result (IsWrong self.now function relocation) }
     {
         if relocation.kind != relocation::ADDRESS {
@@ -155,46 +215,45 @@ impl<'a> Object<'a> {
         if !relocation.is_load(function, code) {
             return Err(RelocationFault::Place);
         }
-        if !self.is_map(relocation.symbol as usize) {
-            return Err(RelocationFault::Map);
-        }
-        Ok(())
+        self.target_of_load(function, code, relocation)
     }
 
-    /// The maps that a function refers to.
+    /// What a function refers to.
     fn references(
         &self,
         alloc: Global,
         function: Symbol,
         code: &[u8],
         rows: &[u8],
-    ) -> Result<Vec<MapReference>, ProgramFault>
+    ) -> Result<References, ProgramFault>
         requires has { HasCode self.now function }
         requires code { code.now ≡ code_of self.now function }
         requires len { length code.now ≡ function.size }
         requires end { function.value + function.size < 2 ^ 64 }
-        ensures ok { OnOk result (AllNameMaps self.now function rows.now (length rows.now / 16)) }
-        ensures references { IfOk result (λ v. v.items ≡ map (reference_of function) (within function rows.now (length rows.now / 16))) }
+        ensures ok { IfOk result (λ rs. AreReferences self.now function rows.now (length rows.now / 16) rs.maps.items rs.constants.items) }
+        ensures maps { IfOk result (λ rs. All (λ r. 8 * r.slot + 16 ≤ length code.now) rs.maps.items) }
+        ensures constants { IfOk result (λ rs. All (λ r. 8 * r.slot + 16 ≤ length code.now) rs.constants.items) }
         ensures err { IfErr result (HasNoReferences self.now function rows.now) }
     {
-        let count = relocation::count(rows);
-        let mut references = Vec::with_capacity(alloc, count)?;
-        for row in 0..count {
+        let mut references = References::none(alloc);
+        for row in 0..relocation::count(rows) {
             let relocation = relocation::at(rows, row);
             if !relocation.is_within(function) {
                 continue;
             }
-            match self.check_reference(function, code, relocation) {
-                Ok(()) => add(&mut references, relocation.reference(function))?,
+            match self.target(function, code, relocation) {
+                Ok(target) => references.add(target)?,
                 Err(cause) => return Err(ProgramFault::Relocation(row, cause)),
             }
         }
         Ok(references)
     }
 
-    /// The program that the function of this name is. Its memory is at most the relocations' of its section.
+    /// The program that the function of this name is. Its memory is at most three times the relocations' of its section.
     pub fn program(&self, alloc: Global, name: &[u8]) -> Result<Program<'a>, ProgramFault>
-        ensures ok { IfOk result (λ p. IsProgram self.now name.now p.code.now p.references.items) }
+        ensures ok { IfOk result (λ p. IsProgram self.now name.now p.code.now p.maps.items p.constants.items) }
+        ensures maps { IfOk result (λ p. All (λ r. 8 * r.slot + 16 ≤ length p.code.now) p.maps.items) }
+        ensures constants { IfOk result (λ p. All (λ r. 8 * r.slot + 16 ≤ length p.code.now) p.constants.items) }
         ensures refused { IfErr result (IsNoProgram self.now name.now) }
     {
         let number = self.function(name)?;
@@ -206,6 +265,10 @@ impl<'a> Object<'a> {
         let rows = self.rows(function.section)?;
         check_order(rows)?;
         let references = self.references(alloc, function, code, rows)?;
-        Ok(Program { code, references })
+        Ok(Program {
+            code,
+            maps: references.maps,
+            constants: references.constants,
+        })
     }
 }

@@ -1,9 +1,10 @@
 //! Relocations: what changes a function's bytes.
-ghost use Rattle.std.specs.Prelude.{◌≡◌, ◌+◌, ◌/◌, ◌^◌, ◌<◌, ◌≤◌, length, ◌↔◌, IsTrue};
-ghost use Rattle.bpf_object.specs.Program.{relocation_at, relocation as relocation_of, is_within, IsLoad, reference as reference_of};
+ghost use Rattle.std.specs.Prelude.{◌≡◌, ◌+◌, ◌-◌, ◌/◌, ◌^◌, ◌<◌, ◌≤◌, length, ◌↔◌, IsTrue};
+ghost use Rattle.bpf_object.specs.Program.{relocation_at, relocation as relocation_of, is_within, IsLoad, IsOfZero, reference as reference_of};
+ghost use Rattle.bpf_object.specs.Bytes.{word as word_at};
 
 use crate::bytes;
-use crate::program::MapReference;
+use crate::reference::MapReference;
 use crate::symbol::Symbol;
 
 /// A relocation without an addend.
@@ -64,7 +65,7 @@ impl Relocation {
         function.value <= self.offset && self.offset < function.value + function.size
     }
 
-    /// Whether it changes a wide load of 0.
+    /// Whether it changes a wide load of a number.
     pub(crate) fn is_load(&self, function: Symbol, code: &[u8]) -> bool
         requires within { function.value ≤ self.now.offset }
         requires len { length code.now ≡ function.size }
@@ -76,8 +77,36 @@ impl Relocation {
             && start <= code.len() - LOAD_BYTES
             && code[start] == WIDE_LOAD
             && code[start + 1] / 16 == 0
-            && bytes::word(code, start + 4) == 0
-            && bytes::word(code, start + 12) == 0
+    }
+
+    /// Whether the number of its wide load is 0.
+    pub(crate) fn is_of_zero(&self, function: Symbol, code: &[u8]) -> bool
+        requires within { function.value ≤ self.now.offset }
+        requires len { length code.now ≡ function.size }
+        requires load { IsLoad function code.now self.now }
+        ensures { IsTrue result ↔ IsOfZero function code.now self.now }
+    {
+        let start = (self.offset - function.value) as usize;
+        bytes::word(code, start + 4) == 0 && bytes::word(code, start + 12) == 0
+    }
+
+    /// The imm of its wide load.
+    pub(crate) fn imm(&self, function: Symbol, code: &[u8]) -> u32
+        requires within { function.value ≤ self.now.offset }
+        requires len { length code.now ≡ function.size }
+        requires load { IsLoad function code.now self.now }
+        ensures { result ≡ word_at code.now (self.now.offset - function.value + 4) }
+    {
+        let start = (self.offset - function.value) as usize;
+        bytes::word(code, start + 4)
+    }
+
+    /// The slot of its wide load.
+    pub(crate) fn slot(&self, function: Symbol) -> usize
+        requires { function.value ≤ self.now.offset }
+        ensures { result ≡ (self.now.offset - function.value) / 8 }
+    {
+        (self.offset - function.value) as usize / 8
     }
 
     /// The slot that it changes, and its symbol.
@@ -86,7 +115,7 @@ impl Relocation {
         ensures { result ≡ reference_of function self.now }
     {
         MapReference {
-            slot: (self.offset - function.value) as usize / 8,
+            slot: self.slot(function),
             map: self.symbol as usize,
         }
     }

@@ -1,7 +1,7 @@
-//! Symbols: functions and maps.
+//! Symbols: functions, maps, constants and globals.
 ghost use Rattle.std.specs.Prelude.{◌≡◌, ◌+◌, ◌<◌, ◌≤◌, ◌^◌, ℕ, length, ◌↔◌, IsTrue, IfSome, IfNone};
-ghost use Rattle.bpf_object.specs.Bytes.{IsText};
-ghost use Rattle.bpf_object.specs.Symbol.{symbol_at, symbol as symbol_of, symbol_count, IsFunction, IsMap, IsMapSection, HasCode, code as code_of};
+ghost use Rattle.bpf_object.specs.Bytes.{IsText, Begins};
+ghost use Rattle.bpf_object.specs.Symbol.{symbol_at, symbol as symbol_of, symbol_count, IsFunction, IsMap, IsMapSection, IsCalled, IsOfConstants, IsOfGlobals, IsConstant, IsGlobal, HasCode, code as code_of};
 ghost use Rattle.bpf_object.specs.Section.{shnum};
 
 use crate::object::Object;
@@ -37,6 +37,19 @@ const PROGRAM_BITS: u32 = 1;
 
 /// The section of maps.
 const MAPS: &[u8] = b".maps";
+
+/// The sections of constants, and of globals: a name, and how longer names begin.
+const CONSTANTS: &[u8] = b".rodata";
+
+const MORE_CONSTANTS: &[u8] = b".rodata.";
+
+const DATA: &[u8] = b".data";
+
+const MORE_DATA: &[u8] = b".data.";
+
+const ZEROS: &[u8] = b".bss";
+
+const MORE_ZEROS: &[u8] = b".bss.";
 
 #[tactic(auto, unfolding(crate::specs::Symbol::symbol_at))]
 fn read(table: &[u8], at: usize) -> Symbol
@@ -116,6 +129,46 @@ impl<'a> Object<'a> {
         }
         let symbol = self.symbol(number);
         symbol.kind == OBJECT && self.is_map_section(symbol.section)
+    }
+
+    /// Whether a section has this name, or one that begins so.
+    fn is_called(&self, number: u16, name: &[u8], beginning: &[u8]) -> bool
+        ensures { IsTrue result ↔ IsCalled self.now number name.now beginning.now }
+    {
+        if number >= section::count(self.bytes) {
+            return false;
+        }
+        let at = section::at(self.bytes, number).name as usize;
+        bytes::is_text(self.names, at, name) || bytes::begins(self.names, at, beginning)
+    }
+
+    /// Whether a section has constants.
+    pub(crate) fn is_of_constants(&self, number: u16) -> bool
+        ensures { IsTrue result ↔ IsOfConstants self.now number }
+    {
+        self.is_called(number, CONSTANTS, MORE_CONSTANTS)
+            && section::at(self.bytes, number).kind == PROGRAM_BITS
+    }
+
+    /// Whether a section has globals.
+    fn is_of_globals(&self, number: u16) -> bool
+        ensures { IsTrue result ↔ IsOfGlobals self.now number }
+    {
+        self.is_called(number, DATA, MORE_DATA) || self.is_called(number, ZEROS, MORE_ZEROS)
+    }
+
+    /// Whether a symbol lies among constants.
+    pub(crate) fn is_constant(&self, number: usize) -> bool
+        ensures { IsTrue result ↔ IsConstant self.now number }
+    {
+        number < self.symbol_count() && self.is_of_constants(self.symbol(number).section)
+    }
+
+    /// Whether a symbol lies among globals.
+    pub(crate) fn is_global(&self, number: usize) -> bool
+        ensures { IsTrue result ↔ IsGlobal self.now number }
+    {
+        number < self.symbol_count() && self.is_of_globals(self.symbol(number).section)
     }
 
     /// The first map from a symbol on.

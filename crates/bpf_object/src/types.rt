@@ -244,7 +244,7 @@ fn places(alloc: Global, bytes: &[u8]) -> Result<Vec<usize>, TypesFault>
     ensures ok { IfOk result (λ v. AreTypes bytes.now v.items) }
     ensures err { IfErr result (IsNoTable bytes.now) }
 {
-    let mut places = Vec::new(alloc);
+    let mut places = Vec::with_capacity(alloc, bytes.len() / ROW_BYTES)?;
     let mut at = 0;
     while at < bytes.len() {
         let Some(row) = whole(bytes, at) else {

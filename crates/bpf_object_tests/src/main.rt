@@ -7,12 +7,13 @@
 #[cfg(test)]
 mod tests;
 
-use bpf_object::Object;
+use bpf_object::{ConstantsFault, Object};
 use std::alloc::{AllocError, Global};
 use std::fmt::Write;
 use std::io;
 
-/// Adds what a function of an object is: its bytes, and each slot with the name of its map.
+/// Adds what a function of an object is: its bytes, each slot with the symbol of its map, and each with the section and the place of its
+/// constant.
 fn write_program(
     alloc: Global,
     text: &mut String,
@@ -24,10 +25,14 @@ fn write_program(
         Err(fault) => return write!(text, "{fault:?}"),
     };
     text.push_str(hex::encode(alloc, program.code)?.as_str())?;
-    for reference in program.references.iter() {
+    for reference in program.maps.iter() {
         let slot = reference.slot;
         let map = reference.map;
         write!(text, " {slot} {map}")?;
+    }
+    for reference in program.constants.iter() {
+        let (slot, section, place) = (reference.slot, reference.section, reference.place);
+        write!(text, " {slot} {section}+{place}")?;
     }
     Ok(())
 }
@@ -56,7 +61,7 @@ fn write_definitions(alloc: Global, text: &mut String, object: &Object) -> Resul
         let Some(map) = object.next_map(from) else {
             break;
         };
-        match object.map(&types, map) {
+        match object.map(alloc, &types, map) {
             Ok(found) => {
                 let (kind, entries) = (found.kind, found.entries);
                 let (key, value) = (found.key_bytes, found.value_bytes);
@@ -69,7 +74,23 @@ fn write_definitions(alloc: Global, text: &mut String, object: &Object) -> Resul
     Ok(())
 }
 
-/// The answer to a question about an object: its maps, what they are, or the program of a name.
+/// Adds the number, the name and the bytes of each section of constants of an object.
+fn write_constants(alloc: Global, text: &mut String, object: &Object) -> Result<(), AllocError> {
+    for section in 0..100 {
+        match object.constants(section) {
+            Ok(found) => {
+                let (name, bytes) = (found.name, hex::encode(alloc, found.bytes)?);
+                let name = std::str::from_utf8(name).unwrap_or("?");
+                write!(text, " {section} {name} {bytes}")?;
+            }
+            Err(ConstantsFault::NoConstants) => (),
+            Err(fault) => write!(text, " {section} {fault:?}")?,
+        }
+    }
+    Ok(())
+}
+
+/// The answer to a question about an object: its maps, what they are, its constants, or the program of a name.
 fn answer(alloc: Global, bytes: &[u8], question: &str) -> Result<String, AllocError> {
     let mut text = String::new(alloc);
     match Object::parse(bytes) {
@@ -77,6 +98,7 @@ fn answer(alloc: Global, bytes: &[u8], question: &str) -> Result<String, AllocEr
         Ok(object) => match question.strip_prefix("program ") {
             Some(name) => write_program(alloc, &mut text, &object, name)?,
             None if question == "definitions" => write_definitions(alloc, &mut text, &object)?,
+            None if question == "constants" => write_constants(alloc, &mut text, &object)?,
             None => write_maps(&mut text, &object)?,
         },
     }

@@ -1,3 +1,4 @@
+mod constants;
 mod growth;
 mod maps;
 mod objects;

@@ -98,12 +98,12 @@ fn a_relocation_names_a_map(rt: HostRuntime) {
     let no_symbol = changed(RELOCATION + 12, 3);
     assert_eq!(rt;
         program_fault(rt.alloc(), &no_symbol),
-        relocation(RelocationFault::Map)
+        relocation(RelocationFault::Other)
     );
     let function = changed(RELOCATION + 12, 1);
     assert_eq!(rt;
         program_fault(rt.alloc(), &function),
-        relocation(RelocationFault::Map)
+        relocation(RelocationFault::Other)
     );
     let outside = changed(RELOCATION, 32);
     assert_eq!(rt; program_fault(rt.alloc(), &outside), None);
@@ -114,16 +114,16 @@ fn maps_stand_in_a_section_of_their_own(rt: HostRuntime) {
     let other_name = changed(HEADERS + 64 * 4, 1);
     assert_eq!(rt;
         program_fault(rt.alloc(), &other_name),
-        relocation(RelocationFault::Map)
+        relocation(RelocationFault::Other)
     );
     let other_section = changed(SYMBOLS + 48 + 6, 2);
     assert_eq!(rt;
         program_fault(rt.alloc(), &other_section),
-        relocation(RelocationFault::Map)
+        relocation(RelocationFault::Other)
     );
     let number_in_load = changed(110 + 4, 1);
     assert_eq!(rt;
         program_fault(rt.alloc(), &number_in_load),
-        relocation(RelocationFault::Place)
+        relocation(RelocationFault::InsideMap)
     );
 }

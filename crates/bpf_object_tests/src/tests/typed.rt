@@ -82,7 +82,7 @@ pub fn types_fault(alloc: Global, bytes: &[u8]) -> Option<TypesFault> {
 pub fn map(alloc: Global, bytes: &[u8]) -> Option<Result<MapDefinition, MapFault>> {
     match Object::parse(bytes) {
         Ok(object) => match object.types(alloc) {
-            Ok(types) => Some(object.map(&types, 1)),
+            Ok(types) => Some(object.map(alloc, &types, 1)),
             Err(_fault) => None,
         },
         Err(_fault) => None,

@@ -1,11 +1,8 @@
-use Rattle.std.proofs.lemmas.Result.{IfErr-weaker}
-use Rattle.bpf_object.specs.declared.fault.MapFault.{MapFault}
-use Rattle.bpf_object.specs.Definition.{IsNoDefinition}
-use Rattle.bpf_object.specs.Map.{IsNoMap, no_definition}
+use Rattle.std.proofs.lemmas.Result.{err_from_is_err_and}
+use Rattle.bpf_object.specs.Map.{no_name}
 use Rattle.bpf_object.proofs.object.Object.map.Goals as goal
 
-pub returns-clause-refused : goal.returns-clause-refused
-returns-clause-refused c =
-    IfErr-weaker c.definition.result (λ (fault : MapFault). IsNoDefinition c.args.types.now c.in_ok-row.row fault)
-    (λ (fault : MapFault). IsNoMap c.args.self.now c.args.types.now c.args.number fault)
-    (λ fault h. no_definition fault c.in_ok-row.row c.in_ok-row.ensures.ok h) c.definition.ensures.err
+pub returns-in_err-name-clause-refused : goal.returns-in_err-name-clause-refused
+returns-in_err-name-clause-refused c =
+    let p = err_from_is_err_and c.from_residual.result c.from_residual.ensures.1 in
+    rw (p.1, p.2) (no_name c.in_err-name.field-0.0 c.in_err-name.ensures.err)

@@ -1,0 +1,3 @@
+mod ConstantsLemmas
+mod LinkLemmas
+mod MapLemmas

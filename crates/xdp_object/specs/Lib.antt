@@ -1,0 +1,9 @@
+pub mod Shape
+pub mod Link
+pub mod LinkSeen
+pub mod Maps
+pub mod Constants
+pub mod MapsSeen
+pub mod Setup
+pub mod SetupSeen
+pub mod FaultNumber

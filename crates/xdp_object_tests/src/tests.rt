@@ -1,0 +1,4 @@
+mod constants;
+mod growth;
+mod object;
+mod shapes;
