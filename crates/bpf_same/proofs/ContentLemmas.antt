@@ -1,5 +1,5 @@
 -- What stands in counters after a step.
-use Rattle.std.proofs.Common.{ℕ, zero, suc, ◌+◌, ◌-◌, ◌%◌, ◌^◌, ◌≡◌, ◌≢◌, ◌<◌, refl, sym, ap, ◌∙◌, arith, ℤ, Option, None, Some, Bool, true, false}
+use Rattle.std.proofs.Common.{ℕ, zero, suc, ◌+◌, ◌-◌, ◌%◌, ◌^◌, ◌≡◌, ◌≢◌, ◌<◌, refl, sym, ap, ◌∙◌, arith, ℤ, pos, Option, None, Some, Bool, true, false}
 use Rattle.std.specs.Prelude.{IfSome, if◌then◌else◌, ◌==◌}
 use Rattle.std.proofs.lemmas.Bool.Decides.{nat_tests}
 use Rattle.bpf_insn.specs.Register.{number}
@@ -7,14 +7,15 @@ use Rattle.bpf_insn.specs.declared.register.Register.{Register}
 use Rattle.bpf_insn.specs.declared.size.Size.TheVariants.{Double}
 use Rattle.bpf_insn.specs.declared.insn.Insn.{Insn}
 use Rattle.bpf_insn.specs.declared.insn.Insn.TheVariants.{Ldx, Stx, AddCounter}
+use Rattle.bpf_note.specs.declared.val.Val.TheVariants.{Value}
 use Rattle.bpf_note.specs.Facts.{Facts}
 use Rattle.bpf_same.specs.declared.content.Content.{Content}
 use Rattle.bpf_same.specs.declared.linear_form.LinearForm.{LinearForm}
 use Rattle.bpf_same.specs.declared.relation.Relation.{Relation}
 use Rattle.bpf_same.specs.LinearForms.{plus, total, IsWord, Hold}
 use Rattle.bpf_same.specs.Moved.{address_in}
-use Rattle.bpf_same.specs.Stepped.{IsPulledBack}
-use Rattle.bpf_same.specs.Contents.{Stands, Contain, is_addition, IsAdded, IsAddedStore, StandsAfter, PreservesContent, PreservesLoad}
+use Rattle.bpf_same.specs.Stepped.{alters, IsPulledBack}
+use Rattle.bpf_same.specs.Contents.{Stands, Contain, is_addition, IsAdded, IsAddedStore, StandsAfter, IsApart, IsElsewhere, IsNoValue, PreservesContent, PreservesLoad}
 use Rattle.bpf_same.proofs.LinearFormLemmas.{apart, total_small}
 
 some_same : {x y : ℕ} → Some x ≡ Some y → x ≡ y
@@ -74,6 +75,37 @@ added_stand_if i stutters low m e address number at by (Some s) adds p q = λ f 
     let n = k.added adds.0 adds.1 adds.2 adds.3 adds.4 in
     let both = adds.5 f g there in
     q f h h' n.0 n.1 (p f h c) (sym both.0 ∙ n.2) (sym both.1 ∙ n.3) n.4
+
+nothing_added : (o : Option ℕ) (a : ℕ) → IsWord o → plus o (Some 0) ≡ Some a → o ≡ Some a
+nothing_added None a l e = cc
+nothing_added (Some x) a l e =
+    let small : x < 2 ^ 64 = l x refl in
+    let same : (x + 0) % 2 ^ 64 ≡ x = omega (arith, small) in
+    ap Some (sym same) ∙ e
+
+-- a register that points to the beginning of a value of another map
+pub value_beside : (i : Insn) (stutters : Bool) (low : ℕ) (m : Facts) (e : Relation) (address form : LinearForm) (k own map : ℕ) → m.reg k ≡ Value own → own ≢ map → k < 11 → alters i k ≡ false →
+    ((f g : ℕ → Option ℕ) → Hold e f g → f k ≡ total f form) → form ≡ address → IsNoValue i stutters low m e address map
+value_beside i stutters low m e address form k own map is differs small left p same = λ f g f' g' j a t there value other now here.
+    t.values k j own map a is value differs small other (t.kept k small left ∙ (p f g there ∙ (ap (total f) same ∙ here))) now
+
+pub apart_if : (i : Insn) (stutters : Bool) (low : ℕ) (m : Facts) (e : Relation) (address : LinearForm) (k map : ℕ) → m.reg k ≡ Value map → k < 11 → alters i k ≡ false → IsNoValue i stutters low m e address map → IsApart i stutters low m e address k
+apart_if i stutters low m e address k map is small left p = λ f g f' g' a t there now here. p f g f' g' k a t there is small (t.kept k small left ∙ now) here
+
+pub elsewhere_if : (i : Insn) (stutters : Bool) (low : ℕ) (m : Facts) (e : Relation) (address : LinearForm) (fetch : Bool) (dst src : Register) (off : ℤ) (k : ℕ) → i ≡ AddCounter fetch dst src off → off ≡ pos 0 → k ≡ number dst → IsApart i stutters low m e address k → IsElsewhere i stutters low m e address
+elsewhere_if i stutters low m e address fetch dst src off k is none at p = λ f g f' g' fetch' dst' src' off' a t there same now here.
+    let one : address_in f dst (pos 0) ≡ Some a = added_at f a (sym is ∙ same) now in
+    p f g f' g' a t there (ap f at ∙ nothing_added (f (number dst)) a (there.words (number dst)) one) here
+  where
+    added_at : {fetch' : Bool} {dst' src' : Register} {off' : ℤ} (f : ℕ → Option ℕ) (a : ℕ) → AddCounter fetch dst src off ≡ AddCounter fetch' dst' src' off' → address_in f dst' off' ≡ Some a → address_in f dst (pos 0) ≡ Some a
+    added_at f a same now = cc (none, same, now)
+
+pub beside_stands : (i : Insn) (stutters : Bool) (low : ℕ) (m : Facts) (e : Relation) (address number at by : LinearForm) → IsAdded i e at by → ((f h : ℕ → Option ℕ) → Contain e f h → Stands f h address number) → IsElsewhere i stutters low m e address →
+    StandsAfter i stutters low m e address number
+beside_stands i stutters low m e address number at by adds p q = λ f g f' g' h h' t there c k a x here now.
+    let n = k.added adds.0 adds.1 adds.2 adds.3 adds.4 in
+    let other : a ≢ n.0 = λ same. q f g f' g' adds.0 adds.1 adds.2 adds.3 a t there adds.4 (n.2 ∙ ap Some (sym same)) here in
+    p f h c a x here (sym (left_out (a == n.0) (plus (h a) (Some n.1)) (h a) (h' a) (other_test a n.0 other) (n.4 a)) ∙ now)
 
 pub pulled_content : (i : Insn) (stutters : Bool) (low : ℕ) (m : Facts) (e : Relation) (address number before there here : LinearForm) → IsPulledBack i stutters low m e address before → StandsAfter i stutters low m e before there → IsPulledBack i stutters low m e number here →
     there ≡ here → PreservesContent i stutters low m e address number

@@ -18,7 +18,7 @@ use Rattle.bpf_flow.specs.Step.{operand}
 use Rattle.bpf_flow.proofs.JumpLemmas.{met_is}
 use Rattle.bpf_flow.proofs.RegisterLemmas.{number_small}
 use Rattle.bpf_same.specs.declared.relation.Relation.{Relation}
-use Rattle.bpf_same.specs.Ranges.{IsSpan, IsOperandSpan}
+use Rattle.bpf_same.specs.Ranges.{Lies, IsSpan, IsOperandSpan}
 use Rattle.bpf_same.specs.LinearForms.{held, IsAddress, Hold}
 use Rattle.bpf_same.specs.Decided.{IsBetween, IsDecided, IsOrdered, IsPacketEnd}
 use Rattle.bpf_same.proofs.StepLemmas.{held_register, held_end, end_is}
@@ -87,6 +87,13 @@ pub room_decides_if : (n : Facts) (e : Relation) (cond : Condition) (dst registe
     IfSome o (λ b. IsOrdered cond b) → IfSome o (IsDecided (Jump cond true dst src off) e n)
 room_decides_if n e cond dst register src off None is at address order = tt
 room_decides_if n e cond dst register src off (Some b) is at address order = subst (λ (s : Operand). IsDecided (Jump cond true dst s off) e n b) (sym is) (room_decides n e cond dst register off b at address order)
+
+no_number : (o : Option ℕ) (low high : ℕ) → Lies o low high → high < low → ⊥
+no_number o low high l empty = absurd (omega (arith, l.least, l.most, empty))
+
+-- a register that can hold no number
+pub never_reached : (n : Facts) (e : Relation) (i : Insn) (cond : Condition) (wide : Bool) (dst : Register) (src : Operand) (off : ℤ) (k low high : ℕ) → i ≡ Jump cond wide dst src off → IsSpan n e k low high → high < low → (b : Bool) → IsDecided i e n b
+never_reached n e i cond wide dst src off k low high is span empty b = subst (λ (i : Insn). IsDecided i e n b) (sym is) (λ s g d h. absurd (no_number (s.reg k) low high (span s g d h) empty))
 
 pub wide_decides : (n : Facts) (e : Relation) (i : Insn) (cond : Condition) (wide : Bool) (dst : Register) (src : Operand) (off : ℤ) (o : Option Bool) → i ≡ Jump cond wide dst src off → wide ≡ true → IfSome o (IsDecided (Jump cond true dst src off) e n) → IfSome o (IsDecided i e n)
 wide_decides n e i cond wide dst src off o is w h = subst (λ (i : Insn). IfSome o (IsDecided i e n)) (sym (is ∙ ap (λ (w : Bool). Jump cond w dst src off) w)) h

@@ -30,7 +30,7 @@ use Rattle.bpf_same.specs.LinearForms.{held}
 use Rattle.bpf_same.specs.Simulated.{is_jump}
 use Rattle.bpf_same.specs.Stepped.{alters, is_register_store, IsOwn, IsWordAt, Stepped, IsOwnStep, IsOwnAccess}
 use Rattle.bpf_same.proofs.PairLemmas.{put_left}
-use Rattle.bpf_same.proofs.StepLemmas.{needed_is, held_register, held_word, held_fits, end_kept, noted_within, noted_long, noted_end, noted_range, noted_is, written_is, put_here, alu_computes, computes_held, word_kept}
+use Rattle.bpf_same.proofs.StepLemmas.{needed_is, held_register, held_word, held_fits, end_kept, noted_within, noted_long, noted_end, noted_range, noted_values, noted_is, written_is, put_here, alu_computes, computes_held, word_kept}
 use Rattle.bpf_note.proofs.LoadPlaceLemmas.{below_values}
 
 -- what is left of the state by a step of the new program's own, and what it makes of terms
@@ -75,6 +75,7 @@ number_alone i low m s g l u q k x a none jumps d h load w =
         addresses = λ k id off safe v e small. noted_within m u k id off safe d v e small;
         long = λ least e. noted_long m u least d e;
         ends = λ k v small. noted_end m u k d v small;
+        values = λ k j a b x one two differs small other. noted_values m u k j a b x d one two differs small other;
         ranged = λ k low high r small. noted_range m u k low high d r small;
         met = λ cond wide dst src off e. true_false (ap is_jump (sym e) ∙ jumps);
         stays = λ k e. refl;
@@ -240,6 +241,7 @@ store_alone dst src off low n m s g l u c d o h =
         addresses = λ k id off safe v e small. noted_within m u k id off safe d v e small;
         long = λ least e. noted_long m u least d e;
         ends = λ k v small. noted_end m u k d v small;
+        values = λ k j a b x one two differs small other. noted_values m u k j a b x d one two differs small other;
         ranged = λ k low high r small. noted_range m u k low high d r small;
         met = λ cond wide dst' src' off' e. absurd (cc (e));
         stays = λ k e. refl;

@@ -357,7 +357,11 @@ module _ (s : State) (p low : ℕ) (g h : ℕ → Option ℕ) (above : (i : ℕ)
   moved_pairs (Const dst value) old m e = absurd m
   moved_pairs (MapRef dst k) old m e = absurd m
   moved_pairs (St size dst off imm) old m e = absurd m
-  moved_pairs (AddCounter fetch dst src off) old m e = absurd m
+  moved_pairs (AddCounter fetch dst src off) old m e =
+      subst (λ (o : Insn). Pairs (Behind (λ k. fetch && k == number src) (p + 1) low s g) (exec (AddCounter fetch dst src off) s) (exec o (parted s p g h))) (sym m.2)
+      (need_pairs _ (s.reg (number src)) (g (number src)) _ _ m.4 (λ y there.
+      address_pairs _ (s.reg (number dst)) (g (number m.0)) off m.1 (λ a. add_to (region (length s.packet) s.shapes a 8) s fetch (number src) y) (λ a. add_to (region (length s.packet) s.shapes a 8) (parted s p g h) fetch (number src) y) m.3
+      (λ x is. add_pairs (reached s x off 8) fetch (number src) y)))
   moved_pairs (Ja wide_offset to) old m e = absurd m
   moved_pairs (Jump cond wide dst src off) old m e = absurd m
   moved_pairs (Call helper) old m e = absurd m

@@ -1,8 +1,11 @@
 -- What is known after a sum, by the ranges of both numbers.
 use Rattle.std.proofs.Common.{ℕ, ◌+◌, ◌%◌, ◌^◌, ◌≡◌, ◌<◌, ◌≤◌, refl, sym, ap, ◌∙◌, subst, arith, ◌∷◌, [], Option, None, Some, Bool, true, false}
-use Rattle.std.specs.Prelude.{◌==◌, if◌then◌else◌, bit_and, bit_or, IfSome}
+use Rattle.std.specs.Prelude.{◌==◌, ◌*◌, ◌/◌, ◌-◌, nat_eq, if◌then◌else◌, bit_and, bit_or, IfSome, IsTrue}
 use Rattle.std.specs.Int.Bits.{or_add_and}
-use Rattle.std.proofs.lemmas.Nat.{le_or_l}
+use Rattle.std.proofs.lemmas.Nat.{le_or_l, mul-le, le-div, pow_pos}
+use Rattle.std.proofs.lemmas.Nat.Bits.{and_high_mask}
+use Rattle.std.proofs.Math.Nat.{div-mul-le_self, div-lt_iff_lt-mul}
+use Rattle.std.proofs.Math.Pow.{pow-lt}
 use Rattle.bpf_insn.specs.Arithmetic.{computed}
 use Rattle.bpf_insn.specs.declared.alu_op.AluOp.{AluOp}
 use Rattle.bpf_same.specs.declared.range.Range.{Range}
@@ -28,7 +31,7 @@ use Rattle.bpf_flow.specs.Sound.{Accounts, Covers}
 use Rattle.bpf_flow.specs.Step.{Outcome, Next, Loads, Adds, Exited, Fault, exec, operand, LeadsTo}
 use Rattle.bpf_same.specs.LinearForms.{plus}
 use Rattle.bpf_same.specs.Simulated.{IsRefused}
-use Rattle.bpf_same.specs.Ranges.{Lies, IsRead, IsOperandRead, IsAdded, IsUnited, IsSummed, IsSharper}
+use Rattle.bpf_same.specs.Ranges.{Lies, IsRead, IsOperandRead, IsAdded, IsUnited, IsMultiplied, IsMasked, IsSummed, IsSharper}
 use Rattle.bpf_same.proofs.ComputeLemmas.{added, computes_as, mod_word}
 use Rattle.bpf_same.proofs.StepLemmas.{alu_computes}
 use Rattle.bpf_same.proofs.PairLemmas.{operand_is}
@@ -53,7 +56,42 @@ or_value x y l m = ap (λ (x : ℕ). bit_or x (y % 2 ^ 64)) (mod_word x l) ∙ a
 some_is : {x y : ℕ} → Some x ≡ Some y → x ≡ y
 some_is e = cc
 
--- what a sum, or the bits of both, comes to
+-- products below 2 ^ 64
+pub multiplies : (from to first last low high : ℕ) → high < 2 ^ 64 → low ≡ (from * first) % 2 ^ 64 → high ≡ to * last → IsMultiplied from to first last low high
+multiplies from to first last low high fits bottom top = λ x y a b c d.
+    let least : from * first ≤ x * y = mul-le from first x y a c in
+    let most : x * y ≤ to * last = mul-le x y to last b d in
+    (omega (arith, bottom, least), omega (arith, top, most), omega (arith, top, most, fits))
+
+-- the bits of a mask from one place up to another, in a number that has none above
+pub masks : (from to k w low high : ℕ) → k < w → to / 2 ^ w ≡ 0 → low ≡ from / 2 ^ k * 2 ^ k → high ≡ to / 2 ^ k * 2 ^ k → IsMasked from to (2 ^ w - 2 ^ k) low high
+masks from to k w low high below top bottom most = λ x a b.
+    let under : to < 1 * 2 ^ w = (div-lt_iff_lt-mul (pow_pos w)).0 (omega (arith, top)) in
+    let value : bit_and x (2 ^ w - 2 ^ k) ≡ x / 2 ^ k * 2 ^ k = and_high_mask w k (omega (arith, below)) x (omega (arith, under, b)) in
+    let least : from / 2 ^ k * 2 ^ k ≤ x / 2 ^ k * 2 ^ k = mul-le (from / 2 ^ k) (2 ^ k) (x / 2 ^ k) (2 ^ k) (divided from x (2 ^ k) (pow_pos k) a) (omega arith) in
+    let greatest : x / 2 ^ k * 2 ^ k ≤ to / 2 ^ k * 2 ^ k = mul-le (x / 2 ^ k) (2 ^ k) (to / 2 ^ k) (2 ^ k) (divided x to (2 ^ k) (pow_pos k) b) (omega arith) in
+    (omega (arith, bottom, value, least), omega (arith, most, value, greatest))
+  where
+    divided : (x y d : ℕ) → 0 < d → x ≤ y → x / d ≤ y / d
+    divided x y d some h = let under : x / d * d ≤ x = div-mul-le_self x d in le-div (x / d) y d some (omega (arith, under, h))
+
+-- which bits a mask has
+pub bits_mask : (from to mask : ℕ) → from < to → to < 64 → IsTrue (nat_eq ((1 * 2 ^ to % 2 ^ 64 + (2 ^ 64 - 1 * 2 ^ from % 2 ^ 64)) % 2 ^ 64) mask) → mask ≡ 2 ^ to - 2 ^ from
+bits_mask from to mask below few is =
+    let less : 2 ^ from < 2 ^ to = pow-lt below in
+    let fits : 2 ^ to < 2 ^ 64 = pow-lt few in
+    let same : (1 * 2 ^ to % 2 ^ 64 + (2 ^ 64 - 1 * 2 ^ from % 2 ^ 64)) % 2 ^ 64 ≡ mask = grind (arith, nat_tests) in
+    omega (arith, less, fits, same)
+
+mul_value : (x y : ℕ) → x < 2 ^ 64 → y < 2 ^ 64 → x * y < 2 ^ 64 → computed op.Mul true x y ≡ x * y
+unfolding computed
+mul_value x y l m fits = ap (λ (x : ℕ). (x * (y % 2 ^ 64)) % 2 ^ 64) (mod_word x l) ∙ (ap (λ (y : ℕ). (x * y) % 2 ^ 64) (mod_word y m) ∙ mod_word (x * y) fits)
+
+and_value : (x y : ℕ) → x < 2 ^ 64 → y < 2 ^ 64 → computed op.And true x y ≡ bit_and x y
+unfolding computed
+and_value x y l m = ap (λ (x : ℕ). bit_and x (y % 2 ^ 64)) (mod_word x l) ∙ ap (bit_and x) (mod_word y m)
+
+-- what a sum, a product, or the bits of one or of both, comes to
 pub adds_if : (o : AluOp) (from to first last : ℕ) (r : Option Range) → o ≡ op.Add → IfSome r (λ r. IsAdded from to first last r.low r.high) → IfSome r (λ r. IsCombined o from to first last r.low r.high)
 adds_if o from to first last None is sum = tt
 adds_if o from to first last (Some r) is sum = λ a b x k p q. subst (λ (o : Option ℕ). Lies o r.low r.high) (sym (added a b x (computes_as o op.Add true true a b x is refl k))) (sum a b p q)
@@ -69,6 +107,31 @@ unites_in from to first last low high fits small both = λ a b o k p q.
 pub unites_if : (o : AluOp) (from to first last : ℕ) (r : Option Range) → o ≡ op.Or → to < 2 ^ 64 → last < 2 ^ 64 → IfSome r (λ r. IsUnited from to first last r.low r.high) → IfSome r (λ r. IsCombined o from to first last r.low r.high)
 unites_if o from to first last None is fits small both = tt
 unites_if o from to first last (Some r) is fits small both = subst (λ (o : AluOp). IsCombined o from to first last r.low r.high) (sym is) (unites_in from to first last r.low r.high fits small both)
+
+multiplies_in : (from to first last low high : ℕ) → to < 2 ^ 64 → last < 2 ^ 64 → IsMultiplied from to first last low high → IsCombined op.Mul from to first last low high
+multiplies_in from to first last low high fits small both = λ a b o k p q.
+    let x : k.x ≡ p.x = some_is (sym k.first ∙ p.is) in
+    let y : k.y ≡ q.x = some_is (sym k.second ∙ q.is) in
+    let product = both p.x q.x p.least p.most q.least q.most in
+    let value : computed op.Mul true k.x k.y ≡ p.x * q.x = ap (λ (x : ℕ). computed op.Mul true x k.y) x ∙ (ap (computed op.Mul true p.x) y ∙ mul_value p.x q.x (omega (arith, fits, p.most)) (omega (arith, small, q.most)) product.2) in
+    record { x = p.x * q.x; is = k.is ∙ ap Some value; least = product.0; most = product.1 }
+
+pub multiplies_if : (o : AluOp) (from to first last : ℕ) (r : Option Range) → o ≡ op.Mul → to < 2 ^ 64 → last < 2 ^ 64 → IfSome r (λ r. IsMultiplied from to first last r.low r.high) → IfSome r (λ r. IsCombined o from to first last r.low r.high)
+multiplies_if o from to first last None is fits small both = tt
+multiplies_if o from to first last (Some r) is fits small both = subst (λ (o : AluOp). IsCombined o from to first last r.low r.high) (sym is) (multiplies_in from to first last r.low r.high fits small both)
+
+masks_in : (from to first last low high : ℕ) → to < 2 ^ 64 → last < 2 ^ 64 → first ≡ last → IsMasked from to first low high → IsCombined op.And from to first last low high
+masks_in from to first last low high fits small one bits = λ a b o k p q.
+    let x : k.x ≡ p.x = some_is (sym k.first ∙ p.is) in
+    let mask : q.x ≡ first = omega (arith, one, q.least, q.most) in
+    let y : k.y ≡ first = some_is (sym k.second ∙ q.is) ∙ mask in
+    let both = bits p.x p.least p.most in
+    let value : computed op.And true k.x k.y ≡ bit_and p.x first = ap (λ (x : ℕ). computed op.And true x k.y) x ∙ (ap (computed op.And true p.x) y ∙ and_value p.x first (omega (arith, fits, p.most)) (omega (arith, small, one))) in
+    record { x = bit_and p.x first; is = k.is ∙ ap Some value; least = both.0; most = both.1 }
+
+pub masks_if : (o : AluOp) (from to first last : ℕ) (r : Option Range) → o ≡ op.And → to < 2 ^ 64 → last < 2 ^ 64 → IfSome r (λ r. (first ≡ last) × IsMasked from to first r.low r.high) → IfSome r (λ r. IsCombined o from to first last r.low r.high)
+masks_if o from to first last None is fits small both = tt
+masks_if o from to first last (Some r) is fits small both = subst (λ (o : AluOp). IsCombined o from to first last r.low r.high) (sym is) (masks_in from to first last r.low r.high fits small both.0 both.1)
 
 -- a register that gets it
 pub sums : (i : Insn) (n : Facts) (o : AluOp) (dst : Register) (src : Operand) (from to first last low high : ℕ) → i ≡ Alu o true dst src → IsRead n (n.reg (number dst)) from to → IsOperandRead n src first last → IsCombined o from to first last low high →

@@ -51,14 +51,14 @@ use Rattle.bpf_same.specs.Moved.{DoesAlike, IsMoved, address_in}
 use Rattle.bpf_insn.specs.declared.alu_op.AluOp.{AluOp}
 use Rattle.bpf_same.specs.Simulated.{Candidate, IsStoredSum, IsOwnLoad, IsKnown, IsRelated, IsSimulated, ReachesSilently, SimulatesFrom, Establishes, IsSharedStep, SimulatesStep, SimulatesPlain, SimulatesWay, SimulatesWays, AreSameJump, SimulatesBranch, IsBranch, IsAccounted, Simulates, IsSilent, SimulatesSlot, is_jump, IsSimulation}
 use Rattle.bpf_same.proofs.PairLemmas.{parted, put_left, Behind, Pairs, pairs_lead, pairs_exit, operand_is, exec_pairs, moved_pairs}
-use Rattle.bpf_same.proofs.StepLemmas.{needed_is, written_is, held_register, held_fits, end_kept, word_kept, alike_of, noted_within, noted_long, noted_end, noted_range, noted_is, moved_of, copied_stepped}
+use Rattle.bpf_same.proofs.StepLemmas.{needed_is, written_is, held_register, held_fits, end_kept, word_kept, alike_of, noted_within, noted_long, noted_end, noted_range, noted_values, noted_is, moved_of, copied_stepped}
 use Rattle.bpf_same.proofs.OwnLemmas.{own_alone, load_is}
 use Rattle.bpf_same.proofs.AdditionLemmas.{only_additions}
 use Rattle.bpf_same.proofs.AloneLemmas.{operates}
 use Rattle.bpf_same.proofs.TraceLemmas.{silently, stepping, unmoved, loaded_alone, stored_alone, following, ended}
 use Rattle.bpf_same.proofs.ChangeLemmas.{changes, jump_changes, adding_is, adding_left, address_is, based_in}
 
-step_at : (code : List Insn) (s : State) (i : Insn) (label : Option Op) (u : State) → slice_get code s.pc ≡ Some i → LeadsTo (exec i s) label u → LeadsTo (step code s) label u
+pub step_at : (code : List Insn) (s : State) (i : Insn) (label : Option Op) (u : State) → slice_get code s.pc ≡ Some i → LeadsTo (exec i s) label u → LeadsTo (step code s) label u
 step_at code s i label u e h = subst (λ (o : Option Insn). LeadsTo (need o (λ i. exec i s)) label u) (sym e) h
 
 some_is : {A : Type 0} {x y : A} → Some x ≡ Some y → x ≡ y
@@ -219,7 +219,7 @@ own_exits Second low n s r0 o e = o
 established : (b : Candidate) (i : Insn) (stutters : Bool) (e : Relation) (low : ℕ) (m : Facts) (p q : ℕ) → Establishes b i stutters e m p q → (s t u v : State) → Hold e (held s) t.reg → Stepped i stutters b.low m (held s) t.reg (held u) v.reg → Describes m u → u.pc ≡ q → v.pc ≡ p →
     v.packet ≡ u.packet → v.ifindex ≡ u.ifindex → v.queue ≡ u.queue → v.shapes ≡ u.shapes → v.find ≡ u.find → ((j : ℕ) → b.low ≤ j → v.stack j ≡ u.stack j) → (r to : Trace) → Contain e (held s) (numbers b.alone r s) → Changes i (held s) (held u) (numbers b.alone r s) (numbers b.alone to u) → IsSimulated b to u → Has b.alone b.old to v
 established b i stutters e low m p q l s t u v hold stepped d at pc packet ifindex queue shapes find stack r to contain changes go =
-    l.simulated l.next l.here u v at d (record { pc = pc; packet = packet; ifindex = ifindex; queue = queue; shapes = shapes; find = find; stack = stack; relation = l.preserves (held s) t.reg (held u) v.reg stepped hold }) to
+    l.meets u v at d (record { pc = pc; packet = packet; ifindex = ifindex; queue = queue; shapes = shapes; find = find; stack = stack; relation = l.preserves (held s) t.reg (held u) v.reg stepped hold }) to
     (λ k content small is. l.contents k content small is (held s) t.reg (held u) v.reg (numbers b.alone r s) (numbers b.alone to u) stepped hold contain changes) go
 
 -- the numbers of a jump that is taken
@@ -241,10 +241,10 @@ operand_held s (operands.Register r) = held_register s (number r) (number_small 
 operand_held s (operands.Immediate i) = refl
 
 -- the same of a state
-abbrev IsTakenIn : Insn → State → Type 0
+abbrev pub IsTakenIn : Insn → State → Type 0
 IsTakenIn i s = (cond : Condition) (wide : Bool) (dst : Register) (src : Operand) (off : ℤ) → i ≡ Jump cond wide dst src off → Compared cond wide (s.reg (number dst)) (operand s src) true
 
-jump_stepped : (i : Insn) (low q : ℕ) (m : Facts) (s : State) (g : ℕ → Option ℕ) → is_jump i ≡ true → IsTakenIn i s → Describes m (at_slot s q) → Stepped i true low m (held s) g (held (at_slot s q)) g
+pub jump_stepped : (i : Insn) (low q : ℕ) (m : Facts) (s : State) (g : ℕ → Option ℕ) → is_jump i ≡ true → IsTakenIn i s → Describes m (at_slot s q) → Stepped i true low m (held s) g (held (at_slot s q)) g
 jump_stepped i low q m s g j met d = record {
   fits = held_fits (at_slot s q) d.state;
   kept = λ k small e. refl;
@@ -258,6 +258,7 @@ jump_stepped i low q m s g j met d = record {
   addresses = λ k id off safe v e small. noted_within m (at_slot s q) k id off safe d v e small;
   long = λ least e. noted_long m (at_slot s q) least d e;
   ends = λ k v small. noted_end m (at_slot s q) k d v small;
+  values = λ k j a b x one two differs small other. noted_values m (at_slot s q) k j a b x d one two differs small other;
   ranged = λ k low high r small. noted_range m (at_slot s q) k low high d r small;
   met = λ cond wide dst src off e. let k = met cond wide dst src off e in record {
     x = k.x;
@@ -395,6 +396,7 @@ load_alone low m dst src off s u g l other d h =
         addresses = λ k id off' safe v e small. noted_within m u k id off' safe d v e small;
         long = λ least e. noted_long m u least d e;
         ends = λ k v small. noted_end m u k d v small;
+        values = λ k j a b x one two differs small other. noted_values m u k j a b x d one two differs small other;
         ranged = λ k lo hi r small. noted_range m u k lo hi d r small;
         met = λ cond wide dst' src' off' e. absurd (no_jump e);
         stays = λ k e. refl;
@@ -455,6 +457,7 @@ sum_stepped low m dst src off s u g is d = record {
   addresses = λ k id off' safe v e small. noted_within m u k id off' safe d v e small;
   long = λ least e. noted_long m u least d e;
   ends = λ k v small. noted_end m u k d v small;
+  values = λ k j a b x one two differs small other. noted_values m u k j a b x d one two differs small other;
   ranged = λ k lo hi r small. noted_range m u k lo hi d r small;
   met = λ cond wide dst' src' off' e. absurd (no_jump e);
   stays = λ k e. refl;

@@ -1,5 +1,5 @@
 -- What a step makes of what terms and the old program's registers hold.
-use Rattle.std.proofs.Common.{ℕ, ◌+◌, ◌-◌, ◌*◌, ◌≡◌, ◌<◌, ◌≤◌, ◌^◌, refl, sym, ap, ◌∙◌, subst, arith, length, Option, None, Some, Bool, true, false, nat_lt}
+use Rattle.std.proofs.Common.{ℕ, ◌+◌, ◌-◌, ◌*◌, ◌≡◌, ◌<◌, ◌≤◌, ◌^◌, refl, sym, ap, ◌∙◌, subst, arith, length, slice_get, Option, None, Some, Bool, true, false, nat_lt}
 use Rattle.std.specs.Prelude.{if◌then◌else◌, ◌==◌}
 use Rattle.std.proofs.lemmas.Bool.Decides.{nat_tests}
 use Rattle.bpf_insn.specs.Register.{number}
@@ -14,7 +14,11 @@ use Rattle.bpf_note.specs.declared.val.Val.TheVariants.{Unset, Num, Pkt, PktEnd,
 use Rattle.bpf_note.specs.State.{State, IsState, packet_start, put}
 use Rattle.bpf_note.specs.Bytes.{word_at}
 use Rattle.bpf_note.specs.Facts.{Facts, packet_id}
-use Rattle.bpf_note.specs.Describes.{Describes, Meaning, meaning, Reads}
+use Rattle.bpf_note.specs.Describes.{Describes, Meaning, meaning, Reads, IsValueOf}
+use Rattle.bpf_note.specs.Regions.{InCounter, counter_at}
+use Rattle.bpf_note.specs.Shape.{Shape}
+use Rattle.bpf_note.proofs.RegionLemmas.{counter_at_address}
+use Rattle.bpf_flow.proofs.ReachLemmas.{map_small}
 use Rattle.bpf_note.proofs.JoinDescribes.{word_below}
 use Rattle.bpf_note.specs.declared.op.Op.{Op}
 use Rattle.bpf_note.specs.declared.op.Op.TheVariants as ops
@@ -100,7 +104,7 @@ moved_of (MovSx wide bits dst src) old f f' g h m = absurd m
 moved_of (Const dst value) old f f' g h m = absurd m
 moved_of (MapRef dst k) old f f' g h m = absurd m
 moved_of (St size dst off imm) old f f' g h m = absurd m
-moved_of (AddCounter fetch dst src off) old f f' g h m = absurd m
+moved_of (AddCounter fetch dst src off) old f f' g h m = (m.0, m.1, m.2, m.3 ∙ ap (λ (o : Option ℕ). plus o (Some (sign_extended off))) (h (number dst) (number_small dst)), m.4 ∙ h (number src) (number_small src))
 moved_of (Ja wide_offset to) old f f' g h m = absurd m
 moved_of (Jump cond wide dst src off) old f f' g h m = absurd m
 moved_of (Call helper) old f f' g h m = absurd m
@@ -162,6 +166,27 @@ pub noted_end : (m : Facts) (u : State) (k : ℕ) → Describes m u → m.reg k 
 noted_end m u k d v small =
     let w = meaning u d.base d.address in
     held_register u k small ∙ (end_is w (u.reg k) (subst (λ (v : Val). Reads w v (u.reg k)) v (d.regs k)) ∙ sym (held_end u))
+
+value_read : (w : Meaning) (a : ℕ) (o : Option ℕ) (x : ℕ) → Reads w (Value a) o → o ≡ Some x → IsValueOf (slice_get w.shapes a) a x
+value_read w a None x r e = cc
+value_read w a (Some y) x r e = subst (λ (z : ℕ). IsValueOf (slice_get w.shapes a) a z) (cc (e)) r
+
+value_lies : (u : State) → IsState u → (a x : ℕ) (o : Option Shape) → slice_get u.shapes a ≡ o → IsValueOf o a x → (k : ℕ) × (counter_at u.shapes x ≡ InCounter a k 0)
+value_lies u st a x None e v = absurd v
+value_lies u st a x (Some s) e v =
+    let shape = st.shapes a s e in
+    (v.0, ap (counter_at u.shapes) v.2 ∙ counter_at_address u.shapes a v.0 0 s (map_small u.shapes a s e st.maps) e shape v.1 (omega (arith, shape.some_counters)))
+
+one_map : (a b k j : ℕ) → InCounter a k 0 ≡ InCounter b j 0 → a ≡ b
+one_map a b k j e = cc
+
+-- values of two maps begin at two addresses
+pub noted_values : (m : Facts) (u : State) (k j a b x : ℕ) → Describes m u → m.reg k ≡ Value a → m.reg j ≡ Value b → (a ≡ b → ⊥) → k < 11 → j < 11 → held u k ≡ Some x → held u j ≡ Some x → ⊥
+noted_values m u k j a b x d one two differs small other here there =
+    let w = meaning u d.base d.address in
+    let first = value_lies u d.state a x (slice_get u.shapes a) refl (value_read w a (u.reg k) x (subst (λ (v : Val). Reads w v (u.reg k)) one (d.regs k)) (sym (held_register u k small) ∙ here)) in
+    let second = value_lies u d.state b x (slice_get u.shapes b) refl (value_read w b (u.reg j) x (subst (λ (v : Val). Reads w v (u.reg j)) two (d.regs j)) (sym (held_register u j other) ∙ there)) in
+    differs (one_map a b first.0 second.0 (sym first.1 ∙ second.1))
 
 pub noted_range : (m : Facts) (u : State) (k low high : ℕ) → Describes m u → IsRead m (m.reg k) low high → k < 11 → Lies (held u k) low high
 noted_range m u k low high d read small = subst (λ (o : Option ℕ). Lies o low high) (sym (held_register u k small)) (read u d (u.reg k) (d.regs k))
@@ -241,6 +266,7 @@ copied_stepped i s u t v low q m l h g j d b = record {
   addresses = λ k id off safe v e small. noted_within m u k id off safe d v e small;
   long = λ least e. noted_long m u least d e;
   ends = λ k v small. noted_end m u k d v small;
+  values = λ k j a b x one two differs small other. noted_values m u k j a b x d one two differs small other;
   ranged = λ k low high r small. noted_range m u k low high d r small;
   met = λ cond wide dst src off e. false_true (sym j ∙ ap is_jump e);
   stays = λ k e. false_true e;

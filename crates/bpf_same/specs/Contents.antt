@@ -6,6 +6,7 @@ use Rattle.bpf_insn.specs.declared.register.Register.{Register}
 use Rattle.bpf_insn.specs.declared.size.Size.TheVariants.{Double}
 use Rattle.bpf_insn.specs.declared.insn.Insn.{Insn}
 use Rattle.bpf_insn.specs.declared.insn.Insn.TheVariants.{Ldx, Stx, AddCounter}
+use Rattle.bpf_note.specs.declared.val.Val.TheVariants.{Value}
 use Rattle.bpf_note.specs.Facts.{Facts}
 use Rattle.bpf_same.specs.declared.content.Content.{Content}
 use Rattle.bpf_same.specs.declared.linear_form.LinearForm.{LinearForm}
@@ -44,6 +45,19 @@ IsAdded i e at by = (fetch : Bool) × (dst : Register) × (src : Register) × (o
 -- after the step a linear form of what is held before it stands at another one's address
 abbrev pub StandsAfter : Insn → Bool → ℕ → Facts → Relation → LinearForm → LinearForm → Type 0
 StandsAfter i stutters low m e address number = (f g f' g' h h' : ℕ → Option ℕ) → Stepped i stutters low m f g f' g' → Hold e f g → Contain e f h → Changes i f f' h h' → Stands f h' address number
+
+-- an address before the step isn't the beginning of a value of the map
+abbrev pub IsNoValue : Insn → Bool → ℕ → Facts → Relation → LinearForm → ℕ → Type 0
+IsNoValue i stutters low m e address map = (f g f' g' : ℕ → Option ℕ) (k a : ℕ) → Stepped i stutters low m f g f' g' → Hold e f g → m.reg k ≡ Value map → k < 11 → f' k ≡ Some a → total f address ≡ Some a → ⊥
+
+-- an address before the step is another one than what register k holds then
+abbrev pub IsApart : Insn → Bool → ℕ → Facts → Relation → LinearForm → ℕ → Type 0
+IsApart i stutters low m e address k = (f g f' g' : ℕ → Option ℕ) (a : ℕ) → Stepped i stutters low m f g f' g' → Hold e f g → f k ≡ Some a → total f address ≡ Some a → ⊥
+
+-- the step adds to no counter at this address
+abbrev pub IsElsewhere : Insn → Bool → ℕ → Facts → Relation → LinearForm → Type 0
+IsElsewhere i stutters low m e address = (f g f' g' : ℕ → Option ℕ) (fetch : Bool) (dst src : Register) (off : ℤ) (a : ℕ) → Stepped i stutters low m f g f' g' → Hold e f g → i ≡ AddCounter fetch dst src off →
+    address_in f dst off ≡ Some a → total f address ≡ Some a → ⊥
 
 -- an address before the step is one that it has loaded eight bytes from, and a linear form after it is what it has loaded
 abbrev pub PreservesLoad : Insn → Bool → ℕ → Facts → Relation → LinearForm → LinearForm → Type 0

@@ -1,6 +1,6 @@
 -- For proofs: no claim rests on this file.
 -- Between which numbers something lies.
-use Rattle.std.specs.Prelude.{ℕ, ◌≡◌, ◌≤◌, length, Option, Some, bit_or}
+use Rattle.std.specs.Prelude.{ℕ, ◌*◌, ◌^◌, ◌≡◌, ◌<◌, ◌≤◌, length, Option, Some, bit_and, bit_or}
 use Rattle.bpf_insn.specs.declared.insn.Insn.{Insn}
 use Rattle.bpf_insn.specs.declared.operand.Operand.{Operand}
 use Rattle.bpf_note.specs.declared.val.Val.{Val}
@@ -54,6 +54,14 @@ IsAdded from to first last low high = (o p : Option ℕ) → Lies o from to → 
 -- the bits of a number of each lie between these numbers
 abbrev pub IsUnited : ℕ → ℕ → ℕ → ℕ → ℕ → ℕ → Type 0
 IsUnited from to first last low high = (x y : ℕ) → from ≤ x → x ≤ to → first ≤ y → y ≤ last → (low ≤ bit_or x y) × (bit_or x y ≤ high)
+
+-- the product of a number of each lies between these numbers, and doesn't wrap
+abbrev pub IsMultiplied : ℕ → ℕ → ℕ → ℕ → ℕ → ℕ → Type 0
+IsMultiplied from to first last low high = (x y : ℕ) → from ≤ x → x ≤ to → first ≤ y → y ≤ last → (low ≤ x * y) × (x * y ≤ high) × (x * y < 2 ^ 64)
+
+-- the bits of a mask in a number lie between these numbers
+abbrev pub IsMasked : ℕ → ℕ → ℕ → ℕ → ℕ → Type 0
+IsMasked from to mask low high = (x : ℕ) → from ≤ x → x ≤ to → (low ≤ bit_and x mask) × (bit_and x mask ≤ high)
 
 -- after the instruction register k lies between these numbers
 abbrev pub IsSummed : Insn → Facts → ℕ → ℕ → ℕ → Type 0

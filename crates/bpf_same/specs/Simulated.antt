@@ -74,18 +74,20 @@ IsSilent i e low n p q = (s t : State) → Describes n s → IsRelated e low p s
 abbrev pub ReachesSilently : Bool → List Insn → Relation → ℕ → Facts → ℕ → ℕ → Type 0
 ReachesSilently alone old e low n p q = (s t : State) → Describes n s → IsRelated e low p s t → (r : Trace) → Has alone old r (at_slot t q) → Has alone old r t
 
--- where this is known at slot q of the new program, the old one simulates it from slot p on
-abbrev pub SimulatesFrom : Candidate → Facts → ℕ → ℕ → Type 0
-SimulatesFrom b n p q = (e : Relation) → slice_get b.relations q ≡ Some e → (s t : State) → s.pc ≡ q → Describes n s → IsRelated e b.low p s t → (r : Trace) →
-    Contain e (held s) (numbers b.alone r s) → IsSimulated b r s → Has b.alone b.old r t
+-- where this is known at slot q of the new program, and the relation holds, the old one simulates it from slot p on
+abbrev pub Meets : Candidate → Facts → Relation → ℕ → ℕ → Type 0
+Meets b n e p q = (s t : State) → s.pc ≡ q → Describes n s → IsRelated e b.low p s t → (r : Trace) → Contain e (held s) (numbers b.alone r s) → IsSimulated b r s → Has b.alone b.old r t
 
--- after the instruction the relation of slot q of the new program holds, and the old one simulates it from slot p on
+-- the same where the relation of slot q holds
+abbrev pub SimulatesFrom : Candidate → Facts → ℕ → ℕ → Type 0
+SimulatesFrom b n p q = (e : Relation) → slice_get b.relations q ≡ Some e → Meets b n e p q
+
+-- after the instruction a relation holds where the old program simulates slot q of the new one from slot p on
 pub record Establishes (b : Candidate) (i : Insn) (stutters : Bool) (e : Relation) (n : Facts) (p q : ℕ) : Type 0 where
   pub next : Relation
-  pub here : slice_get b.relations q ≡ Some next
   pub preserves : Preserves i stutters b.low n e next
   pub contents : PreservesContents i stutters b.low n e next
-  pub simulated : SimulatesFrom b n p q
+  pub meets : Meets b n next p q
 
 -- the relation of slot q holds after the instruction
 pub record PreservesAt (b : Candidate) (i : Insn) (stutters : Bool) (e : Relation) (n : Facts) (q : ℕ) : Type 0 where

@@ -17,7 +17,7 @@ use Rattle.bpf_insn.specs.declared.size.Size.TheVariants.{Double}
 use Rattle.bpf_insn.specs.declared.insn.Insn.{Insn}
 use Rattle.bpf_insn.specs.declared.insn.Insn.TheVariants.{Alu, Neg, End, MovSx, Const, MapRef, Ldx, St, Stx, AddCounter, Ja, Jump, Call, Exit, Second}
 use Rattle.bpf_note.specs.declared.val.Val.{Val}
-use Rattle.bpf_note.specs.declared.val.Val.TheVariants.{Num, Pkt, PktEnd}
+use Rattle.bpf_note.specs.declared.val.Val.TheVariants.{Num, Pkt, PktEnd, Value}
 use Rattle.bpf_note.specs.State.{State, packet_start, stack_end, values_start}
 use Rattle.bpf_note.specs.Regions.{InStack, region}
 use Rattle.bpf_note.specs.Facts.{Facts, packet_id}
@@ -153,6 +153,7 @@ pub record Stepped (i : Insn) (stutters : Bool) (low : ℕ) (m : Facts) (f g f' 
   pub addresses : (k id off safe : ℕ) → m.reg k ≡ Pkt id off → m.safe id ≡ Some safe → k < 11 → IsWithin f' k off safe
   pub long : (least : ℕ) → IsLeastLength m least → IsLong f' least
   pub ends : (k : ℕ) → m.reg k ≡ PktEnd → k < 11 → f' k ≡ f' 64
+  pub values : (k j a b x : ℕ) → m.reg k ≡ Value a → m.reg j ≡ Value b → (a ≡ b → ⊥) → k < 11 → j < 11 → f' k ≡ Some x → f' j ≡ Some x → ⊥
   pub ranged : (k low high : ℕ) → IsRead m (m.reg k) low high → k < 11 → Lies (f' k) low high
   pub met : IsTaken i f
   pub stays : (k : ℕ) → stutters ≡ true → g' k ≡ g k

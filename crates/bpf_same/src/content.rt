@@ -1,7 +1,7 @@
 //! What is known to stand in counters, by the linear forms of their addresses.
 ghost use Rattle.std.specs.Prelude.{◌≡◌, ◌<◌, ℕ, Option, Some, None, true, false, if◌then◌else◌, ◌==◌, IsTrue, IfSome};
 ghost use Rattle.bpf_note.specs.Parts.{facts};
-ghost use Rattle.bpf_same.specs.Contents.{Contain, IsAdded, IsAddedStore, PreservesContent, PreservesContents, PreservesLoad, Stands, StandsAfter, content_of, is_addition};
+ghost use Rattle.bpf_same.specs.Contents.{Contain, IsAdded, IsAddedStore, IsApart, IsElsewhere, IsNoValue, PreservesContent, PreservesContents, PreservesLoad, Stands, StandsAfter, content_of, is_addition};
 ghost use Rattle.bpf_same.specs.LinearForms.{Hold, plus, total};
 ghost use Rattle.bpf_same.specs.Moved.{address_in};
 ghost use Rattle.bpf_same.specs.declared.content.Content.{Content as AContent};
@@ -9,10 +9,11 @@ ghost use Rattle.bpf_insn.specs.declared.insn.Insn.TheVariants as insns;
 ghost use Rattle.bpf_insn.specs.declared.size.Size.TheVariants as sizes;
 
 use crate::copied::{at_offset, is_same_address};
-use crate::linear_form::LinearForm;
+use crate::linear_form::{LinearForm, REGISTERS};
 use crate::relation::Relation;
-use crate::step::Step;
+use crate::step::{Step, alters};
 use bpf_insn::{Insn, Register, Size};
+use bpf_note::Val;
 
 /// The most contents of a relation.
 pub(crate) const CONTENTS: u8 = 8;
@@ -117,9 +118,89 @@ impl Step<'_> {
             return None;
         };
         match self.addition() {
-            Some(addition) => addition.number_after(address, number),
+            Some(addition) => self.number_added(addition, address, number),
             None => Some(number),
         }
+    }
+
+    /// The number that stands at an address after an addition that the step makes, by the one before it.
+    fn number_added(
+        &self,
+        addition: Addition,
+        address: LinearForm,
+        number: LinearForm,
+    ) -> Option<LinearForm>
+        requires adds { IsAdded self.now.insn self.now.before.now addition.address addition.by }
+        requires stands { (f h : ℕ → Option ℕ) → Contain self.now.before.now f h → Stands f h address number }
+        ensures { IfSome result (StandsAfter self.now.insn self.now.stutters self.now.low (facts self.now.after.now) self.now.before.now address) }
+    {
+        match addition.number_after(address, number) {
+            Some(sum) => Some(sum),
+            None => {
+                if self.is_elsewhere(address) {
+                    Some(number)
+                } else {
+                    None
+                }
+            }
+        }
+    }
+
+    /// Returns whether the step adds to the first counter of a value, and an address is where a value of another map begins.
+    fn is_elsewhere(&self, address: LinearForm) -> bool
+        ensures { IsTrue result → IsElsewhere self.now.insn self.now.stutters self.now.low (facts self.now.after.now) self.now.before.now address }
+    {
+        match self.insn {
+            Insn::AddCounter { dst, off, .. } => {
+                if off == 0 {
+                    self.is_value_apart(address, dst.number())
+                } else {
+                    false
+                }
+            }
+            _ => false,
+        }
+    }
+
+    /// Returns whether a value begins where a register points, and an address is where one of another map does.
+    fn is_value_apart(&self, address: LinearForm, register: u8) -> bool
+        requires { register < 11 }
+        ensures { IsTrue result → IsApart self.now.insn self.now.stutters self.now.low (facts self.now.after.now) self.now.before.now address register }
+    {
+        let Val::Value { m } = self.after.register(register) else {
+            return false;
+        };
+        if alters(self.insn, register) {
+            return false;
+        }
+        self.is_no_value(address, m)
+    }
+
+    /// Returns whether an address is where a value of another map than this one begins.
+    fn is_no_value(&self, address: LinearForm, map: u32) -> bool
+        ensures { IsTrue result → IsNoValue self.now.insn self.now.stutters self.now.low (facts self.now.after.now) self.now.before.now address map }
+    {
+        for register in 0..REGISTERS {
+            if self.is_value_beside(address, map, register) {
+                return true;
+            }
+        }
+        false
+    }
+
+    /// Returns whether an address is where a register points, and that is where a value of another map than this one begins.
+    fn is_value_beside(&self, address: LinearForm, map: u32, register: u8) -> bool
+        requires { register < 11 }
+        ensures { IsTrue result → IsNoValue self.now.insn self.now.stutters self.now.low (facts self.now.after.now) self.now.before.now address map }
+    {
+        let Val::Value { m } = self.after.register(register) else {
+            return false;
+        };
+        if m == map || alters(self.insn, register) {
+            return false;
+        }
+        let form = self.before.new_form(register);
+        form.is(address)
     }
 
     /// Returns whether a form after the step is what it has loaded from an address.

@@ -11,7 +11,7 @@ ghost use Rattle.bpf_same.specs.Moved.{DoesAlike, IsMovedAccess, address_in};
 
 use crate::access::{is_shared, reads_alike};
 use crate::at_slot::insn_at;
-use crate::equal::{is_load, is_register_store, is_same_insn};
+use crate::equal::{is_addition, is_load, is_register_store, is_same_insn};
 use crate::linear_form::LinearForm;
 use crate::relation::Relation;
 use crate::simulation::{Point, Simulation};
@@ -113,6 +113,31 @@ fn is_moved_store(
     }
 }
 
+/// Returns whether the old program adds the same register to the counter at the same address.
+fn is_moved_addition(
+    relation: &Relation,
+    there: Insn,
+    fetch: bool,
+    dst: Register,
+    src: Register,
+    off: i16,
+) -> bool
+    ensures { IsTrue result → IsMovedAccess relation.now there (insns.AddCounter fetch dst src off) }
+{
+    match there {
+        Insn::AddCounter {
+            dst: base,
+            off: from,
+            ..
+        } => {
+            is_addition(there, fetch, base, src, from)
+                && is_same_number(relation, src, src)
+                && is_same_address(relation, base, from, dst, off)
+        }
+        _ => false,
+    }
+}
+
 /// Returns whether an access of the old program is this one by another register or offset.
 fn is_moved_access(relation: &Relation, there: Insn, insn: Insn) -> bool
     ensures { IsTrue result → IsMovedAccess relation.now there insn }
@@ -131,6 +156,12 @@ fn is_moved_access(relation: &Relation, there: Insn, insn: Insn) -> bool
             src,
             off,
         } => is_moved_store(relation, there, size, dst, src, off),
+        Insn::AddCounter {
+            fetch,
+            dst,
+            src,
+            off,
+        } => is_moved_addition(relation, there, fetch, dst, src, off),
         _ => false,
     }
 }

@@ -1,5 +1,5 @@
 //! What decides a conditional jump.
-ghost use Rattle.std.specs.Prelude.{◌≡◌, ◌≤◌, ◌<◌, ◌^◌, ℕ, ℤ, Option, true, IfSome, IsTrue};
+ghost use Rattle.std.specs.Prelude.{◌≡◌, ◌≤◌, ◌<◌, ◌^◌, ℕ, ℤ, Bool, Option, true, IfSome, IsTrue};
 ghost use Rattle.bpf_insn.specs.declared.insn.Insn.TheVariants as insns;
 ghost use Rattle.bpf_note.specs.Parts.{facts};
 ghost use Rattle.bpf_insn.specs.Conditions.{is_met, relation};
@@ -141,6 +141,19 @@ fn decided_by_spans(insn: Insn, relation: &Relation, note: &Note) -> Option<bool
             None => None,
         },
         _ => None,
+    }
+}
+
+/// Returns whether a conditional jump compares a register that can hold no number: then no state is so.
+pub(crate) fn is_never_reached(insn: Insn, relation: &Relation, note: &Note) -> bool
+    ensures { IsTrue result → (b : Bool) → IsDecided insn relation.now (facts note.now) b }
+{
+    match insn {
+        Insn::Jump { dst, .. } => match span(note, relation, dst.number()) {
+            Some(range) => { if range.high < range.low { true } else { false } }
+            None => false,
+        },
+        _ => false,
     }
 }
 

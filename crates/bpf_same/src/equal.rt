@@ -166,7 +166,7 @@ pub(crate) fn is_register_store(
     }
 }
 
-fn is_addition(there: Insn, fetch: bool, dst: Register, src: Register, off: i16) -> bool
+pub(crate) fn is_addition(there: Insn, fetch: bool, dst: Register, src: Register, off: i16) -> bool
     ensures { IsTrue result ↔ there ≡ AddCounter fetch dst src off }
 {
     match there {

@@ -1,7 +1,7 @@
 //! What stands in counters after a step, and where ways meet. Nothing is promised of it: `content` judges.
 ghost use Rattle.std.specs.Prelude.{◌<◌};
 
-use crate::after::{form_beside, moved};
+use crate::after::{form_beside, moved, relation_after};
 use crate::content::{CONTENTS, Content};
 use crate::linear_form::{LinearForm, TERMS};
 use crate::meet::Meeting;
@@ -76,7 +76,7 @@ fn content_loaded(step: &Step, found: &Relation) -> Option<Content> {
 }
 
 /// Adds what stands in counters after a step.
-pub(crate) fn add_contents_after(step: &Step, found: &mut Relation) {
+fn add_contents_after(step: &Step, found: &mut Relation) {
     for index in 0..CONTENTS {
         if let Some(content) = step.before.content(index) {
             if let Some(content) = content_after(step, found, content) {
@@ -87,6 +87,15 @@ pub(crate) fn add_contents_after(step: &Step, found: &mut Relation) {
     if let Some(content) = content_loaded(step, found) {
         add_content(found, content);
     }
+}
+
+/// The relation after a step; `alone`: with what stands in counters.
+pub(crate) fn found_after(step: &Step, alone: bool) -> Relation {
+    let mut found = relation_after(step);
+    if alone {
+        add_contents_after(step, &mut found);
+    }
+    found
 }
 
 /// Adds what stands in counters of both.

@@ -7,6 +7,7 @@
 //! - `relation`: the old program's registers, as a `linear_form` of the new one's terms: at the `start`, `after` a `step`, where ways
 //!   `meet`; `room`: forms that are addresses in the packet; `bound`: the ranges of registers; `shifted`: what they hold in their upper
 //!   halves; `preserve`: whether a step preserves the relations, `address`: of rooms
+//! - `caught`: what the old program does alone
 //! - `copied`: whether both programs do the same; `access`: what a copied access may touch
 //! - `fuse`: the old program with its counts (a load, additions and a store of one counter) made additions; `fused`: whether it is the
 //!   same by counts: what is known inside a `count`, and which registers are `live` after it
@@ -22,6 +23,7 @@ mod address;
 mod after;
 mod at_slot;
 mod bound;
+mod caught;
 mod content;
 mod copied;
 mod count;

@@ -64,6 +64,55 @@ fn add_common_rooms(met: &mut Relation, one: &Relation, other: &Relation) {
     }
 }
 
+/// A room of which a term is an address, but for a constant, as one of that term.
+fn room_of_term(relation: &Relation, term: u8, room: Room) -> Option<Room>
+    requires { term < 64 }
+{
+    let form = relation.new_form(term);
+    (form.terms == room.terms).then_some(Room {
+        first: room.first.wrapping_sub(form.constant),
+        last: room.last.wrapping_sub(form.constant),
+        terms: LinearForm::held(term).terms,
+    })
+}
+
+/// The addresses that are in both rooms, as those of a term.
+fn common_of_term(
+    meeting: &Meeting,
+    term: u8,
+    here: Option<Room>,
+    there: Option<Room>,
+) -> Option<Room>
+    requires { term < 64 }
+{
+    let one = room_of_term(meeting.one, term, here?)?;
+    let other = room_of_term(meeting.other, term, there?)?;
+    common(one, other)
+}
+
+/// Adds what is in rooms of both by a term that is one form in one of them, and another one in the other.
+fn add_rooms_of_term(meeting: &Meeting, met: &mut Relation, term: u8)
+    requires { term < 64 }
+{
+    for number in 0..ROOMS {
+        for other in 0..ROOMS {
+            let (here, there) = (meeting.one.room(number), meeting.other.room(other));
+            if let Some(room) = common_of_term(meeting, term, here, there) {
+                add_room(met, room);
+            }
+        }
+    }
+}
+
+/// Adds what is in rooms of both by terms that hold themselves where they meet.
+fn add_rooms_of_terms(meeting: &Meeting, met: &mut Relation) {
+    for term in 0..TERMS {
+        if meeting.differs(term) && met.claimed(term).is_none() {
+            add_rooms_of_term(meeting, met, term);
+        }
+    }
+}
+
 /// What is one linear form in both, by terms that hold themselves where they meet.
 #[derive(Drop)]
 pub(crate) struct Meeting<'a> {
@@ -162,6 +211,7 @@ pub(crate) fn met(one: &Relation, other: &Relation) -> Relation {
     let mut met = meeting.met;
     add_common_contents(&meeting, &mut met);
     add_common_rooms(&mut met, one, other);
+    add_rooms_of_terms(&meeting, &mut met);
     for register in 0..REGISTERS {
         met.bounds[register as usize] = common_bound(one, other, register);
         if one.shifted_form(register) == other.shifted_form(register) {

@@ -1,7 +1,7 @@
 //! Where a comparison stops. Nothing is promised of it but that it is a slot of the new program: `simulation` judges.
 ghost use Rattle.std.specs.Prelude.{◌<◌, ◌≤◌, length, IfOk, IfSome};
 
-use crate::access::{is_own_step, reads_alike};
+use crate::access::reads_alike;
 use crate::at_slot::{insn_at, relation_at, witness_at};
 use crate::jump::same_target;
 use crate::relation::Relation;
@@ -96,7 +96,9 @@ impl Simulation<'_> {
     ) -> Option<Stop>
         requires { length self.now.old.now ≤ 4096 }
     {
-        if self.preserves(before, stutters, there) {
+        if self.establishes(before, stutters, old, there) {
+            None
+        } else if self.preserves(before, stutters, there) {
             self.stop_before(old, there.pc, &there.note)
         } else {
             stop_at(old, ObstacleKind::Registers)
@@ -111,8 +113,11 @@ impl Simulation<'_> {
         if matches!(insn, Insn::Ja { .. }) {
             return self.stop_after(before, true, old, there);
         }
-        if before.witness.stutters && is_own_step(insn, before.note, self.low) {
+        if before.witness.stutters && self.is_stutter(before) {
             return self.stop_after(before, true, old, there);
+        }
+        if !before.witness.stutters && old < 4096 && self.is_stored_sum(before) {
+            return self.stop_after(before, false, old + 1, there);
         }
         if !before.witness.stutters && old < 4096 && self.is_copied(before) {
             return self.stop_after(before, false, next_slot(insn, old), there);

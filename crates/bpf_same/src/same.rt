@@ -1,5 +1,5 @@
 //! Whether an accepted program has the runs of another one.
-ghost use Rattle.std.specs.Prelude.{◌≡◌, ◌≢◌, ◌⊎◌, ◌<◌, ◌≤◌, length, IfOk, IfSome, IsTrue};
+ghost use Rattle.std.specs.Prelude.{◌≡◌, ◌≢◌, ◌⊎◌, ◌<◌, ◌≤◌, ℕ, length, IfOk, IfSome, IsTrue};
 ghost use Rattle.bpf_verify.specs.Consistent.{IsConsistent};
 ghost use Rattle.bpf_note.specs.Regions.{HaveNoParts};
 ghost use Rattle.bpf_same.specs.Alone.{IsSameAlone};
@@ -51,6 +51,7 @@ fn findings_of(
     alloc: Global,
     new: &[Insn],
     shapes: &[MapShape],
+    old: &[Insn],
     witnesses: &[Witness],
     alone: bool,
 ) -> Result<Findings, AllocError>
@@ -59,6 +60,7 @@ fn findings_of(
     let mut notes = notes_of(alloc, new, shapes)?;
     let low = lowest_of(new, witnesses, notes.as_slice());
     let known = Known {
+        old,
         new,
         witnesses,
         notes: notes.as_slice(),
@@ -84,7 +86,7 @@ fn is_shown(
     ensures { IfOk result (λ yes. IsTrue yes → IsSame shapes.now old.now new.now) }
 {
     the_entry_describes_every_start();
-    let findings = findings_of(alloc, new, shapes, witnesses, false)?;
+    let findings = findings_of(alloc, new, shapes, old, witnesses, false)?;
     let simulation = Simulation {
         old,
         witnesses,
@@ -109,7 +111,7 @@ fn is_shown_alone(
     the_entry_describes_every_start();
     accepted_programs_end();
     let (insns, shapes) = (new.insns(), new.shapes());
-    let findings = findings_of(alloc, insns, shapes, witnesses, true)?;
+    let findings = findings_of(alloc, insns, shapes, old, witnesses, true)?;
     let simulation = Simulation {
         old,
         witnesses,
@@ -128,19 +130,20 @@ fn obstacle_to(
     shapes: &[MapShape],
     old: &[Insn],
     witnesses: &[Witness],
+    alone: bool,
 ) -> Result<Option<Obstacle>, AllocError>
     requires short { length old.now ≤ 4096 }
     requires few { length new.now ≤ 4096 }
     ensures { IfOk result (λ o. IfSome o (λ b. b.slot < length new.now)) }
 {
-    let findings = findings_of(alloc, new, shapes, witnesses, false)?;
+    let findings = findings_of(alloc, new, shapes, old, witnesses, alone)?;
     let simulation = Simulation {
         old,
         witnesses,
         notes: findings.notes.as_slice(),
         relations: findings.found.relations.as_slice(),
         low: findings.low,
-        alone: false,
+        alone,
     };
     simulation.first_obstacle(alloc, new, shapes)
 }
@@ -280,6 +283,16 @@ pub fn compare(
     }
 }
 
+/// The obstacle at the later slot.
+fn later_of(one: Option<Obstacle>, other: Option<Obstacle>) -> Option<Obstacle>
+    ensures { (bound : ℕ) → IfSome one (λ b. b.slot < bound) → IfSome other (λ b. b.slot < bound) → IfSome result (λ b. b.slot < bound) }
+{
+    match (one, other) {
+        (Some(here), Some(there)) => Some(if there.slot < here.slot { here } else { there }),
+        (found, None) | (None, found) => found,
+    }
+}
+
 /// The first slot of the new program that [`compare`] doesn't find to be simulated, if there is one: where `NotShown` comes from.
 pub fn first_obstacle(
     alloc: Global,
@@ -290,14 +303,13 @@ pub fn first_obstacle(
     ensures { IfOk result (λ o. IfSome o (λ b. b.slot < length new.now.code)) }
 {
     let (insns, shapes, originals) = (new.insns(), new.shapes(), old.insns());
-    if let Some(fusion) = fusion_of(alloc, originals, insns, witnesses)? {
-        let code = fusion.code.as_slice();
-        if code.len() <= originals.len() {
-            let found = obstacle_to(alloc, insns, shapes, code, witnesses)?;
-            if found.is_some() {
-                return Ok(found);
-            }
+    let alone = obstacle_to(alloc, insns, shapes, originals, witnesses, true)?;
+    match fusion_of(alloc, originals, insns, witnesses)? {
+        Some(fusion) if fusion.code.as_slice().len() <= originals.len() => {
+            let code = fusion.code.as_slice();
+            let counted = obstacle_to(alloc, insns, shapes, code, witnesses, false)?;
+            Ok(later_of(alone, counted))
         }
+        _ => Ok(alone),
     }
-    obstacle_to(alloc, insns, shapes, originals, witnesses)
 }

@@ -13,7 +13,7 @@ ghost use Rattle.bpf_same.specs.Stepped.{IsOwnStep};
 use crate::access::{is_own_step, reads_alike};
 use crate::at_slot::{insn_at, is_at, relation_at, witness_at};
 use crate::content::is_added_store;
-use crate::decide::decided;
+use crate::decide::{decided, is_never_reached};
 use crate::equal::is_exit;
 use crate::jump::{is_branch, same_target};
 use crate::relation::Relation;
@@ -42,7 +42,7 @@ pub(crate) struct Simulation<'a> {
 }
 
 /// The slot after a silent step: a jump whose way is decided.
-fn silent_target(insn: Insn, relation: &Relation, note: &Note, at: u32) -> Option<u32>
+pub(crate) fn silent_target(insn: Insn, relation: &Relation, note: &Note, at: u32) -> Option<u32>
     requires { at < 4096 }
     ensures { (low : ℕ) → IfSome result (IsSilent insn relation.now low (facts note.now) at) }
 {
@@ -89,6 +89,9 @@ pub(crate) fn is_covered(notes: &[Box<Note>], note: &Note) -> bool
 pub(crate) fn is_ruled_out(insn: Insn, relation: &Relation, note: &Note, way: bool) -> bool
     ensures { IsTrue result → IsDecided insn relation.now (facts note.now) (not way) }
 {
+    if is_never_reached(insn, relation, note) {
+        return true;
+    }
     let Some(is_taken) = decided(insn, relation, note) else {
         return false;
     };
@@ -177,11 +180,32 @@ impl Simulation<'_> {
     }
 
     /// Returns whether the next slot's relation holds after the step, and the old program reaches its witness silently.
-    fn establishes(&self, before: &Point, stutters: bool, from: u32, there: &Successor) -> bool
+    fn establishes_silently(
+        &self,
+        before: &Point,
+        stutters: bool,
+        from: u32,
+        there: &Successor,
+    ) -> bool
         requires { length self.now.old.now ≤ 4096 }
         ensures { IsTrue result → Establishes (candidate_of self.now) before.now.insn stutters before.now.relation.now (facts there.now.note.value) from there.now.pc }
     {
         self.preserves(before, stutters, there) && self.simulates_from(from, there.pc, &there.note)
+    }
+
+    /// Returns whether after the step the old program, silently or by what it does alone, reaches the witness of the next slot.
+    pub(crate) fn establishes(
+        &self,
+        before: &Point,
+        stutters: bool,
+        from: u32,
+        there: &Successor,
+    ) -> bool
+        requires { length self.now.old.now ≤ 4096 }
+        ensures { IsTrue result → Establishes (candidate_of self.now) before.now.insn stutters before.now.relation.now (facts there.now.note.value) from there.now.pc }
+    {
+        self.establishes_silently(before, stutters, from, there)
+            || self.establishes_alone(before, stutters, from, there)
     }
 
     fn establishes_at(&self, before: &Point, from: Option<u32>, there: &Successor) -> bool
@@ -281,7 +305,7 @@ impl Simulation<'_> {
     }
 
     /// Returns whether the old program, alone, stores to a counter what an instruction of the new one adds to it.
-    fn is_stored_sum(&self, before: &Point) -> bool
+    pub(crate) fn is_stored_sum(&self, before: &Point) -> bool
         ensures { IsTrue result → IsStoredSum (candidate_of self.now) before.now.witness.at before.now.insn before.now.relation.now }
     {
         let Some(old) = insn_at(self.old, before.witness.at) else {
@@ -291,7 +315,7 @@ impl Simulation<'_> {
     }
 
     /// Returns whether an instruction of the new program's own is one in which the old program may stutter.
-    fn is_stutter(&self, before: &Point) -> bool
+    pub(crate) fn is_stutter(&self, before: &Point) -> bool
         ensures { IsTrue result → IsOwnStep before.now.insn self.now.low (facts before.now.note.now) ⊎ IsOwnLoad (candidate_of self.now) before.now.insn }
     {
         is_own_step(before.insn, before.note, self.low) || self.is_own_load(before.insn)

@@ -6,7 +6,7 @@ ghost use Rattle.bpf_same.specs.Decided.{not_taken, on_way, opposed};
 use bpf_insn::{Condition, Insn, Operand, Register};
 
 /// A jump of which nothing is known.
-const UNKNOWN: Insn = Insn::Ja {
+pub(crate) const UNKNOWN: Insn = Insn::Ja {
     wide_offset: false,
     to: 0,
 };

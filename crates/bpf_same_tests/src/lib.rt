@@ -3,7 +3,8 @@
 //! - `pairs`: what a comparison answers of a pair of programs in hex
 //! - `tests`: pairs with the `same` runs; with other numbers of slots alone (`renumbered`); with the same by `counts`, and those of which a count is used otherwise (`counts_used`) or
 //!   stands apart (`counts_apart`); pairs of both kinds by `ranges`; and pairs that differ by `jumps`, by what the new program has of
-//!   its `own`, by the `stack`, or by guards and counters (`ends`); and where a comparison stops (`obstacles`)
+//!   its `own`, by the `stack`, or by guards and counters (`ends`); pairs of which the old program adds alone until it has `caught` up;
+//!   and where a comparison stops (`obstacles`)
 #![tactic(auto)]
 
 pub mod pairs;

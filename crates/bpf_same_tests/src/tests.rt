@@ -1,5 +1,6 @@
 //! Pairs of programs.
 mod alone;
+mod caught;
 mod constants;
 mod counts;
 mod counts_apart;
@@ -9,6 +10,7 @@ mod jumps;
 mod moved;
 mod obstacles;
 mod own;
+mod products;
 mod ranges;
 mod renumbered;
 mod rooms;
