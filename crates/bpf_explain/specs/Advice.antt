@@ -36,7 +36,7 @@ cause_advice MayBeNull = codes "compare the lookup's result with 0 first; the ch
 cause_advice MapAccess = codes "load or atomically add eight bytes at 8*j of a value, j below its number of counters"
 cause_advice Helper = codes "call 1, the map lookup: it is the one helper"
 cause_advice MapNumber = codes "the number of a map of the settings, or a relocation"
-cause_advice Argument = codes "a wide load of a map in r1, and in r2 the address of a key of four stored bytes"
+cause_advice Argument = codes "a wide load of a map in r1, and in r2 the address of a stored key"
 cause_advice Unsupported = codes "other instructions: this profile leaves this one out"
 
 -- V9: an access through the packet's end, or through a number

@@ -38,8 +38,7 @@ pub(crate) fn cause_advice(cause: Cause) -> &'static str
             "load or atomically add eight bytes at 8*j of a value, j below its number of counters",
         Cause::Helper => "call 1, the map lookup: it is the one helper",
         Cause::MapNumber => "the number of a map of the settings, or a relocation",
-        Cause::Argument =>
-            "a wide load of a map in r1, and in r2 the address of a key of four stored bytes",
+        Cause::Argument => "a wide load of a map in r1, and in r2 the address of a stored key",
         Cause::Unsupported => "other instructions: this profile leaves this one out",
     }
 }

@@ -112,7 +112,7 @@ const ALONE: [(Cause, &str); 11] = [
     (Cause::MapNumber, "the number of a map of the settings, or a relocation"),
     (Cause::Unsupported, "other instructions: this profile leaves this one out"),
     (Cause::MapAccess, "load or atomically add eight bytes at 8*j of a value, j below its number of counters"),
-    (Cause::Argument, "a wide load of a map in r1, and in r2 the address of a key of four stored bytes"),
+    (Cause::Argument, "a wide load of a map in r1, and in r2 the address of a stored key"),
 ];
 
 #[test]
