@@ -1,5 +1,5 @@
 -- What a row counts of one turn more, and of its answer.
-use Rattle.std.proofs.Common.{◌≡◌, ◌∙◌, ◌+◌, ◌≤◌, List, ◌∷◌, None, Some, length, ap, sym, subst, refl, arith}
+use Rattle.std.proofs.Common.{◌≡◌, ◌∙◌, ◌+◌, ◌≤◌, List, ◌∷◌, None, Some, length, ap, sym, refl, arith}
 use Rattle.std.specs.Prelude.{Bool, true, false, cond, count_by}
 use Rattle.std.proofs.lemmas.List.Sums.{count_by-le-length, sum_by-cons}
 use Rattle.xen_turns.specs.Turned.{Turned, Idle, Ran, Refused, Halted, Shows}
@@ -130,6 +130,9 @@ counts_answer u (delivery.Halted cause) rs row is =
     as_before u d rs row (record row { halted = Some cause }) is refl refl refl (untold u d rs row is refl refl refl)
 counts_answer u delivery.NoFrame rs row is =
     let d = delivery.NoFrame in
+    as_before u d rs row row is refl refl (ap (λ (r : BackRow). r.halted) is) (untold u d rs row is refl refl refl)
+counts_answer u delivery.NotAccepted rs row is =
+    let d = delivery.NotAccepted in
     as_before u d rs row row is refl refl (ap (λ (r : BackRow). r.halted) is) (untold u d rs row is refl refl refl)
 
 -- a row counts no more than there are rounds

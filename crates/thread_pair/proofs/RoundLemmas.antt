@@ -2,6 +2,7 @@
 use Rattle.std.proofs.Common.{◌≡◌, ◌∙◌, List, [], Option, None, Some, sym, subst, ℕ}
 use Rattle.bpf_note.specs.declared.op.Op.{Op}
 use Rattle.xen_back.specs.Delivered.{IsDelivered}
+use Rattle.xen_netif.specs.declared.offload.RxOffload.TheVariants.{Whole}
 use Rattle.xen_turns.specs.Delivered.{IsDelivery}
 use Rattle.xen_back.specs.Drive.{IsTurnOver}
 use Rattle.xen_back.specs.Queues.{state_of}
@@ -39,14 +40,14 @@ silent_round log gives h old new row row' n slots bus bus' ops ops' s o counts g
 
 pub answered_round : {S : Type 0} (log : S → Option (List Access)) (gives : S → Access → S → Type 0) (h : Host) (old mid new : Queue) (row told row' : BackRow) (n : Next) (slots : ℕ) (bus between bus' : S) (ops ops' : List Op) (s : Turn)
     (packet : List ℕ) (d : Delivery) → IsTurnOver log gives old mid s bus between ops ops' → told ≡ with_turn s row → n ≡ next_of s → slots ≡ slots_in s → shown_reply h s ≡ Some packet →
-    IsDelivered log gives mid new packet d between bus' → row' ≡ with_delivery d told → IsRoundOver log gives h old new row row' n slots bus bus' ops ops'
+    IsDelivered log gives mid new Whole packet d between bus' → row' ≡ with_delivery d told → IsRoundOver log gives h old new row row' n slots bus bus' ops ops'
 answered_round log gives h old mid new row told row' n slots bus between bus' ops ops' s packet d o counts goes done some sent noted = record {
   trace = o.trace;
   sending = sent.trace;
   turned = o.turned;
   sent = Some d;
   is_round = answered o.trace sent.trace (state_of mid) (state_of new) o.turned packet d o.is_turn (sym (reply_shown h o.turned s o.shows) ∙ some)
-      (subst (λ (w : Wiring). IsDelivery w (state_of mid) packet sent.trace (state_of new) d) o.same.wiring sent.is_delivery);
+      (subst (λ (w : Wiring). IsDelivery w (state_of mid) Whole packet sent.trace (state_of new) d) o.same.wiring sent.is_delivery);
   performed = performs_then log gives bus between bus' (accesses o.trace) (accesses sent.trace) o.performed sent.performed;
   grown = o.grown;
   counts = λ rs is. noted ∙ counts_answer o.turned d rs told (counts ∙ counts_more o.turned rs s row o.shows is);

@@ -21,6 +21,7 @@ promised_number h = (promised h).number
 abbrev pub promised_task : Child → Task
 promised_task h = record {
   program = h.promise.program.value;
+  lists = h.promise.lists.value.items;
   queues = h.promise.queues;
   ifindex = h.promise.ifindex;
   start = h.promise.start;

@@ -10,8 +10,8 @@ use Rattle.thread_pair.specs.declared.resources.BackResources.{BackResources}
 use Rattle.thread_pair.specs.declared.resources.FrontResources.{FrontResources}
 
 -- The number of a back's seat.
-abbrev pub number_of : BackResources → ℕ
-number_of k = k.seat.number
+abbrev pub seat_number : BackResources → ℕ
+seat_number k = k.seat.number
 
 -- The n numbers below n, the greatest first.
 abbrev pub falling : ℕ → List ℕ

@@ -2,6 +2,7 @@
 -- Rounds of a back: a turn, and the host's answer to its packet. And what a row counts of them.
 use Rattle.std.specs.Prelude.{ℕ, ◌≡◌, ◌<◌, ◌+◌, Bool, true, false, List, [], ◌∷◌, ◌++◌, count_by, Option, Some, None}
 use Rattle.bpf_note.specs.declared.op.Op.{Op}
+use Rattle.xen_netif.specs.declared.offload.RxOffload.TheVariants.{Whole}
 use Rattle.xen_turns.specs.Delivered.{IsDelivery}
 use Rattle.xen_turns.specs.Drive.{labels}
 use Rattle.xen_back.specs.Queues.{IsReady, IsSameWiring, state_of, wiring_of}
@@ -36,7 +37,7 @@ pub data IsRound (h : Host) (w : Wiring) (s : State) : List Event → List Event
   silent : (t : List Event) (end : State) (u : Turned) → IsTurn w s t end u → reply h u ≡ None → IsRound h w s t [] end u None
   answered : (t p : List Event) (mid end : State) (u : Turned) (packet : List ℕ) (d : Delivery) → IsTurn w s t mid u →
       reply h u ≡ Some packet →
-      IsDelivery w mid packet p end d → IsRound h w s t p end u (Some d)
+      IsDelivery w mid Whole packet p end d → IsRound h w s t p end u (Some d)
 
 -- A turn that found nothing to do, or the queue halted.
 abbrev pub IsRest : Turned → Type 0
@@ -141,10 +142,11 @@ with_delivery delivery.FewSlots r = record r { deliveries = record r.deliveries 
 with_delivery (delivery.Refused slots) r = record r { deliveries = record r.deliveries { refused = r.deliveries.refused + 1 } }
 with_delivery (delivery.Halted cause) r = record r { halted = Some cause }
 with_delivery delivery.NoFrame r = r
+with_delivery delivery.NotAccepted r = r
 
 -- Each count can grow.
-abbrev pub HasRoom : Deliveries → Type 0
-HasRoom d = (d.sent < 4294967295) × (d.few < 4294967295) × (d.refused < 4294967295)
+abbrev pub CanCount : Deliveries → Type 0
+CanCount d = (d.sent < 4294967295) × (d.few < 4294967295) × (d.refused < 4294967295)
 
 -- A round is over: its traces are a round's, the bus went through its accesses, its labels are what the seat's operations grew by,
 -- the row counts it, and its turn says what comes next and how many slots are done with.

@@ -1,10 +1,11 @@
 -- Stated: claims rest on this file.
 -- What a back thread does: rounds of its queue, one after another.
 use Rattle.std.specs.Prelude.{ℕ, ◌≡◌, ◌≤◌, ◌+◌, ◌*◌, ◌⊎◌, List, [], ◌∷◌, ◌++◌, length, map, Option}
+use Rattle.bpf_lists.specs.declared.list.MapList.{MapList}
 use Rattle.bpf_note.specs.declared.op.Op.{Op}
 use Rattle.bpf_verify.specs.Consistent.{Accepted}
 use Rattle.bpf_maps.specs.Seats.{SeatView}
-use Rattle.xdp_load.specs.declared.setup.Setup.{Setup}
+use Rattle.xdp_load.specs.declared.listed.Listed.{Listed}
 use Rattle.xdp_world.specs.Core.{started_at}
 use Rattle.xdp_world.specs.Frames.{frame_of, owners_of, table_frames}
 use Rattle.xen_turns.specs.Drive.{labels}
@@ -21,31 +22,40 @@ use Rattle.thread_pair.specs.declared.host.Host.{Host}
 use Rattle.thread_pair.specs.declared.report.BackRow.{BackRow}
 use Rattle.thread_pair.specs.declared.shared.Shared.{Shared}
 
--- What all backs have in common: their program, how many queues there are, the interface's number, the index at which rings begin, and what
--- the host does.
+-- What all backs have in common: their program, the lists of its maps, how many queues there are, the interface's number, the index at which
+-- rings begin, and what the host does.
 pub record Task : Type 0 where
   pub program : Accepted
+  pub lists : List (Option MapList)
   pub queues : ℕ
   pub ifindex : ℕ
   pub start : ℕ
   pub host : Host
 
-abbrev pub task_of : Accepted → Shared → Task
-task_of program shared = record {
+abbrev pub task_of : Accepted → List (Option MapList) → Shared → Task
+task_of program lists shared = record {
   program = program;
+  lists = lists;
   queues = shared.layout.queues;
   ifindex = shared.ifindex;
   start = shared.start;
   host = shared.host;
 }
 
--- The task that a setup gives, and what the host does.
-abbrev pub task_for : Accepted → Setup → Host → Task
-task_for program setup h = record { program = program; queues = setup.queues; ifindex = setup.ifindex; start = setup.start; host = h }
+-- The task that a setup with lists gives, and what the host does.
+abbrev pub task_for : Accepted → Listed → Host → Task
+task_for program listed h = record {
+  program = program;
+  lists = listed.lists.items;
+  queues = listed.setup.queues;
+  ifindex = listed.setup.ifindex;
+  start = listed.setup.start;
+  host = h;
+}
 
 -- The numbers that a setup's counters begin with.
-abbrev pub values_in : Setup → List (List ℕ)
-values_in setup = map (λ v. v.items) setup.values.items
+abbrev pub values_in : Listed → List (List ℕ)
+values_in listed = map (λ v. v.items) listed.setup.values.items
 
 -- The wiring of queue n: its rings lie in the pages that the references 514 n and 514 n + 1 grant.
 pub record IsWiredFor (task : Task) (n : ℕ) (w : Wiring) : Type 0 where
@@ -57,7 +67,7 @@ pub record IsWiredFor (task : Task) (n : ℕ) (w : Wiring) : Type 0 where
   pub user : w.vif.user ≡ 0
   pub port : w.vif.port ≡ 2 * n + 1
   pub program : w.program.now ≡ task.program
-  pub lists : w.lists.now ≡ []
+  pub lists : w.lists.now ≡ task.lists
   pub ifindex : w.ifindex ≡ task.ifindex
   pub number : w.queue ≡ n
 

@@ -16,15 +16,17 @@ use crate::report::BackRow;
 use crate::resources::BackResources;
 use crate::round::{Round, drive_round};
 use crate::shared::Shared;
+use bpf_lists::MapList;
 use bpf_maps::{CounterSeat, Counters};
 use bpf_verify::Verified;
 use bpf_vm::Buffer;
 use std::snapshot::Snapshot;
 use std::sync::Wait;
 use std::thread::{Promise, PromisedHandle};
+use xdp_load::Listed;
 use xdp_world::{BACK, FRONT};
 use xen_back::{Queue, QueueDesc};
-use xen_netif::NO_OFFERS;
+use xen_netif::{ACCEPTS_WHOLE, NO_OFFERS};
 use xen_page::{Bus, Mapped};
 use xen_ring::Port;
 
@@ -41,6 +43,7 @@ pub(crate) struct BackDone {
 pub(crate) struct SeatBack {
     pub seat: Snapshot<CounterSeat>,
     pub program: Snapshot<Verified>,
+    pub lists: Snapshot<Vec<Option<MapList>>>,
     pub queues: usize,
     pub ifindex: u32,
     pub start: u32,
@@ -49,9 +52,16 @@ pub(crate) struct SeatBack {
 }
 
 impl SeatBack {
-    pub fn of(seat: &CounterSeat, program: &Verified, shared: &Shared, turns: u32) -> SeatBack
+    pub fn of(
+        seat: &CounterSeat,
+        program: &Verified,
+        listed: &Listed,
+        shared: &Shared,
+        turns: u32,
+    ) -> SeatBack
         ensures seat { result.seat.value ≡ seat.now }
         ensures program { result.program.value ≡ program.now }
+        ensures lists { result.lists.value ≡ listed.now.lists }
         ensures queues { result.queues ≡ shared.now.layout.queues }
         ensures numbers { (result.ifindex ≡ shared.now.ifindex) × (result.start ≡ shared.now.start) × (result.turns ≡ turns) }
         ensures host { result.host ≡ shared.now.host }
@@ -59,6 +69,7 @@ impl SeatBack {
         SeatBack {
             seat: Snapshot::of(seat),
             program: Snapshot::of(program),
+            lists: Snapshot::of(&listed.lists),
             queues: shared.lanes.len(),
             ifindex: shared.ifindex,
             start: shared.start,
@@ -71,7 +82,7 @@ impl SeatBack {
 impl Promise<BackDone> for SeatBack {
     ghost kept_by = { λ p d. (d.seat.table ≡ p.seat.value.table) × (d.seat.shapes ≡ p.seat.value.shapes) ×
         (d.seat.begin ≡ p.seat.value.begin) × (d.seat.number ≡ p.seat.value.number)
-        × IsWork (record { program = p.program.value; queues = p.queues; ifindex = p.ifindex; start = p.start; host = p.host })
+        × IsWork (record { program = p.program.value; lists = p.lists.value.items; queues = p.queues; ifindex = p.ifindex; start = p.start; host = p.host })
         p.turns d.row d.seat };
 }
 
@@ -81,6 +92,7 @@ pub(crate) type BackThread = PromisedHandle<BackDone, SeatBack>;
 /// A queue before its first turn, over these rings. Its packets lie in the room.
 fn make_queue<'p, 'b>(
     program: &'p Verified,
+    lists: &'p [Option<MapList>],
     shared: &'p Shared,
     number: usize,
     tx: Mapped,
@@ -92,7 +104,7 @@ fn make_queue<'p, 'b>(
     requires rx { IsMappedBy (owners_of shared.now.layout.queues) 1 rx × (rx.rights ≡ ReadWrite) }
     requires frames { (tx.frame ≡ frame_of (514 * number)) × (rx.frame ≡ frame_of (514 * number + 1)) }
     ensures ready { IsReady result }
-    ensures wired { IsWiredFor (task_of program.now shared.now) number (wiring_of result) }
+    ensures wired { IsWiredFor (task_of program.now lists.now shared.now) number (wiring_of result) }
     ensures start { state_of result ≡ started_at shared.now.start }
     ensures rings { (tx_ring_of result ≡ tx) × (rx_ring_of result ≡ rx) }
 {
@@ -110,9 +122,10 @@ fn make_queue<'p, 'b>(
         queue: number as u32,
         port,
         offers: NO_OFFERS,
+        accepts: ACCEPTS_WHOLE,
         start: shared.start,
     };
-    Queue::make(program, &[], desc, room)
+    Queue::make(program, lists, desc, room)
 }
 
 /// Drives turns until the front has ended and a later turn is idle, or `turns` turns are done, or the queue has halted,
@@ -122,6 +135,7 @@ pub(crate) fn work_back<R: Wait, G: Gate, B: Bus>(
     gate: &G,
     turns: u32,
     program: &Verified,
+    lists: &[Option<MapList>],
     shared: &Shared,
     counters: &Counters,
     bus: &mut B,
@@ -132,7 +146,7 @@ pub(crate) fn work_back<R: Wait, G: Gate, B: Bus>(
     requires size { B.size bus.old ≡ length (owners_of shared.now.layout.queues) }
     ensures own { IsSeatOf counters.entry.now result.seat }
     ensures number { result.seat.number ≡ own.seat.number }
-    ensures work { IsWorkOver B.log B.access_gives (task_of program.now shared.now) turns result.row result.seat bus.old bus.new }
+    ensures work { IsWorkOver B.log B.access_gives (task_of program.now lists.now shared.now) turns result.row result.seat bus.old bus.new }
 {
     let BackResources {
         queue: number,
@@ -144,7 +158,7 @@ pub(crate) fn work_back<R: Wait, G: Gate, B: Bus>(
         mut seat,
     } = own;
     let lane = &shared.lanes[number];
-    let mut queue = make_queue(program, shared, number, tx, rx, &mut room);
+    let mut queue = make_queue(program, lists, shared, number, tx, rx, &mut room);
     let mut row = BackRow::new();
     for done in 0..turns {
         let last = lane.has_front_ended();

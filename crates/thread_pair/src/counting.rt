@@ -1,6 +1,6 @@
 //! What a back's row counts.
 ghost use Rattle.std.specs.Prelude.{◌≡◌, ◌<◌, ◌*◌, []};
-ghost use Rattle.thread_pair.specs.Rounds.{HasRoom, counted, next_of, with_delivery, with_turn};
+ghost use Rattle.thread_pair.specs.Rounds.{CanCount, counted, next_of, with_delivery, with_turn};
 
 use crate::next::Next;
 use crate::report::{BackRow, Deliveries};
@@ -44,7 +44,7 @@ impl BackRow {
 
     /// Counts what became of an answer. There is none of fewer than 14 bytes, or of more than 65,535.
     pub fn note(&mut self, delivery: Delivery)
-        requires room { HasRoom self.old.deliveries }
+        requires room { CanCount self.old.deliveries }
         ensures { self.new ≡ with_delivery delivery self.old }
     {
         match delivery {
@@ -52,7 +52,7 @@ impl BackRow {
             Delivery::FewSlots => self.deliveries.few += 1,
             Delivery::Refused { .. } => self.deliveries.refused += 1,
             Delivery::Halted { cause } => self.halted = Some(cause),
-            Delivery::NoFrame => (),
+            Delivery::NoFrame | Delivery::NotAccepted => (),
         }
     }
 }

@@ -135,7 +135,7 @@ fn poll<B: Bus, I: Inbox>(
         return Polled::Ended;
     }
     match front.drive_front(bus, ports) {
-        RxTurn::Packet(bytes) => {
+        RxTurn::Packet { bytes, .. } => {
             inbox.take(desk.queue, bytes);
             desk.row.received = desk.row.received.saturating_add(1);
             Polled::Packet

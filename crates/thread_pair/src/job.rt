@@ -2,13 +2,13 @@
 
 use crate::shared::Shared;
 use bpf_verify::Verified;
-use xdp_load::Setup;
+use xdp_load::Listed;
 
 /// What the threads of a run work on, and who hears of it.
 #[derive(Drop)]
 pub struct Job<'a, G, I> {
-    /// The queues and the packets that each front sends.
-    pub setup: &'a Setup,
+    /// The queues, the packets that each front sends, and the lists of the program's maps.
+    pub listed: &'a Listed,
     pub program: &'a Verified,
     /// The most turns that a back makes.
     pub turns: u32,

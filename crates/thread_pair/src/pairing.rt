@@ -2,9 +2,9 @@
 ghost use Rattle.std.specs.Prelude.{◌≡◌, ◌<◌, ◌≤◌, ℕ, All, Contains, map, vec_len, IfOk};
 ghost use Rattle.std.specs.Thread.{IsSync};
 ghost use Rattle.bpf_maps.specs.Seats.{IsSeatOf};
-ghost use Rattle.xdp_load.specs.SetupSeen.{setup_view};
-ghost use Rattle.xdp_load.specs.Sound.{IsSound};
-ghost use Rattle.thread_pair.specs.Resources.{IsBackOf, IsFrontOf, falling, number_of};
+ghost use Rattle.xdp_load.specs.ListedGiven.{listed_view};
+ghost use Rattle.xdp_load.specs.ListedSound.{IsListedSound};
+ghost use Rattle.thread_pair.specs.Resources.{IsBackOf, IsFrontOf, falling, seat_number};
 ghost use Rattle.thread_pair.specs.Leaving.{AreLeft, HasWorked};
 ghost use Rattle.thread_pair.specs.Working.{task_for, task_of, values_in};
 
@@ -24,7 +24,7 @@ use std::alloc::Global;
 use std::sync::Wait;
 use std::thread;
 use std::thread::Threads;
-use xdp_load::Setup;
+use xdp_load::Listed;
 
 /// The bytes of a front thread's stack.
 pub const STACK: usize = 0x10_0000;
@@ -40,11 +40,12 @@ fn run_all<R: Threads + Wait + Sync, G: Gate + Sync, I: Inbox + Sync>(
 ) -> Result<(Vec<CounterSeat>, Vec<PairRow>), PairFault>
     requires backs { All (IsBackOf counters.now job.now.shared.now.layout.queues) backs.items }
     requires fronts { All (IsFrontOf job.now.shared.now.layout.queues) fronts.items }
-    requires numbers { map number_of backs.items ≡ falling (vec_len backs) }
+    requires numbers { map seat_number backs.items ≡ falling (vec_len backs) }
     requires count { vec_len fronts ≡ vec_len backs }
     requires shapes { counters.now.shapes ≡ job.now.program.now.shapes }
     ensures { IfOk result (λ v. All (IsSeatOf counters.entry.now) v.0.items ×
-        All (HasWorked (task_of job.entry.now.program.now job.entry.now.shared.now) job.entry.now.turns v.1.items) v.0.items ×
+        All (HasWorked (task_of job.entry.now.program.now job.entry.now.listed.now.lists.items job.entry.now.shared.now)
+        job.entry.now.turns v.1.items) v.0.items ×
         ((q : ℕ) → q < vec_len backs → Contains (map (λ s. s.number) v.0.items) q) × (vec_len v.1 ≡ vec_len backs)) }
 {
     let mut rows = empty_rows(alloc, backs.len())?;
@@ -54,10 +55,11 @@ fn run_all<R: Threads + Wait + Sync, G: Gate + Sync, I: Inbox + Sync>(
         |scope| -> Result<(Vec<CounterSeat>, Vec<PairRow>), PairFault>
             requires { IsSync R.row × IsSync G.row × IsSync I.row ×
                 All (IsBackOf counters.now job.now.shared.now.layout.queues) backs.items ×
-                All (IsFrontOf job.now.shared.now.layout.queues) fronts.items × (map number_of backs.items ≡ falling (vec_len backs)) ×
+                All (IsFrontOf job.now.shared.now.layout.queues) fronts.items × (map seat_number backs.items ≡ falling (vec_len backs)) ×
                 (vec_len backs ≡ vec_len rows) × (vec_len fronts ≡ vec_len rows) × (counters.now.shapes ≡ job.now.program.now.shapes) }
             ensures { IfOk result (λ v. All (IsSeatOf counters.entry.now) v.0.items ×
-                All (HasWorked (task_of job.entry.now.program.now job.entry.now.shared.now) job.entry.now.turns v.1.items) v.0.items ×
+                All (HasWorked (task_of job.entry.now.program.now job.entry.now.listed.now.lists.items job.entry.now.shared.now)
+                job.entry.now.turns v.1.items) v.0.items ×
                 ((q : ℕ) → q < vec_len rows → Contains (map (λ s. s.number) v.0.items) q) × (vec_len v.1 ≡ vec_len rows)) }
         {
             let started_backs = Vec::with_capacity(alloc, backs.len())?;
@@ -83,16 +85,18 @@ pub fn pair_over<R: Threads + Wait + Sync, G: Gate + Sync, I: Inbox + Sync>(
     job: &Job<'_, G, I>,
     parkers: Parkers,
 ) -> Result<PairReport, PairFault>
-    requires queues { (1 ≤ job.now.setup.now.queues) × (job.now.setup.now.queues ≤ 8) }
-    requires shared { job.now.shared.now.layout.queues ≡ job.now.setup.now.queues }
-    requires numbers { (job.now.shared.now.ifindex ≡ job.now.setup.now.ifindex) × (job.now.shared.now.start ≡ job.now.setup.now.start) }
-    requires parkers { (vec_len parkers.fronts ≡ job.now.setup.now.queues) × (vec_len parkers.backs ≡ job.now.setup.now.queues) }
-    ensures rows { IfOk result (λ r. vec_len r.rows ≡ job.now.setup.now.queues) }
+    requires queues { (1 ≤ job.now.listed.now.setup.queues) × (job.now.listed.now.setup.queues ≤ 8) }
+    requires shared { job.now.shared.now.layout.queues ≡ job.now.listed.now.setup.queues }
+    requires numbers { (job.now.shared.now.ifindex ≡ job.now.listed.now.setup.ifindex) × (job.now.shared.now.start ≡ job.now.listed.now.setup.start) }
+    requires parkers { (vec_len parkers.fronts ≡ job.now.listed.now.setup.queues) × (vec_len parkers.backs ≡ job.now.listed.now.setup.queues) }
+    ensures rows { IfOk result (λ r. vec_len r.rows ≡ job.now.listed.now.setup.queues) }
     ensures shapes { IfOk result (λ r. r.totals.shapes ≡ job.now.program.now.shapes) }
-    ensures account { IfOk result (λ r. AreLeft (task_for job.now.program.now job.now.setup.now job.now.shared.now.host) (values_in job.now.setup.now) job.now.turns r) }
+    ensures account { IfOk result (λ r. AreLeft (task_for job.now.program.now job.now.listed.now job.now.shared.now.host)
+        (values_in job.now.listed.now) job.now.turns r) }
 {
-    let queues = job.setup.queues;
-    let first = Totals::begin(alloc, job.program.shapes(), job.setup.values.as_slice())?;
+    let setup = &job.listed.setup;
+    let queues = setup.queues;
+    let first = Totals::begin(alloc, job.program.shapes(), setup.values.as_slice())?;
     let (counters, seats) = Counters::begin(alloc, first, queues)?;
     let backs = make_backs(alloc, job.shared, seats, parkers.backs)?;
     let pages = make_pages(alloc, queues)?;
@@ -105,8 +109,8 @@ pub fn pair_over<R: Threads + Wait + Sync, G: Gate + Sync, I: Inbox + Sync>(
 }
 
 /// Runs the setup's queues, a front thread and a back thread for each: the front sends the setup's packets, and the back
-/// drives at most `turns` turns of the program, and passes the gate before each. A host that answers packets has its answers
-/// delivered between turns. All threads have ended when it returns.
+/// drives at most `turns` turns of the program, with the setup's lists, and passes the gate before each. A host that answers
+/// packets has its answers delivered between turns. All threads have ended when it returns.
 ///
 /// # Errors
 ///
@@ -114,20 +118,20 @@ pub fn pair_over<R: Threads + Wait + Sync, G: Gate + Sync, I: Inbox + Sync>(
 pub fn pair_with<R: Threads + Wait + Sync, G: Gate + Sync>(
     rt: &R,
     alloc: Global,
-    setup: &Setup,
+    listed: &Listed,
     program: &Verified,
     host: Host,
     turns: u32,
     gate: &G,
 ) -> Result<PairReport, PairFault>
-    requires { IsSound (setup_view setup.now) }
-    ensures rows { IfOk result (λ r. vec_len r.rows ≡ setup.now.queues) }
+    requires { IsListedSound (listed_view listed.now) }
+    ensures rows { IfOk result (λ r. vec_len r.rows ≡ listed.now.setup.queues) }
     ensures shapes { IfOk result (λ r. r.totals.shapes ≡ program.now.shapes) }
-    ensures account { IfOk result (λ r. AreLeft (task_for program.now setup.now host) (values_in setup.now) turns r) }
+    ensures account { IfOk result (λ r. AreLeft (task_for program.now listed.now host) (values_in listed.now) turns r) }
 {
-    let (shared, parkers) = Shared::make(alloc, setup, host)?;
+    let (shared, parkers) = Shared::make(alloc, &listed.setup, host)?;
     let job = Job {
-        setup,
+        listed,
         program,
         turns,
         gate,

@@ -4,7 +4,7 @@ ghost use Rattle.bpf_maps.specs.Seats.{CountersView, new_seats};
 ghost use Rattle.xdp_world.specs.Frames.{frame_of, owners_of};
 ghost use Rattle.xdp_world.specs.Buffers.{granted_from};
 ghost use Rattle.xen_front.specs.Fronts.{state_of, wiring_of};
-ghost use Rattle.thread_pair.specs.Resources.{IsBackOf, IsFrontOf, falling, number_of};
+ghost use Rattle.thread_pair.specs.Resources.{IsBackOf, IsFrontOf, falling, seat_number};
 
 use crate::answer::Answer;
 use crate::fault::PairFault;
@@ -15,7 +15,7 @@ use bpf_vm::Buffer as PacketRoom;
 use crossbeam_utils::sync::Parker;
 use std::alloc::{AllocError, Global};
 use xdp_world::{BACK, REFERENCES, buffers_from};
-use xen_front::{Buffer, Front, FrontDesc};
+use xen_front::{ACCEPTS_WHOLE, Buffer, Front, FrontDesc};
 use xen_page::Mapped;
 use xen_ring::Port;
 
@@ -65,7 +65,7 @@ pub(crate) fn make_backs(
     requires seats { vec_len seats ≡ shared.now.layout.queues }
     requires parkers { vec_len parkers ≡ shared.now.layout.queues }
     ensures own { (c : CountersView) → seats.items ≡ new_seats c shared.now.layout.queues →
-        IfOk result (λ v. All (IsBackOf c shared.now.layout.queues) v.items × (map number_of v.items ≡ falling shared.now.layout.queues)) }
+        IfOk result (λ v. All (IsBackOf c shared.now.layout.queues) v.items × (map seat_number v.items ≡ falling shared.now.layout.queues)) }
     ensures count { IfOk result (λ v. vec_len v ≡ shared.now.layout.queues) }
 {
     let mut backs = Vec::with_capacity(alloc, seats.len())?;
@@ -136,7 +136,7 @@ fn make_front<'p>(
         port,
         start: shared.start,
     };
-    Front::make(alloc, desc)
+    Front::make(alloc, desc, ACCEPTS_WHOLE)
 }
 
 /// What each front is given.

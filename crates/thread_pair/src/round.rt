@@ -2,7 +2,7 @@
 ghost use Rattle.std.specs.Prelude.{◌≡◌, ◌<◌, ◌*◌, length};
 ghost use Rattle.bpf_maps.specs.Seats.{IsSeatOf};
 ghost use Rattle.xen_back.specs.Queues.{IsReady, wiring_of};
-ghost use Rattle.thread_pair.specs.Rounds.{HasRoom, IsRoundOver, slots_in};
+ghost use Rattle.thread_pair.specs.Rounds.{CanCount, IsRoundOver, slots_in};
 
 use crate::answer::Answer;
 use crate::next::Next;
@@ -10,6 +10,7 @@ use crate::report::BackRow;
 use crate::shared::Shared;
 use bpf_maps::{CounterSeat, Counters};
 use xen_back::{Queue, Turn};
+use xen_netif::RxOffload;
 use xen_page::Bus;
 
 /// What comes after a round, and how many tx slots it answered.
@@ -43,7 +44,7 @@ pub(crate) fn drive_round<B: Bus>(
     requires shapes { counters.now.shapes ≡ (wiring_of queue.old).program.now.shapes }
     requires seat { IsSeatOf counters.now seat.old }
     requires turns { (row.old.copied < 4294967295) × (row.old.refused < 4294967295) }
-    requires deliveries { HasRoom row.old.deliveries }
+    requires deliveries { CanCount row.old.deliveries }
     ensures size { B.size bus.new ≡ B.size bus.old }
     ensures seat { seat.new ≡ record seat.old { ops = seat.new.ops } }
     ensures over { IsRoundOver B.log B.access_gives shared.now.host queue.old queue.new row.old row.new result.next result.slots
@@ -55,7 +56,7 @@ pub(crate) fn drive_round<B: Bus>(
     if !answer.write(shared.host, &turn) {
         return Round { next, slots };
     }
-    let delivery = queue.deliver(answer.bytes(), bus, &shared.ports);
+    let delivery = queue.deliver(answer.bytes(), RxOffload::Whole, bus, &shared.ports);
     row.note(delivery);
     Round { next, slots }
 }

@@ -1,7 +1,7 @@
 //! Starting the threads.
 ghost use Rattle.std.specs.Prelude.{◌≡◌, [], All, map, ◌<◌, ◌≤◌, ◌+◌, vec_len, vec_capacity, IfOk};
 ghost use Rattle.std.specs.List.{range_with_len};
-ghost use Rattle.thread_pair.specs.Resources.{IsBackOf, IsFrontOf, falling, number_of};
+ghost use Rattle.thread_pair.specs.Resources.{IsBackOf, IsFrontOf, falling, seat_number};
 ghost use Rattle.thread_pair.specs.Promised.{PromisesSeatOf, promised_number};
 ghost use Rattle.bpf_maps.specs.Seats.{IsSeatOf};
 ghost use Rattle.thread_pair.specs.Working.{IsWork, task_of};
@@ -29,32 +29,36 @@ pub(crate) fn start_backs<'s, E, R: Wait + Sync, G: Gate + Sync, I: Sync>(
     mut backs: Vec<BackThread>,
 ) -> Result<Vec<BackThread>, AllEnd>
     requires resources { All (IsBackOf counters.now job.now.shared.now.layout.queues) resources.items }
-    requires numbers { map number_of resources.items ≡ falling (vec_len resources) }
+    requires numbers { map seat_number resources.items ≡ falling (vec_len resources) }
     requires shapes { counters.now.shapes ≡ job.now.program.now.shapes }
     requires room { (backs.items ≡ []) × (vec_len resources ≤ vec_capacity backs) }
     ensures count { IfOk result (λ v. vec_len v ≡ vec_len resources) }
-    ensures seats { IfOk result (λ v. All (PromisesSeatOf (task_of job.entry.now.program.now job.entry.now.shared.now) job.entry.now.turns
-        counters.entry.now) v.items) }
+    ensures seats { IfOk result (λ v. All (PromisesSeatOf (task_of job.entry.now.program.now job.entry.now.listed.now.lists.items job.entry.now.shared.now)
+        job.entry.now.turns counters.entry.now) v.items) }
     ensures numbers { IfOk result (λ v. map promised_number v.items ≡ range_with_len 0 (vec_len resources)) }
 {
     let Job {
+        listed,
         program,
         turns,
         gate,
         shared,
         ..
     } = *job;
+    let lists = listed.lists.as_slice();
     while let Some(own) = resources.pop() {
-        let promise = SeatBack::of(&own.seat, program, shared, turns);
+        let promise = SeatBack::of(&own.seat, program, listed, shared, turns);
         let Ok(back) = scope.spawn_with(
             promise,
             move || -> BackDone
                 requires { IsBackOf counters.now shared.now.layout.queues own × (counters.now.shapes ≡ program.now.shapes) }
                 ensures { IsSeatOf counters.entry.now result.seat × (result.seat.number ≡ own.seat.number) ×
-                    IsWork (task_of program.entry.now shared.entry.now) turns result.row result.seat }
+                    IsWork (task_of program.entry.now lists.entry.now shared.entry.now) turns result.row result.seat }
             {
                 let mut bus = PageBus::of(&shared.frames);
-                work_back(rt, gate, turns, program, shared, counters, &mut bus, own)
+                work_back(
+                    rt, gate, turns, program, lists, shared, counters, &mut bus, own,
+                )
             },
         ) else {
             return Err(shared.end_all());
@@ -78,13 +82,13 @@ pub(crate) fn start_fronts<'s, E, R: Wait + Sync, G: Sync, I: Inbox + Sync>(
     ensures count { IfOk result (λ v. vec_len v ≡ vec_len resources.entry) }
 {
     let Job {
-        setup,
+        listed,
         inbox,
         stack,
         shared,
         ..
     } = *job;
-    let packets = setup.packets.as_slice();
+    let packets = listed.setup.packets.as_slice();
     while let Some(own) = resources.pop() {
         let Ok(front) = Builder::new().stack_size(stack).spawn_scoped(
             scope,

@@ -1,12 +1,13 @@
 //! Setups and programs of the tests, and the memory that a run is over.
 ghost use Rattle.std.specs.Prelude.{◌≡◌, ◌≤◌, IfSome, length, vec_len};
+ghost use Rattle.bpf_note.specs.Shape.{most_maps};
 
 use bpf_insn::decode;
 use bpf_maps::MapShape;
 use bpf_verify::{Verified, verify};
 use std::alloc::{AllocError, Global};
 use thread_pair::{Deliveries, Host, PairRow, Parkers, Shared};
-use xdp_load::{Packet, Setup};
+use xdp_load::{Listed, Packet, Setup};
 use xen_page::{Bus, PageBus, Place};
 
 /// Adds the number of the queue and 1 to counter 1 of a map of two values, and passes the packet on. Its relocation is applied.
@@ -68,7 +69,7 @@ fn add_slots(alloc: Global, bytes: &mut Vec<u8>, slots: &[&str]) -> Option<()> {
 
 /// The accepted program of these bytes.
 pub fn accepted(alloc: Global, bytes: &[u8], shapes: &[MapShape]) -> Option<Verified>
-    requires { length shapes.now ≤ 4 }
+    requires { length shapes.now ≤ most_maps }
     ensures { IfSome result (λ v. v.shapes ≡ shapes.now) }
 {
     match decode(alloc, bytes) {
@@ -79,7 +80,7 @@ pub fn accepted(alloc: Global, bytes: &[u8], shapes: &[MapShape]) -> Option<Veri
 
 /// The accepted program of the hex texts of its slots.
 pub fn program(alloc: Global, slots: &[&str], shapes: &[MapShape]) -> Option<Verified>
-    requires { length shapes.now ≤ 4 }
+    requires { length shapes.now ≤ most_maps }
     ensures { IfSome result (λ v. v.shapes ≡ shapes.now) }
 {
     let mut bytes = Vec::new(alloc);
@@ -132,31 +133,33 @@ pub fn setup_of(alloc: Global, times: &[u32], start: u32) -> Option<Setup>
     }
 }
 
-/// What a run is over: a setup and its pages. Its threads' parkers are apart.
+/// What a run is over: a setup without lists, and its pages. Its threads' parkers are apart.
 #[derive(Drop)]
 pub struct Bench {
-    pub setup: Setup,
+    pub listed: Listed,
     pub shared: Shared,
-    ghost queues: { (1 ≤ setup.queues) × (setup.queues ≤ 8) },
-    ghost shared_queues: { shared.layout.queues ≡ setup.queues },
-    ghost numbers: { (shared.ifindex ≡ setup.ifindex) × (shared.start ≡ setup.start) },
+    ghost queues: { (1 ≤ listed.setup.queues) × (listed.setup.queues ≤ 8) },
+    ghost shared_queues: { shared.layout.queues ≡ listed.setup.queues },
+    ghost numbers: { (shared.ifindex ≡ listed.setup.ifindex) × (shared.start ≡ listed.setup.start) },
 }
 
 impl Bench {
     /// A bench whose host takes what it is passed.
     pub fn make(alloc: Global, setup: Setup) -> Option<(Bench, Parkers)>
         requires { (1 ≤ setup.queues) × (setup.queues ≤ 8) }
-        ensures { IfSome result (λ r. (vec_len r.1.fronts ≡ r.0.setup.queues) × (vec_len r.1.backs ≡ r.0.setup.queues)) }
+        ensures { IfSome result (λ r. (vec_len r.1.fronts ≡ r.0.listed.setup.queues) × (vec_len r.1.backs ≡ r.0.listed.setup.queues)) }
     {
         Bench::with_host(alloc, setup, Host::Takes)
     }
 
     pub fn with_host(alloc: Global, setup: Setup, host: Host) -> Option<(Bench, Parkers)>
         requires { (1 ≤ setup.queues) × (setup.queues ≤ 8) }
-        ensures { IfSome result (λ r. (vec_len r.1.fronts ≡ r.0.setup.queues) × (vec_len r.1.backs ≡ r.0.setup.queues)) }
+        ensures { IfSome result (λ r. (vec_len r.1.fronts ≡ r.0.listed.setup.queues) × (vec_len r.1.backs ≡ r.0.listed.setup.queues)) }
     {
-        match Shared::make(alloc, &setup, host) {
-            Ok((shared, parkers)) => Some((Bench { setup, shared }, parkers)),
+        let lists = Vec::new(alloc);
+        let listed = Listed { setup, lists };
+        match Shared::make(alloc, &listed.setup, host) {
+            Ok((shared, parkers)) => Some((Bench { listed, shared }, parkers)),
             Err(_) => None,
         }
     }

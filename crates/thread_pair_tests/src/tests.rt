@@ -4,6 +4,7 @@ mod counts;
 mod ending;
 mod fixtures;
 mod growth;
+mod lists;
 mod meeting;
 mod opening;
 mod resting;

@@ -5,8 +5,8 @@ use Rattle.std.proofs.lemmas.Bool.{false≢true}
 use Rattle.bpf_insn.specs.declared.register.Register.{Register}
 use Rattle.bpf_note.specs.Parts.{Noted}
 use Rattle.bpf_verify.specs.declared.verifier.Explained.{Explained}
-use Rattle.xdp_commands.specs.Explaining.{asked_of}
+use Rattle.xdp_commands.specs.Explaining.{lost_register}
 
-pub asked_has : (o : Option Noted) (e : Explained) (r : Register) (P : Type 0) → asked_of o e ≡ Some r → IfSome o (λ _. P) → P
+pub asked_has : (o : Option Noted) (e : Explained) (r : Register) (P : Type 0) → lost_register o e ≡ Some r → IfSome o (λ _. P) → P
 asked_has None e r P h held = absurd (false≢true (ap is_some h))
 asked_has (Some n) e r P h held = held

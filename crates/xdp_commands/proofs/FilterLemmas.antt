@@ -11,7 +11,7 @@ use Rattle.xdp_load.specs.SetupSeen.{packet_view}
 use Rattle.xdp_load.specs.Sound.{IsPacket}
 use Rattle.xdp_load.specs.declared.packets.Packet.{Packet as CodePacket}
 use Rattle.xdp_program.specs.Ran.{Ran}
-use Rattle.xdp_commands.specs.Filtering.{AreRuns, Goes, Passed, inputs_of, passed_lines, passed_text}
+use Rattle.xdp_commands.specs.Filtering.{AreRuns, HasFiltered, Passed, inputs_of, passed_lines, passed_text}
 
 runs_append : (program : Program) (lists : List (Option MapList)) (ifindex : ℕ) (ps qs : List Packet) (before between after : List ℕ) (rs ss : List Passed)
     → AreRuns program lists ifindex ps before rs between → AreRuns program lists ifindex qs between ss after → AreRuns program lists ifindex (ps ++ qs) before (rs ++ ss) after
@@ -27,7 +27,7 @@ lines_append (r ∷ rs) ss =
     ap (λ (xs : List ℕ). passed_text r ++ xs) (lines_append rs ss) ∙ sym (append_assoc (passed_text r) (passed_lines rs) (passed_lines ss))
 
 pub goes_on : (program : Program) (lists : List (Option MapList)) (ifindex : ℕ) (ps qs : List Packet) (before lines between more after all : List ℕ)
-    → Goes program lists ifindex ps before lines between more → Goes program lists ifindex qs between more after all → Goes program lists ifindex (ps ++ qs) before lines after all
+    → HasFiltered program lists ifindex ps before lines between more → HasFiltered program lists ifindex qs between more after all → HasFiltered program lists ifindex (ps ++ qs) before lines after all
 goes_on program lists ifindex ps qs before lines between more after all g h = record {
   runs = g.runs ++ h.runs;
   ran = runs_append program lists ifindex ps qs before between after g.runs h.runs g.ran h.ran;
@@ -35,13 +35,13 @@ goes_on program lists ifindex ps qs before lines between more after all g h = re
       ∙ ap (λ (xs : List ℕ). lines ++ xs) (sym (lines_append g.runs h.runs));
 }
 
-pub goes_nowhere : (program : Program) (lists : List (Option MapList)) (ifindex : ℕ) (words lines : List ℕ) → Goes program lists ifindex [] words lines words lines
+pub goes_nowhere : (program : Program) (lists : List (Option MapList)) (ifindex : ℕ) (words lines : List ℕ) → HasFiltered program lists ifindex [] words lines words lines
 goes_nowhere program lists ifindex words lines = record { runs = []; ran = refl; printed = sym (append-nil lines) }
 
 -- one run, with its line
 pub goes_once : (program : Program) (lists : List (Option MapList)) (ifindex : ℕ) (p : Packet) (before lines after more bytes line : List ℕ) (number count : ℕ)
     → Ran program lists p.bytes ifindex p.queue before number bytes after count → line ≡ passed_text (record { number = number; bytes = bytes }) → more ≡ lines ++ line
-    → Goes program lists ifindex (p ∷ []) before lines after more
+    → HasFiltered program lists ifindex (p ∷ []) before lines after more
 goes_once program lists ifindex p before lines after more bytes line number count ran is printed = record {
   runs = record { number = number; bytes = bytes } ∷ [];
   ran = (count, after, ran, refl);

@@ -10,7 +10,7 @@ use Rattle.xdp_load.specs.Listed.{ListedView}
 use Rattle.xdp_load.specs.Spot.{Refused as RefusedAt}
 use Rattle.xdp_load.specs.Spots.{IsSpotText}
 use Rattle.xdp_load.specs.Original.{IsRewritingFault, IsRewritingOf, RewrittenView}
-use Rattle.xdp_load.specs.Setup.{SetupView, setup_of, text_of}
+use Rattle.xdp_load.specs.Setup.{SetupView, text_of}
 use Rattle.xdp_load.specs.declared.fault.LoadFault.{LoadFault}
 use Rattle.xdp_load.specs.declared.fault.LoadFault.TheVariants.{Memory, Refused}
 use Rattle.xdp_program.specs.Settings.{IsFirstFault, IsSetupOf}
@@ -20,7 +20,7 @@ use Rattle.xdp_commands.specs.declared.answer.Question.TheVariants as question
 use Rattle.xdp_commands.specs.Comparing.{Compares, compared_status, compared_text}
 use Rattle.xdp_commands.specs.declared.comparing.Compared.{Compared}
 use Rattle.xdp_commands.specs.declared.executing.Accepted.{Accepted}
-use Rattle.xdp_commands.specs.Executing.{Checks, Executes, Runs}
+use Rattle.xdp_commands.specs.Executing.{Checks, Executes, RunsSetup}
 use Rattle.xdp_commands.specs.Explaining.{IsOutcome, outcome_status, outcome_text}
 use Rattle.xdp_commands.specs.declared.explaining.Outcome.{Outcome}
 use Rattle.xdp_commands.specs.Filtering.{Filters, filtered_text}
@@ -100,7 +100,7 @@ ran_answer names c = (ran_text names c, program_status c)
 
 -- the answer to a setup: by a run of its queues through its script, with its lists
 abbrev pub RunAnswer : ListedView → Said → Type 0
-RunAnswer x said = (c : Result Report Refusal) × Runs x c × (said ≡ ran_answer x.setup.names c)
+RunAnswer x said = (c : Result Report Refusal) × RunsSetup x c × (said ≡ ran_answer x.setup.names c)
 
 abbrev pub filtered_answer : SetupView → Result Filtered Refusal → Said
 filtered_answer s c = (filtered_text s.names s.shapes c, program_status c)
@@ -112,11 +112,11 @@ FilterAnswer x said = (c : Result Filtered Refusal) × Filters x c × (said ≡ 
 abbrev pub paired_answer : Host → List (List ℕ) → Paired → Said
 paired_answer h names p = (paired_text h names p, paired_status p)
 
--- the answer to a setup: by a run of its queues on threads, at most `turns` turns each, beside host h
-abbrev pub PairAnswer : ℕ → Host → SetupView → Said → Type 0
-PairAnswer turns h s said = (p : Paired) × IsPaired s turns h p × (said ≡ paired_answer h s.names p)
+-- the answer to a setup: by a run of its queues on threads, with its lists and at most `turns` turns each, beside host h
+abbrev pub PairAnswer : ℕ → Host → ListedView → Said → Type 0
+PairAnswer turns h x said = (p : Paired) × IsPaired x turns h p × (said ≡ paired_answer h x.setup.names p)
 
--- the answer to a setup with lists of which this is asked
+-- the answer to a setup of which this is asked
 abbrev pub AnswerTo : Question → ListedView → Said → Type 0
 AnswerTo question.Check x = SetupAnswer x.setup
 AnswerTo question.Explain x = ExplainAnswer x.setup
@@ -136,27 +136,18 @@ abbrev pub RefusedTo : Question → List ℕ → RefusedAt → Said → Type 0
 RefusedTo question.Explain = PlacedAnswer
 RefusedTo _ = RefusedAnswer
 
--- the answer to what settings spell: to a setup, or to their first fault
-abbrev pub SpelledAnswer : {A : Type 0} → (A → Said → Type 0) → (RefusedAt → Said → Type 0) → Result A RefusedAt → Said → Type 0
-SpelledAnswer answer refused (Ok s) said = answer s said
-SpelledAnswer answer refused (Err f) said = refused f said
-
 -- L0 if memory ran out while the settings, which are a text, were loaded
 abbrev pub MemoryAnswer : List ℕ → Said → Type 0
 MemoryAnswer settings said = (text_of settings ≢ None) × (said ≡ settings_refused Memory)
 
--- the answer to settings whose maps may have no lists
-abbrev pub SettingsAnswer : (SetupView → Said → Type 0) → List ℕ → Said → Type 0
-SettingsAnswer answer settings said = SpelledAnswer answer (RefusedAnswer settings) (setup_of settings) said ⊎ MemoryAnswer settings said
-
--- the answer to settings whose maps may have lists, of which this is asked: to their setup, or to their first fault
-abbrev pub ListedAnswer : Question → List ℕ → Said → Type 0
-ListedAnswer q settings said =
-    ((x : ListedView) × IsSetupOf settings x × AnswerTo q x said)
-    ⊎ (((r : RefusedAt) × IsFirstFault settings r × RefusedTo q settings r said)
+-- the answer to settings: to their setup, or to their first fault
+abbrev pub SettingsAnswer : (ListedView → Said → Type 0) → (List ℕ → RefusedAt → Said → Type 0) → List ℕ → Said → Type 0
+SettingsAnswer answer refused settings said =
+    ((x : ListedView) × IsSetupOf settings x × answer x said)
+    ⊎ (((r : RefusedAt) × IsFirstFault settings r × refused settings r said)
     ⊎ MemoryAnswer settings said)
 
--- the answer to settings with an original, whose maps may have lists: to both programs, or to their first fault
+-- the answer to settings with an original: to both programs, or to their first fault
 abbrev pub RewrittenAnswer : List ℕ → Said → Type 0
 RewrittenAnswer settings said =
     ((r : RewrittenView) × IsRewritingOf settings r × SameAnswer r said)
@@ -174,24 +165,24 @@ pub record IsSettings (old new : Option (List ℕ)) (settings : List ℕ) : Type
 abbrev pub InputSame : Option (List ℕ) → Option (List ℕ) → Said → Type 0
 InputSame old new said = (settings : List ℕ) × IsSettings old new settings × RewrittenAnswer settings said
 
--- the answer to the settings that a reader gives, whose maps may have no lists
-abbrev pub InputAnswer : (SetupView → Said → Type 0) → Option (List ℕ) → Option (List ℕ) → Said → Type 0
-InputAnswer answer old new said = (settings : List ℕ) × IsSettings old new settings × SettingsAnswer answer settings said
+-- the answer to the settings that a reader gives, of which this is asked
+abbrev pub InputAnswer : Question → Option (List ℕ) → Option (List ℕ) → Said → Type 0
+InputAnswer q old new said = (settings : List ℕ) × IsSettings old new settings × SettingsAnswer (AnswerTo q) (RefusedTo q) settings said
 
--- the answer to the settings that a reader gives, whose maps may have lists
-abbrev pub InputListed : Question → Option (List ℕ) → Option (List ℕ) → Said → Type 0
-InputListed q old new said = (settings : List ℕ) × IsSettings old new settings × ListedAnswer q settings said
+-- the answer to the settings that a reader gives: by a run of their queues on threads
+abbrev pub InputPair : ℕ → Host → Option (List ℕ) → Option (List ℕ) → Said → Type 0
+InputPair turns h old new said = (settings : List ℕ) × IsSettings old new settings × SettingsAnswer (PairAnswer turns h) RefusedAnswer settings said
 
 -- the answer to what the words ask for, over a reader before and after
 abbrev pub IsAnswer : Option Wanted → Option (List ℕ) → Option (List ℕ) → Said → Type 0
 IsAnswer None old new said = said ≡ words_refused
 IsAnswer (Some (exec program packet)) old new said = ExecAnswer program packet said
-IsAnswer (Some check) old new said = InputListed question.Check old new said
-IsAnswer (Some explain) old new said = InputListed question.Explain old new said
+IsAnswer (Some check) old new said = InputAnswer question.Check old new said
+IsAnswer (Some explain) old new said = InputAnswer question.Explain old new said
 IsAnswer (Some same) old new said = InputSame old new said
-IsAnswer (Some run) old new said = InputListed question.Run old new said
-IsAnswer (Some filter) old new said = InputListed question.Filter old new said
-IsAnswer (Some (pair turns h)) old new said = InputAnswer (PairAnswer turns h) old new said
+IsAnswer (Some run) old new said = InputAnswer question.Run old new said
+IsAnswer (Some filter) old new said = InputAnswer question.Filter old new said
+IsAnswer (Some (pair turns h)) old new said = InputPair turns h old new said
 IsAnswer (Some (help t)) old new said = said ≡ (help_lines t, 0)
 IsAnswer (Some version) old new said = said ≡ (version_line, 0)
 
@@ -200,30 +191,30 @@ abbrev pub TakesAtMost : ℕ → Option (List ℕ) → Option (List ℕ) → Typ
 TakesAtMost n old new = (taken : List ℕ) × Consumes old new taken × (length taken ≤ n)
 
 -- what a call does to its reader, whatever it answers: `exec`, `help` and `version` read nothing
-abbrev pub Takes : Option Wanted → Option (List ℕ) → Option (List ℕ) → Type 0
-Takes None old new = Keeps old new
-Takes (Some (exec program packet)) old new = Keeps old new
-Takes (Some check) old new = TakesAtMost 1048577 old new
-Takes (Some explain) old new = TakesAtMost 1048577 old new
-Takes (Some same) old new = TakesAtMost 1048577 old new
-Takes (Some run) old new = TakesAtMost 1048577 old new
-Takes (Some filter) old new = TakesAtMost 1048577 old new
-Takes (Some (pair turns h)) old new = TakesAtMost 1048577 old new
-Takes (Some (help t)) old new = Keeps old new
-Takes (Some version) old new = Keeps old new
+abbrev pub TakesInput : Option Wanted → Option (List ℕ) → Option (List ℕ) → Type 0
+TakesInput None old new = Keeps old new
+TakesInput (Some (exec program packet)) old new = Keeps old new
+TakesInput (Some check) old new = TakesAtMost 1048577 old new
+TakesInput (Some explain) old new = TakesAtMost 1048577 old new
+TakesInput (Some same) old new = TakesAtMost 1048577 old new
+TakesInput (Some run) old new = TakesAtMost 1048577 old new
+TakesInput (Some filter) old new = TakesAtMost 1048577 old new
+TakesInput (Some (pair turns h)) old new = TakesAtMost 1048577 old new
+TakesInput (Some (help t)) old new = Keeps old new
+TakesInput (Some version) old new = Keeps old new
 
 -- a call that may end as a read failed, when nothing is printed
-abbrev pub Reads : Option Wanted → Type 0
-Reads None = ⊥
-Reads (Some (exec program packet)) = ⊥
-Reads (Some check) = Unit {0}
-Reads (Some explain) = Unit {0}
-Reads (Some same) = Unit {0}
-Reads (Some run) = Unit {0}
-Reads (Some filter) = Unit {0}
-Reads (Some (pair turns h)) = Unit {0}
-Reads (Some (help t)) = ⊥
-Reads (Some version) = ⊥
+abbrev pub MayFailToRead : Option Wanted → Type 0
+MayFailToRead None = ⊥
+MayFailToRead (Some (exec program packet)) = ⊥
+MayFailToRead (Some check) = Unit {0}
+MayFailToRead (Some explain) = Unit {0}
+MayFailToRead (Some same) = Unit {0}
+MayFailToRead (Some run) = Unit {0}
+MayFailToRead (Some filter) = Unit {0}
+MayFailToRead (Some (pair turns h)) = Unit {0}
+MayFailToRead (Some (help t)) = ⊥
+MayFailToRead (Some version) = ⊥
 
 -- the text is printed and the status given; or a write failed, the status is 4, and a beginning of the text is printed
 abbrev pub Prints : Option (List ℕ) → Option (List ℕ) → Said → ℕ → Type 0
@@ -232,8 +223,8 @@ Prints held written said status =
     ((status ≡ 4) × ((n : ℕ) × (n < length said.0) × Appends held written (take n said.0)))
 
 -- a call ends with its answer, out of memory, or as a read failed
-abbrev pub Ends : Option Wanted → Option (List ℕ) → Option (List ℕ) → Option (List ℕ) → Option (List ℕ) → ℕ → Type 0
-Ends wanted old new held written status =
+abbrev pub EndsCall : Option Wanted → Option (List ℕ) → Option (List ℕ) → Option (List ℕ) → Option (List ℕ) → ℕ → Type 0
+EndsCall wanted old new held written status =
     ((said : Said) × IsAnswer wanted old new said × Prints held written said status)
     ⊎ (Prints held written memory_wanted status
-    ⊎ (Reads wanted × (status ≡ 4) × Keeps held written))
+    ⊎ (MayFailToRead wanted × (status ≡ 4) × Keeps held written))

@@ -17,14 +17,14 @@ use Rattle.bpf_verify.specs.Consistent.{Accepted as Program}
 use Rattle.xdp_load.specs.Original.{Place, RewrittenView}
 use Rattle.xdp_load.specs.OriginalSeen.{place_view}
 use Rattle.xdp_load.specs.declared.original.Place.{Place as Read}
-use Rattle.xdp_commands.specs.Executing.{IsProgramOf, IsRefusalOfBytes}
+use Rattle.xdp_commands.specs.Executing.{IsProgramOfBytes, IsRefusalOfBytes}
 use Rattle.xdp_commands.specs.Lines.{refused_text}
 use Rattle.xdp_commands.specs.declared.comparing.Compared.{Compared}
 use Rattle.xdp_commands.specs.declared.comparing.Compared.TheVariants.{Same, SameByCounts, SameAlone, NotShown, Refused, Undecoded}
 
 -- the setup's program has no cause of refusal with its maps, and the original's bytes spell a program
 pub record IsPair (r : RewrittenView) (program : Program) (original : List Insn) : Type 0 where
-  pub accepted : IsProgramOf r.setup.program r.setup.shapes program
+  pub accepted : IsProgramOfBytes r.setup.program r.setup.shapes program
   pub spelled : Spells original r.original
 
 -- a pair in which each has the runs of the other, whatever the rows of the maps' lists and their constants are; the program has
@@ -85,7 +85,7 @@ Compares r (SameByCounts slots originals) = IsPairByCounts r slots originals
 Compares r (SameAlone slots originals) = IsPairAlone r slots originals
 Compares r (NotShown obstacle) = IsPairUnshown r obstacle
 Compares r (Refused refusal) = IsRefusalOfBytes r.setup.program r.setup.shapes refusal
-Compares r (Undecoded refusal) = (p : Program) × IsProgramOf r.setup.program r.setup.shapes p × IsNoCode r.original refusal
+Compares r (Undecoded refusal) = (p : Program) × IsProgramOfBytes r.setup.program r.setup.shapes p × IsNoCode r.original refusal
 
 -- the words for what stands against a proof
 abbrev pub obstacle_words : ObstacleKind → List ℕ

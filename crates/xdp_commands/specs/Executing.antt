@@ -40,7 +40,7 @@ Executes program packet (Ok ended) = IsRunOfBytes program packet ended
 Executes program packet (Err refusal) = IsRefusalOfBytes program [] refusal
 
 -- the accepted program is the one that the bytes spell, which has no cause of refusal with these maps
-pub record IsProgramOf (program : List ℕ) (shapes : List Shape) (p : Program) : Type 0 where
+pub record IsProgramOfBytes (program : List ℕ) (shapes : List Shape) (p : Program) : Type 0 where
   pub spelled : Spells p.code program
   pub faultless : IsFaultless p.code shapes
   pub maps : p.shapes ≡ shapes
@@ -49,13 +49,13 @@ pub record IsProgramOf (program : List ℕ) (shapes : List Shape) (p : Program) 
 -- with its numbers
 pub record IsRunOfSetup (x : ListedView) (r : Report) : Type 0 where
   pub program : Program
-  pub accepted : IsProgramOf x.setup.program x.setup.shapes program
+  pub accepted : IsProgramOfBytes x.setup.program x.setup.shapes program
   pub run : IsCoreRun program x.lists x.setup.values x.setup.queues x.setup.ifindex x.setup.start x.setup.script r
 
 -- a run of a setup, or a refusal of its program
-abbrev pub Runs : ListedView → Result Report Refusal → Type 0
-Runs x (Ok report) = IsRunOfSetup x report
-Runs x (Err refusal) = IsRefusalOfBytes x.setup.program x.setup.shapes refusal
+abbrev pub RunsSetup : ListedView → Result Report Refusal → Type 0
+RunsSetup x (Ok report) = IsRunOfSetup x report
+RunsSetup x (Err refusal) = IsRefusalOfBytes x.setup.program x.setup.shapes refusal
 
 -- the bytes spell a program without a cause of refusal, and it has this many instructions and slots
 pub record IsAccepted (program : List ℕ) (shapes : List Shape) (accepted : Accepted) : Type 0 where

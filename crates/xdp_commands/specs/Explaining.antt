@@ -17,7 +17,7 @@ use Rattle.bpf_verify.specs.FirstRefusal.{IsRefusal, IsStoppedBy}
 use Rattle.bpf_verify.specs.Joined.{IsJoined}
 use Rattle.bpf_verify.specs.Lost.{IsLost}
 use Rattle.bpf_verify.specs.declared.verifier.Explained.{Explained}
-use Rattle.xdp_commands.specs.Executing.{IsProgramOf}
+use Rattle.xdp_commands.specs.Executing.{IsProgramOfBytes}
 use Rattle.xdp_commands.specs.Lines.{checked_text}
 use Rattle.xdp_commands.specs.declared.explaining.Loss.{Loss}
 use Rattle.xdp_commands.specs.declared.explaining.Loss.TheVariants.{ByInstruction, ByJoining}
@@ -33,9 +33,9 @@ pub record IsExplained (program : List ℕ) (shapes : List Shape) (e : Explained
   pub first : IfSome e.note (λ n. IsStoppedBy e.code shapes e.refusal.pc e.refusal.cause (facts n))
 
 -- the register of which a refusal asks where it was an address last: none if no rule refuses the program
-abbrev pub asked_of : Option Noted → Explained → Option Register
-asked_of None e = None
-asked_of (Some n) e = asked_register e.refusal.cause (slice_get e.code e.refusal.pc)
+abbrev pub lost_register : Option Noted → Explained → Option Register
+lost_register None e = None
+lost_register (Some n) e = asked_register e.refusal.cause (slice_get e.code e.refusal.pc)
 
 -- the last slot that writes the register makes no address a number
 abbrev pub IsNotLost : Register → List Shape → Explained → Type 0
@@ -51,9 +51,9 @@ IsLossOf (Some r) shapes e (Some (ByJoining addresses)) = IsNotLost r shapes e �
 
 -- the outcome is that of the bytes with these maps
 abbrev pub IsOutcome : List ℕ → List Shape → Outcome → Type 0
-IsOutcome program shapes (Accepted p) = IsProgramOf program shapes p
+IsOutcome program shapes (Accepted p) = IsProgramOfBytes program shapes p
 IsOutcome program shapes (Undecoded r) = IsNoCode program r
-IsOutcome program shapes (Refused e l) = IsExplained program shapes e × IsLossOf (asked_of e.note e) shapes e l
+IsOutcome program shapes (Refused e l) = IsExplained program shapes e × IsLossOf (lost_register e.note e) shapes e l
 
 -- the listing of an accepted program, and the line of a check
 abbrev pub accepted_text : List Insn → List ℕ
@@ -72,7 +72,7 @@ loss_text names e r l = []
 -- the explanation of a refusal, with that line
 abbrev pub refused_text : List (List ℕ) → List Shape → Explained → Option Loss → List ℕ
 refused_text names shapes e l = explained_text e.code names shapes e.refusal (option_map facts e.note)
-    ++ loss_text names e (asked_of e.note e) l
+    ++ loss_text names e (lost_register e.note e) l
 
 -- of a program of these bytes, whose maps have these names and shapes
 abbrev pub outcome_text : List ℕ → List (List ℕ) → List Shape → Outcome → List ℕ

@@ -13,7 +13,7 @@ use Rattle.xdp_load.specs.Listed.{ListedView}
 use Rattle.xdp_load.specs.Setup.{Packet}
 use Rattle.xdp_program.specs.Ran.{Ran}
 use Rattle.xdp_commands.specs.CounterLines.{totals_text}
-use Rattle.xdp_commands.specs.Executing.{IsProgramOf, IsRefusalOfBytes}
+use Rattle.xdp_commands.specs.Executing.{IsProgramOfBytes, IsRefusalOfBytes}
 use Rattle.xdp_commands.specs.Lines.{refused_text}
 use Rattle.xdp_commands.specs.declared.filtering.Filtered.{Filtered}
 
@@ -46,7 +46,7 @@ passed_lines [] = []
 passed_lines (r ∷ rs) = passed_text r ++ passed_lines rs
 
 -- runs of the program with these lists, with their lines, from these words and lines to those
-pub record Goes (program : Program) (lists : List (Option MapList)) (ifindex : ℕ) (packets : List Packet) (before lines after more : List ℕ) : Type 0 where
+pub record HasFiltered (program : Program) (lists : List (Option MapList)) (ifindex : ℕ) (packets : List Packet) (before lines after more : List ℕ) : Type 0 where
   pub runs : List Passed
   pub ran : AreRuns program lists ifindex packets before runs after
   pub printed : more ≡ lines ++ passed_lines runs
@@ -59,11 +59,11 @@ pub record AreFirst (shapes : List Shape) (values : List (List ℕ)) (words : Li
 -- the runs of a setup's accepted program on its packets, from counters that begin with its numbers
 pub record IsFilterOfSetup (x : ListedView) (f : Filtered) : Type 0 where
   pub program : Program
-  pub accepted : IsProgramOf x.setup.program x.setup.shapes program
+  pub accepted : IsProgramOfBytes x.setup.program x.setup.shapes program
   pub width : vec_len f.words ≡ total x.setup.shapes
   pub words : List ℕ
   pub first : AreFirst x.setup.shapes x.setup.values words
-  pub goes : Goes program x.lists x.setup.ifindex (inputs_of x.setup.packets) words [] f.words.items
+  pub goes : HasFiltered program x.lists x.setup.ifindex (inputs_of x.setup.packets) words [] f.words.items
       (string_bytes f.lines)
 
 -- the runs of a setup's packets, or a refusal of its program

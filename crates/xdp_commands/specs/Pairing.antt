@@ -3,6 +3,7 @@
 use Rattle.std.specs.Prelude.{ℕ, ◌≡◌, List, vec_len, Result, Ok, Err, ⊤}
 use Rattle.bpf_note.specs.Shape.{Shape}
 use Rattle.bpf_verify.specs.Consistent.{Accepted as Program}
+use Rattle.xdp_load.specs.Listed.{ListedView}
 use Rattle.xdp_load.specs.Setup.{SetupView}
 use Rattle.thread_pair.specs.Leaving.{AreLeft}
 use Rattle.thread_pair.specs.Working.{Task}
@@ -10,33 +11,41 @@ use Rattle.thread_pair.specs.declared.fault.PairFault.{PairFault}
 use Rattle.thread_pair.specs.declared.fault.PairFault.TheVariants as fault
 use Rattle.thread_pair.specs.declared.host.Host.{Host}
 use Rattle.thread_pair.specs.declared.report.PairReport.{PairReport}
-use Rattle.xdp_commands.specs.Executing.{IsProgramOf, IsRefusalOfBytes}
+use Rattle.xdp_commands.specs.Executing.{IsProgramOfBytes, IsRefusalOfBytes}
 use Rattle.xdp_commands.specs.declared.pairing.Paired.{Paired}
 use Rattle.xdp_commands.specs.declared.pairing.Paired.TheVariants as paired
 
 -- the setup's program has no cause of refusal with its maps
 abbrev pub IsAcceptedSetup : SetupView → Type 0
-IsAcceptedSetup s = (p : Program) × IsProgramOf s.program s.shapes p
+IsAcceptedSetup s = (p : Program) × IsProgramOfBytes s.program s.shapes p
 
--- what the setup's backs have in common, with an accepted program, beside a host that does so
-abbrev pub task_with : SetupView → Program → Host → Task
-task_with s p h = record { program = p; queues = s.queues; ifindex = s.ifindex; start = s.start; host = h }
+-- what the setup's backs have in common, with an accepted program and the lists of its maps, beside a host that does so
+abbrev pub task_with : ListedView → Program → Host → Task
+task_with x p h = record {
+  program = p;
+  lists = x.lists;
+  queues = x.setup.queues;
+  ifindex = x.setup.ifindex;
+  start = x.setup.start;
+  host = h;
+}
 
--- a row for each queue, counters of the setup's maps, and what at most `turns` turns of the accepted program left in both
-pub record IsPairOfSetup (s : SetupView) (turns : ℕ) (h : Host) (r : PairReport) : Type 0 where
+-- a row for each queue, counters of the setup's maps, and what at most `turns` turns of the accepted program, with the setup's lists, left in
+-- both
+pub record IsPairOfSetup (x : ListedView) (turns : ℕ) (h : Host) (r : PairReport) : Type 0 where
   pub program : Program
-  pub accepted : IsProgramOf s.program s.shapes program
-  pub rows : vec_len r.rows ≡ s.queues
-  pub maps : r.totals.shapes ≡ s.shapes
-  pub left : AreLeft (task_with s program h) s.values turns r
+  pub accepted : IsProgramOfBytes x.setup.program x.setup.shapes program
+  pub rows : vec_len r.rows ≡ x.setup.queues
+  pub maps : r.totals.shapes ≡ x.setup.shapes
+  pub left : AreLeft (task_with x program h) x.setup.values turns r
 
 -- the queues of an accepted program ran, at most `turns` turns each, or their rings couldn't be mapped, or a thread couldn't
 -- be started; or the program is refused
-abbrev pub IsPaired : SetupView → ℕ → Host → Paired → Type 0
-IsPaired s turns h (paired.Ran report) = IsPairOfSetup s turns h report
-IsPaired s turns h (paired.Refused refusal) = IsRefusalOfBytes s.program s.shapes refusal
-IsPaired s turns h paired.NotMapped = IsAcceptedSetup s
-IsPaired s turns h paired.NotStarted = IsAcceptedSetup s
+abbrev pub IsPaired : ListedView → ℕ → Host → Paired → Type 0
+IsPaired x turns h (paired.Ran report) = IsPairOfSetup x turns h report
+IsPaired x turns h (paired.Refused refusal) = IsRefusalOfBytes x.setup.program x.setup.shapes refusal
+IsPaired x turns h paired.NotMapped = IsAcceptedSetup x.setup
+IsPaired x turns h paired.NotStarted = IsAcceptedSetup x.setup
 
 -- what comes of a run: its report, or the line of its fault, but of out of memory
 abbrev pub Comes : Result PairReport PairFault → Paired → Type 0

@@ -109,8 +109,8 @@ abbrev pub is_decimal : Text → Bool
 is_decimal digits = nat_lt 0 (length digits) && list_all (λ d. nat_lt (digit_value d) 10) digits
 
 -- the number of 32 bits that a text writes, a plus in front or not
-abbrev pub number_of : Text → Option ℕ
-number_of text =
+abbrev pub turns_number : Text → Option ℕ
+turns_number text =
     let digits = without_leading_plus text in
     if is_decimal digits && nat_lt (digits_value 10 digits) 4294967296 then Some (digits_value 10 digits) else None
 
@@ -124,7 +124,7 @@ host_of rows = host_of_word (first_of (codes "answer") rows)
 
 -- `pair`, by what was found for its options
 abbrev pub pair_of : List Row → Option Wanted
-pair_of rows = option_map (λ turns. pair turns (host_of rows)) (option_and_then number_of (one_of (codes "turns") rows))
+pair_of rows = option_map (λ turns. pair turns (host_of rows)) (option_and_then turns_number (one_of (codes "turns") rows))
 
 -- what help is about, by a command's name
 abbrev pub topic_of : Text → Option Topic

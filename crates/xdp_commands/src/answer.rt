@@ -5,13 +5,11 @@ ghost use Rattle.xdp_load.specs.ListedGiven.{listed_view};
 ghost use Rattle.xdp_load.specs.ListedSound.{IsListedSound};
 ghost use Rattle.xdp_load.specs.OriginalSeen.{rewritten_view};
 ghost use Rattle.xdp_load.specs.SetupSeen.{setup_view};
-ghost use Rattle.xdp_load.specs.Sound.{IsSound};
 ghost use Rattle.xdp_load.specs.SpotSeen.{refused_seen};
-ghost use Rattle.xdp_commands.specs.Answer.{AnswerTo, ExecAnswer, ExplainAnswer, FilterAnswer, InputListed, IsAnswer, ListedAnswer, PacketAnswer};
-ghost use Rattle.xdp_commands.specs.Answer.{PairAnswer, PlacedAnswer, Reads, RefusedTo, RewrittenAnswer};
-ghost use Rattle.xdp_commands.specs.Answer.{RunAnswer, SameAnswer, SettingsAnswer, SetupAnswer};
+ghost use Rattle.xdp_commands.specs.Answer.{AnswerTo, ExecAnswer, ExplainAnswer, FilterAnswer, InputAnswer, IsAnswer, PacketAnswer};
+ghost use Rattle.xdp_commands.specs.Answer.{MayFailToRead, PairAnswer, PlacedAnswer, RefusedAnswer, RefusedTo, RewrittenAnswer};
+ghost use Rattle.xdp_commands.specs.Answer.{RunAnswer, SameAnswer, SettingsAnswer, SetupAnswer, TakesAtMost, TakesInput, words_refused};
 ghost use Rattle.xdp_commands.specs.Answer.{checked_answer, executed_answer, hex_bytes, program_status, settings_refused};
-ghost use Rattle.xdp_commands.specs.Answer.{Takes, TakesAtMost, words_refused};
 ghost use Rattle.xdp_commands.specs.Help.{help_lines, version_line};
 ghost use Rattle.xdp_commands.specs.Words as wanted;
 ghost use Rattle.xdp_commands.specs.Seen.{said_of, wanted_of};
@@ -36,7 +34,7 @@ use std::sync::Wait;
 use std::thread::Threads;
 use thread_pair::Host;
 use xdp_load::{
-    Listed, LoadError, LoadFault, Refused, Rewritten, Setup, fault_text, load, load_rewritten,
+    Listed, LoadError, LoadFault, Refused, Rewritten, Setup, fault_text, load_rewritten,
 };
 
 /// A text that is printed, and the exit status.
@@ -143,7 +141,7 @@ fn placed_answer(alloc: Global, settings: &[u8], refused: &Refused) -> Result<An
     Ok(Answer { text, status: 2 })
 }
 
-/// What is asked of settings whose maps may have lists.
+/// What is asked of settings.
 #[derive(Clone, Copy)]
 enum Question {
     /// Whether the program is accepted.
@@ -232,14 +230,15 @@ fn same_answer(alloc: Global, rewritten: &Rewritten) -> Result<Answer, AllocErro
 fn pair_answer<T: Threads + Wait + Sync>(
     rt: &T,
     alloc: Global,
-    setup: &Setup,
+    listed: &Listed,
     host: Host,
     turns: u32,
 ) -> Result<Answer, AllocError>
-    requires { IsSound (setup_view setup.now) }
-    ensures { IfOk result (λ a. PairAnswer turns host (setup_view setup.now) (said_of a)) }
+    requires { IsListedSound (listed_view listed.now) }
+    ensures { IfOk result (λ a. PairAnswer turns host (listed_view listed.now) (said_of a)) }
 {
-    let paired = pair(rt, alloc, setup, host, turns)?;
+    let paired = pair(rt, alloc, listed, host, turns)?;
+    let setup = &listed.setup;
     let text = paired_text(
         alloc,
         host,
@@ -283,7 +282,7 @@ fn fault_answer(
 
 /// The answer to settings.
 fn settings_answer(alloc: Global, question: Question, settings: &[u8]) -> Result<Answer, AllocError>
-    ensures { IfOk result (λ a. ListedAnswer question settings.now (said_of a)) }
+    ensures { IfOk result (λ a. SettingsAnswer (AnswerTo question) (RefusedTo question) settings.now (said_of a)) }
 {
     match xdp_program::read_settings(alloc, settings) {
         Ok(listed) => setup_answer(alloc, question, &listed),
@@ -313,17 +312,20 @@ fn threads_answer<T: Threads + Wait + Sync>(
     turns: u32,
     settings: &[u8],
 ) -> Result<Answer, AllocError>
-    ensures { IfOk result (λ a. SettingsAnswer (PairAnswer turns host) settings.now (said_of a)) }
+    ensures { IfOk result (λ a. SettingsAnswer (PairAnswer turns host) RefusedAnswer settings.now (said_of a)) }
 {
-    match load(alloc, settings) {
-        Ok(setup) => pair_answer(rt, alloc, &setup, host, turns),
-        Err(error) => settings_refused(alloc, error.fault()),
+    match xdp_program::read_settings(alloc, settings) {
+        Ok(listed) => pair_answer(rt, alloc, &listed, host, turns),
+        Err(LoadError::Memory) => settings_refused(alloc, LoadFault::Memory),
+        Err(LoadError::Refused(refused)) => {
+            settings_refused(alloc, LoadFault::Refused(refused.fault))
+        }
     }
 }
 
 /// The answer to the settings that the input gives.
 fn input_answer<R: Read>(alloc: Global, question: Question, input: &mut R) -> Result<Answer, Stop>
-    ensures answer { IfOk result (λ a. InputListed question (R.remaining input.old) (R.remaining input.new) (said_of a)) }
+    ensures answer { IfOk result (λ a. InputAnswer question (R.remaining input.old) (R.remaining input.new) (said_of a)) }
     ensures takes { TakesAtMost 1048577 (R.remaining input.old) (R.remaining input.new) }
 {
     let settings = read_settings(alloc, input)?;
@@ -380,8 +382,8 @@ pub fn answer_to<T: Threads + Wait + Sync, R: Read>(
 ) -> Result<Answer, Stop>
     ensures answer { IfOk result (λ a. IsAnswer (option_map wanted_of request.entry) (R.remaining input.old)
         (R.remaining input.new) (said_of a)) }
-    ensures takes { Takes (option_map wanted_of request.entry) (R.remaining input.old) (R.remaining input.new) }
-    ensures reads { IfErr result (λ e. e ≡ Stop.Read → Reads (option_map wanted_of request.entry)) }
+    ensures takes { TakesInput (option_map wanted_of request.entry) (R.remaining input.old) (R.remaining input.new) }
+    ensures reads { IfErr result (λ e. e ≡ Stop.Read → MayFailToRead (option_map wanted_of request.entry)) }
 {
     match request {
         None => Ok(words_refused(alloc)?),

@@ -1,11 +1,11 @@
 //! A setup's program beside the one that it was made of.
-ghost use Rattle.std.specs.Prelude.{◌≡◌, ◌≤◌, IfOk, map, string_bytes};
+ghost use Rattle.std.specs.Prelude.{◌≡◌, IfOk, map, string_bytes};
 ghost use Rattle.bpf_insn.specs.Code.{Spells};
-ghost use Rattle.xdp_load.specs.OriginalSeen.{place_view, rewritten_view};
+ghost use Rattle.xdp_load.specs.OriginalSeen.{rewritten_view};
 ghost use Rattle.xdp_load.specs.ListedGiven.{listed_view};
 ghost use Rattle.xdp_load.specs.ListedSound.{IsListedSound};
-ghost use Rattle.xdp_commands.specs.Comparing.{Compares, IsSamePair, compared_status, compared_text, not_shown_text, obstacle_words, tried_of};
-ghost use Rattle.xdp_commands.specs.Executing.{IsProgramOf};
+ghost use Rattle.xdp_commands.specs.Comparing.{Compares, compared_status, compared_text, not_shown_text, obstacle_words, tried_of};
+ghost use Rattle.xdp_commands.specs.Executing.{IsProgramOfBytes};
 
 use crate::executing::accept;
 use crate::lines::refused_text;
@@ -53,7 +53,7 @@ fn compare_with(
     program: &Verified,
     original: &Code,
 ) -> Result<Compared, AllocError>
-    requires program { IsProgramOf rewritten.now.listed.setup.program.items rewritten.now.listed.setup.shapes.items program.now }
+    requires program { IsProgramOfBytes rewritten.now.listed.setup.program.items rewritten.now.listed.setup.shapes.items program.now }
     requires original { Spells original.now rewritten.now.original.items }
     ensures { IfOk result (Compares (rewritten_view rewritten.now)) }
 {

@@ -3,7 +3,7 @@ ghost use Rattle.std.specs.Prelude.{◌≤◌, IfErr, IfOk, length};
 ghost use Rattle.bpf_note.specs.Shape.{most_maps};
 ghost use Rattle.xdp_load.specs.ListedGiven.{listed_view};
 ghost use Rattle.xdp_load.specs.ListedSound.{IsListedSound};
-ghost use Rattle.xdp_commands.specs.Executing.{Checks, Executes, IsProgramOf, IsRefusalOfBytes, Runs};
+ghost use Rattle.xdp_commands.specs.Executing.{Checks, Executes, IsProgramOfBytes, IsRefusalOfBytes, RunsSetup};
 
 use bpf_insn::{Refusal, decode};
 use bpf_verify::{MapShape, Verified, verify};
@@ -15,7 +15,7 @@ use xdp_world::{Report, World};
 /// Accepts a program with its maps, or refuses it.
 pub fn accept(alloc: Global, program: &[u8], shapes: &[MapShape]) -> Result<Verified, Refusal>
     requires { length shapes.now ≤ most_maps }
-    ensures ok { IfOk result (IsProgramOf program.now shapes.now) }
+    ensures ok { IfOk result (IsProgramOfBytes program.now shapes.now) }
     ensures err { IfErr result (IsRefusalOfBytes program.now shapes.now) }
 {
     let code = decode(alloc, program)?;
@@ -57,7 +57,7 @@ pub fn check(alloc: Global, program: &[u8], shapes: &[MapShape]) -> Result<Accep
 /// refuses the program.
 pub fn run(alloc: Global, listed: &Listed) -> Result<Result<Report, Refusal>, AllocError>
     requires { IsListedSound (listed_view listed.now) }
-    ensures { IfOk result (Runs (listed_view listed.now)) }
+    ensures { IfOk result (RunsSetup (listed_view listed.now)) }
 {
     let setup = &listed.setup;
     match accept(alloc, setup.program.as_slice(), setup.shapes.as_slice()) {

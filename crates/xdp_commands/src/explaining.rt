@@ -3,7 +3,7 @@ ghost use Rattle.std.specs.Prelude.{◌≡◌, ◌≤◌, IfOk, IfSome, Some, le
 ghost use Rattle.bpf_note.specs.Shape.{most_maps};
 ghost use Rattle.bpf_verify.specs.Consistent.{IsOrdered};
 ghost use Rattle.bpf_verify.specs.FirstRefusal.{IsStructured};
-ghost use Rattle.xdp_commands.specs.Explaining.{IsLossOf, IsOutcome, accepted_text, asked_of, loss_line, loss_text, outcome_status};
+ghost use Rattle.xdp_commands.specs.Explaining.{IsLossOf, IsOutcome, accepted_text, loss_line, loss_text, lost_register, outcome_status};
 ghost use Rattle.xdp_commands.specs.Explaining.{outcome_text, refused_text};
 
 use crate::executing::Accepted;
@@ -40,8 +40,8 @@ pub enum Outcome {
 }
 
 /// The register of which V9 asks where it was an address last.
-fn asked_of(explained: &Explained) -> Option<Register>
-    ensures { result ≡ asked_of explained.now.note explained.now }
+fn lost_register(explained: &Explained) -> Option<Register>
+    ensures { result ≡ lost_register explained.now.note explained.now }
 {
     match explained.note {
         None => None,
@@ -79,12 +79,12 @@ fn loss_of(
 ) -> Result<Option<Loss>, AllocError>
     requires structured { IfSome explained.now.note (λ _. IsStructured explained.now.code (length shapes.now)) }
     requires ordered { IfSome explained.now.note (λ _. IsOrdered explained.now.code) }
-    ensures { IfOk result (IsLossOf (asked_of explained.now.note explained.now) shapes.now explained.now) }
+    ensures { IfOk result (IsLossOf (lost_register explained.now.note explained.now) shapes.now explained.now) }
 {
     if explained.note.is_none() {
         return Ok(None);
     }
-    let Some(register) = asked_of(explained) else {
+    let Some(register) = lost_register(explained) else {
         return Ok(None);
     };
     match register_loss(alloc, explained, shapes, register) {
@@ -150,9 +150,9 @@ fn loss_text(
     loss: &Option<Loss>,
 ) -> Result<String, AllocError>
     ensures { IfOk result (λ s. string_bytes s ≡ loss_text (map string_bytes names.now) explained.now
-        (asked_of explained.now.note explained.now) loss.now) }
+        (lost_register explained.now.note explained.now) loss.now) }
 {
-    match (asked_of(explained), loss) {
+    match (lost_register(explained), loss) {
         (Some(register), Some(loss)) => {
             let pc = explained.refusal.pc;
             loss_line(alloc, names, &explained.code, pc, register, loss)

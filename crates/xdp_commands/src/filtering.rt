@@ -4,8 +4,8 @@ ghost use Rattle.bpf_maps.specs.Layout.{total};
 ghost use Rattle.xdp_load.specs.ListedGiven.{listed_view};
 ghost use Rattle.xdp_load.specs.ListedSound.{IsListedSound};
 ghost use Rattle.xdp_load.specs.SetupSeen.{packet_view, setup_view};
-ghost use Rattle.xdp_commands.specs.Executing.{IsProgramOf};
-ghost use Rattle.xdp_commands.specs.Filtering.{Filters, Goes, IsFilterOfSetup, inputs_of, passed_text};
+ghost use Rattle.xdp_commands.specs.Executing.{IsProgramOfBytes};
+ghost use Rattle.xdp_commands.specs.Filtering.{Filters, HasFiltered, IsFilterOfSetup, inputs_of, passed_text};
 
 use crate::executing::accept;
 use bpf_insn::Refusal;
@@ -15,7 +15,7 @@ use bpf_verify::Verified;
 use bpf_vm::{Action, Buffer, PacketBuf};
 use std::alloc::{AllocError, Global};
 use xdp_load::{Listed, Packet};
-use xdp_program::{Ended, run_on};
+use xdp_program::run_on;
 
 /// The lines of the runs so far, and the words of the counters.
 #[derive(Drop)]
@@ -47,7 +47,7 @@ fn run_once(
     requires short { length packet.now.bytes.items ≤ 65535 }
     requires queue { packet.now.queue < 8 }
     requires enough { total program.now.shapes ≤ vec_len filtered.old.words }
-    ensures goes { OnOk result (Goes program.now lists.now ifindex (packet_view packet.now ∷ []) filtered.old.words.items
+    ensures goes { OnOk result (HasFiltered program.now lists.now ifindex (packet_view packet.now ∷ []) filtered.old.words.items
         (string_bytes filtered.old.lines) filtered.new.words.items (string_bytes filtered.new.lines)) }
     ensures words { vec_len filtered.new.words ≡ vec_len filtered.old.words }
 {
@@ -74,7 +74,7 @@ fn run_times(
     requires short { length packet.now.bytes.items ≤ 65535 }
     requires queue { packet.now.queue < 8 }
     requires enough { total program.now.shapes ≤ vec_len filtered.old.words }
-    ensures goes { OnOk result (Goes program.now lists.now ifindex (replicate packet.now.times (packet_view packet.now))
+    ensures goes { OnOk result (HasFiltered program.now lists.now ifindex (replicate packet.now.times (packet_view packet.now))
         filtered.old.words.items (string_bytes filtered.old.lines) filtered.new.words.items (string_bytes filtered.new.lines)) }
     ensures words { vec_len filtered.new.words ≡ vec_len filtered.old.words }
 {
@@ -94,7 +94,7 @@ fn run_all(
 ) -> Result<(), AllocError>
     requires sound { IsListedSound (listed_view listed.now) }
     requires enough { total program.now.shapes ≤ vec_len filtered.old.words }
-    ensures goes { OnOk result (Goes program.now listed.now.lists.items listed.now.setup.ifindex (inputs_of (setup_view listed.now.setup).packets)
+    ensures goes { OnOk result (HasFiltered program.now listed.now.lists.items listed.now.setup.ifindex (inputs_of (setup_view listed.now.setup).packets)
         filtered.old.words.items (string_bytes filtered.old.lines) filtered.new.words.items (string_bytes filtered.new.lines)) }
     ensures words { vec_len filtered.new.words ≡ vec_len filtered.old.words }
 {
@@ -109,7 +109,7 @@ fn run_all(
 /// Runs a setup's program, which was accepted, on the setup's packets.
 fn filter_with(alloc: Global, listed: &Listed, program: &Verified) -> Result<Filtered, AllocError>
     requires sound { IsListedSound (listed_view listed.now) }
-    requires program { IsProgramOf listed.now.setup.program.items listed.now.setup.shapes.items program.now }
+    requires program { IsProgramOfBytes listed.now.setup.program.items listed.now.setup.shapes.items program.now }
     ensures { IfOk result (IsFilterOfSetup (listed_view listed.now)) }
 {
     let mut buffer = Buffer::make(alloc)?;

@@ -1,8 +1,8 @@
 //! A setup whose queues run on threads.
 ghost use Rattle.std.specs.Prelude.{IfOk};
-ghost use Rattle.xdp_load.specs.SetupSeen.{setup_view};
-ghost use Rattle.xdp_load.specs.Sound.{IsSound};
-ghost use Rattle.xdp_commands.specs.Executing.{IsProgramOf};
+ghost use Rattle.xdp_load.specs.ListedGiven.{listed_view};
+ghost use Rattle.xdp_load.specs.ListedSound.{IsListedSound};
+ghost use Rattle.xdp_commands.specs.Executing.{IsProgramOfBytes};
 ghost use Rattle.xdp_commands.specs.Pairing.{Comes, IsPaired};
 
 use crate::executing::accept;
@@ -12,7 +12,7 @@ use std::alloc::{AllocError, Global};
 use std::sync::Wait;
 use std::thread::Threads;
 use thread_pair::{Host, Open, PairFault, PairReport, pair_with};
-use xdp_load::Setup;
+use xdp_load::Listed;
 
 /// What became of a setup whose queues were to run on threads.
 #[derive(Drop)]
@@ -43,32 +43,33 @@ pub fn outcome(ran: Result<PairReport, PairFault>) -> Result<Paired, AllocError>
 fn run_pairs<T: Threads + Wait + Sync>(
     rt: &T,
     alloc: Global,
-    setup: &Setup,
+    listed: &Listed,
     program: &Verified,
     host: Host,
     turns: u32,
 ) -> Result<Paired, AllocError>
-    requires sound { IsSound (setup_view setup.now) }
-    requires program { IsProgramOf setup.now.program.items setup.now.shapes.items program.now }
-    ensures { IfOk result (IsPaired (setup_view setup.now) turns host) }
+    requires sound { IsListedSound (listed_view listed.now) }
+    requires program { IsProgramOfBytes listed.now.setup.program.items listed.now.setup.shapes.items program.now }
+    ensures { IfOk result (IsPaired (listed_view listed.now) turns host) }
 {
-    outcome(pair_with(rt, alloc, setup, program, host, turns, &Open))
+    outcome(pair_with(rt, alloc, listed, program, host, turns, &Open))
 }
 
-/// Accepts the program of a setup and runs the setup's queues on threads, each in at most `turns` turns, beside a host
-/// that answers or doesn't; or refuses the program.
+/// Accepts the program of a setup and runs the setup's queues on threads, with its lists and each in at most `turns` turns,
+/// beside a host that answers or doesn't; or refuses the program.
 pub fn pair<T: Threads + Wait + Sync>(
     rt: &T,
     alloc: Global,
-    setup: &Setup,
+    listed: &Listed,
     host: Host,
     turns: u32,
 ) -> Result<Paired, AllocError>
-    requires { IsSound (setup_view setup.now) }
-    ensures { IfOk result (IsPaired (setup_view setup.now) turns host) }
+    requires { IsListedSound (listed_view listed.now) }
+    ensures { IfOk result (IsPaired (listed_view listed.now) turns host) }
 {
+    let setup = &listed.setup;
     match accept(alloc, setup.program.as_slice(), setup.shapes.as_slice()) {
-        Ok(program) => run_pairs(rt, alloc, setup, &program, host, turns),
+        Ok(program) => run_pairs(rt, alloc, listed, &program, host, turns),
         Err(refusal) => Ok(Paired::Refused(refusal)),
     }
 }

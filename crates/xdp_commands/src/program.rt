@@ -1,7 +1,7 @@
 //! A call of the program.
 ghost use Rattle.std.specs.Prelude.{◌≡◌, IfOk, IfErr, map};
 ghost use Rattle.xdp_commands.specs.Words.{wanted_of_words};
-ghost use Rattle.xdp_commands.specs.Answer.{Ends, IsAnswer, Prints, Reads, Takes, memory_wanted};
+ghost use Rattle.xdp_commands.specs.Answer.{EndsCall, IsAnswer, MayFailToRead, Prints, TakesInput, memory_wanted};
 ghost use Rattle.xdp_commands.specs.Seen.{said_of};
 
 use crate::answer::{Answer, answer_to};
@@ -23,8 +23,8 @@ fn answer_words<S: AsStr, T: Threads + Wait + Sync, R: Read>(
 ) -> Result<Answer, Stop>
     ensures answer { IfOk result (λ a. IsAnswer (wanted_of_words (map S.text words.entry.now)) (R.remaining input.old)
         (R.remaining input.new) (said_of a)) }
-    ensures takes { Takes (wanted_of_words (map S.text words.entry.now)) (R.remaining input.old) (R.remaining input.new) }
-    ensures reads { IfErr result (λ e. e ≡ Stop.Read → Reads (wanted_of_words (map S.text words.entry.now))) }
+    ensures takes { TakesInput (wanted_of_words (map S.text words.entry.now)) (R.remaining input.old) (R.remaining input.new) }
+    ensures reads { IfErr result (λ e. e ≡ Stop.Read → MayFailToRead (wanted_of_words (map S.text words.entry.now))) }
 {
     let request = read_words(alloc, words)?;
     answer_to(rt, alloc, request, input)
@@ -47,9 +47,9 @@ pub fn run_words<S: AsStr, T: Threads + Wait + Sync, R: Read, W: Write>(
     input: &mut R,
     output: &mut W,
 ) -> u8
-    ensures answered { Ends (wanted_of_words (map S.text words.entry.now)) (R.remaining input.old) (R.remaining input.new)
+    ensures answered { EndsCall (wanted_of_words (map S.text words.entry.now)) (R.remaining input.old) (R.remaining input.new)
         (W.contents output.old) (W.contents output.new) result }
-    ensures takes { Takes (wanted_of_words (map S.text words.entry.now)) (R.remaining input.old) (R.remaining input.new) }
+    ensures takes { TakesInput (wanted_of_words (map S.text words.entry.now)) (R.remaining input.old) (R.remaining input.new) }
 {
     match answer_words(rt, alloc, words, input) {
         Ok(answer) => say(output, answer.text.as_str(), answer.status),

@@ -1,7 +1,7 @@
 //! What the words of a call ask for.
 ghost use Rattle.std.specs.Prelude.{◌≡◌, ◌↔◌, IfOk, IsTrue, codes, map, option_map, option_and_then};
 ghost use Rattle.clap.specs.Words.{first_of, found_of, kind_of, one_of, rows_of, subcommand_rows_of};
-ghost use Rattle.xdp_commands.specs.Words.{exec_of, help_of, host_of, number_of, pair_of, topic_of, wanted_by, wanted_of_words};
+ghost use Rattle.xdp_commands.specs.Words.{exec_of, help_of, host_of, pair_of, topic_of, turns_number, wanted_by, wanted_of_words};
 ghost use Rattle.xdp_commands.specs.Seen.{wanted_of};
 
 use crate::command_line::program_command;
@@ -44,7 +44,7 @@ fn word_at<'a>(matches: &ArgMatches<'a>, id: &str) -> Option<&'a str>
 
 /// The number that was found for `--turns`.
 fn turns_in(matches: &ArgMatches<'_>) -> Option<u32>
-    ensures { result ≡ option_and_then number_of (one_of (codes "turns") (rows_of (found_of matches.now))) }
+    ensures { result ≡ option_and_then turns_number (one_of (codes "turns") (rows_of (found_of matches.now))) }
 {
     matches.get_one("turns")
 }

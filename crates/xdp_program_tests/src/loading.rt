@@ -58,7 +58,7 @@ pub fn settings_fault(alloc: Global, text: &str) -> Option<SettingsFault> {
     load_settings(alloc, text.as_bytes()).err()
 }
 
-/// Whether settings were refused for want of memory, L0 or V0.
+/// Whether settings were refused since memory ran out, L0 or V0.
 pub fn is_for_memory(fault: SettingsFault) -> bool {
     match fault {
         SettingsFault::Text(fault) => fault == TextFault::Memory,

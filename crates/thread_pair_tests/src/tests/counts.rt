@@ -113,7 +113,7 @@ fn held<R: Threads + Wait + Sync + Clock>(
     ends_grant: bool,
     parkers: Parkers,
 ) -> Option<Held>
-    requires { (vec_len parkers.fronts ≡ bench.now.setup.queues) × (vec_len parkers.backs ≡ bench.now.setup.queues) }
+    requires { (vec_len parkers.fronts ≡ bench.now.listed.setup.queues) × (vec_len parkers.backs ≡ bench.now.listed.setup.queues) }
 {
     let gate = First {
         rt,

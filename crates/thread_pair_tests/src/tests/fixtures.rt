@@ -22,10 +22,10 @@ impl Bench {
         inbox: &I,
         parkers: Parkers,
     ) -> Option<Rows>
-        requires { (vec_len parkers.fronts ≡ self.now.setup.queues) × (vec_len parkers.backs ≡ self.now.setup.queues) }
+        requires { (vec_len parkers.fronts ≡ self.now.listed.setup.queues) × (vec_len parkers.backs ≡ self.now.listed.setup.queues) }
     {
         let job = Job {
-            setup: &self.setup,
+            listed: &self.listed,
             program,
             turns,
             gate,
@@ -48,10 +48,10 @@ impl Bench {
         turns: u32,
         parkers: Parkers,
     ) -> Option<PairFault>
-        requires { (vec_len parkers.fronts ≡ self.now.setup.queues) × (vec_len parkers.backs ≡ self.now.setup.queues) }
+        requires { (vec_len parkers.fronts ≡ self.now.listed.setup.queues) × (vec_len parkers.backs ≡ self.now.listed.setup.queues) }
     {
         let job = Job {
-            setup: &self.setup,
+            listed: &self.listed,
             program,
             turns,
             gate: &Open,
@@ -70,11 +70,11 @@ impl Bench {
         program: &Verified,
         parkers: Parkers,
     ) -> Option<(Rows, u64)>
-        requires parkers { (vec_len parkers.fronts ≡ self.now.setup.queues) × (vec_len parkers.backs ≡ self.now.setup.queues) }
+        requires parkers { (vec_len parkers.fronts ≡ self.now.listed.setup.queues) × (vec_len parkers.backs ≡ self.now.listed.setup.queues) }
         requires shape { slice_get program.now.shapes 0 ≡ Some (record { entries = 2; counters = 1; key = Index; parts = false }) }
     {
         let job = Job {
-            setup: &self.setup,
+            listed: &self.listed,
             program,
             turns: TURNS,
             gate: &Open,

@@ -2,8 +2,8 @@
 //! test in turn, and counts the runs that print `refused`.
 
 ghost use Rattle.std.specs.Prelude.{IfSome};
-ghost use Rattle.xdp_load.specs.SetupSeen.{setup_view};
-ghost use Rattle.xdp_load.specs.Sound.{IsSound};
+ghost use Rattle.xdp_load.specs.ListedGiven.{listed_view};
+ghost use Rattle.xdp_load.specs.ListedSound.{IsListedSound};
 
 use crate::bench::{Rows, accepted, rows_of};
 use bpf_verify::Verified;
@@ -12,7 +12,7 @@ use std::sync::Wait;
 use std::test::Fail;
 use std::thread::Threads;
 use thread_pair::{Deliveries, Host, Open, PairFault, PairRow, pair_with};
-use xdp_load::{Setup, load};
+use xdp_load::{Listed, load_listed};
 
 /// More turns than two packets take.
 const TURNS: u32 = 1000;
@@ -38,19 +38,20 @@ const ROW: PairRow = PairRow {
 };
 
 /// The settings as they are loaded.
-fn setup(alloc: Global) -> Option<Setup>
-    ensures { IfSome result (λ s. IsSound (setup_view s)) }
+fn listed(alloc: Global) -> Option<Listed>
+    ensures { IfSome result (λ x. IsListedSound (listed_view x)) }
 {
-    match load(alloc, SETTINGS.as_bytes()) {
-        Ok(setup) => Some(setup),
-        Err(_) => load(alloc, SETTINGS.as_bytes()).ok(),
+    match load_listed(alloc, SETTINGS.as_bytes()) {
+        Ok(listed) => Some(listed),
+        Err(_) => load_listed(alloc, SETTINGS.as_bytes()).ok(),
     }
 }
 
-fn program(alloc: Global, setup: &Setup) -> Option<Verified> {
-    match accepted(alloc, setup.program.as_slice(), &[]) {
+fn program(alloc: Global, listed: &Listed) -> Option<Verified> {
+    let bytes = listed.setup.program.as_slice();
+    match accepted(alloc, bytes, &[]) {
         Some(program) => Some(program),
-        None => accepted(alloc, setup.program.as_slice(), &[]),
+        None => accepted(alloc, bytes, &[]),
     }
 }
 
@@ -58,12 +59,12 @@ fn program(alloc: Global, setup: &Setup) -> Option<Verified> {
 fn run(
     rt: &(impl Threads + Wait + Sync),
     alloc: Global,
-    setup: &Setup,
+    listed: &Listed,
     program: &Verified,
 ) -> Result<Rows, PairFault>
-    requires { IsSound (setup_view setup.now) }
+    requires { IsListedSound (listed_view listed.now) }
 {
-    match pair_with(rt, alloc, setup, program, Host::Takes, TURNS, &Open) {
+    match pair_with(rt, alloc, listed, program, Host::Takes, TURNS, &Open) {
         Ok(report) => Ok(rows_of(report.rows.as_slice())),
         Err(fault) => Err(fault),
     }
@@ -71,11 +72,11 @@ fn run(
 
 /// What a run comes to, and what another one comes to if it was refused.
 fn runs(rt: &(impl Threads + Wait + Sync), alloc: Global) -> Option<[Result<Rows, PairFault>; 2]> {
-    let setup = setup(alloc)?;
-    let program = program(alloc, &setup)?;
-    Some(match run(rt, alloc, &setup, &program) {
+    let listed = listed(alloc)?;
+    let program = program(alloc, &listed)?;
+    Some(match run(rt, alloc, &listed, &program) {
         Ok(rows) => [Ok(rows); 2],
-        refused => [refused, run(rt, alloc, &setup, &program)],
+        refused => [refused, run(rt, alloc, &listed, &program)],
     })
 }
 

@@ -8,7 +8,7 @@ use std::thread;
 use std::thread::Threads;
 use std::time::{Clock, Duration};
 use thread_pair::{Deliveries, Gate, Host, PairRow, pair_with};
-use xdp_load::load;
+use xdp_load::load_listed;
 
 /// Each of two queues sends two packets, which pass.
 const SETTINGS: &str = r#"
@@ -70,9 +70,9 @@ fn rows_behind<R: Threads + Wait + Sync, C: Clock + Sync>(
     alloc: Global,
     gate: &Meet<C>,
 ) -> Option<Rows> {
-    let setup = load(alloc, SETTINGS.as_bytes()).ok()?;
-    let program = accepted(alloc, setup.program.as_slice(), &[])?;
-    match pair_with(rt, alloc, &setup, &program, Host::Takes, TURNS, gate) {
+    let listed = load_listed(alloc, SETTINGS.as_bytes()).ok()?;
+    let program = accepted(alloc, listed.setup.program.as_slice(), &[])?;
+    match pair_with(rt, alloc, &listed, &program, Host::Takes, TURNS, gate) {
         Ok(report) => Some(rows_of(report.rows.as_slice())),
         Err(_) => None,
     }

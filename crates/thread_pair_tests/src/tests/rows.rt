@@ -10,8 +10,8 @@ use bpf_maps::MapShape;
 use std::alloc::Global;
 use std::sync::Wait;
 use std::thread::Threads;
-use thread_pair::{Host, Open, PairReport, PairRow, pair_with};
-use xdp_load::load;
+use thread_pair::{Host, Open, PairReport, pair_with};
+use xdp_load::load_listed;
 
 /// Queue 0 sends 1,000 packets and queue 1 sends 500. The program adds 1 to counter 1 for each.
 const SETTINGS: &str = r#"
@@ -54,10 +54,10 @@ fn counted(report: &PairReport) -> (Rows, [u64; 2])
 
 /// The rows and the counters of a run of these settings.
 fn run_of_settings(rt: &(impl Threads + Wait + Sync), alloc: Global) -> Option<(Rows, [u64; 2])> {
-    let setup = load(alloc, SETTINGS.as_bytes()).ok()?;
+    let listed = load_listed(alloc, SETTINGS.as_bytes()).ok()?;
     let shape = MapShape::of(2, 1)?;
-    let program = accepted(alloc, setup.program.as_slice(), &[shape])?;
-    match pair_with(rt, alloc, &setup, &program, Host::Takes, TURNS, &Open) {
+    let program = accepted(alloc, listed.setup.program.as_slice(), &[shape])?;
+    match pair_with(rt, alloc, &listed, &program, Host::Takes, TURNS, &Open) {
         Ok(report) => Some(counted(&report)),
         Err(_) => None,
     }

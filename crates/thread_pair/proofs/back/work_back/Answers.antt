@@ -20,7 +20,7 @@ loop-done-init g c =
     let q = c.make_queue-queue.result in
     let made = c.make_queue-queue.ensures in
     let seat = c.requires.own.seat in
-    let task = task_of c.args.program.now c.args.shared.now in
+    let task = task_of c.args.program.now c.args.lists.now c.args.shared.now in
     let host = c.args.shared.now.host in
     record {
       ready = made.ready;
@@ -67,7 +67,7 @@ loop-done-preserved g c =
     let o = c.drive_round-next.ensures.over in
     let s = c.drive_round-next.ensures.seat in
     let q = c.drive_round-next.new.queue in
-    let task = task_of c.args.program.now c.args.shared.now in
+    let task = task_of c.args.program.now c.args.lists.now c.args.shared.now in
     let one = next_round task.host c.loop-done.queue q c.args.shared.now.start c.loop-done.done _ _ i.work.1 o.trace o.sending o.turned o.sent o.is_round o.grown o.same.wiring i.work.0 i.work.2 i.work.3 in
     record {
       ready = o.ready;
@@ -95,7 +95,7 @@ work_of log gives task turns bus {row} {row'} {seat} {seat'} {after} {after'} sa
 pub returns-clause-work : goal.returns-clause-work
 returns-clause-work g c =
     let i = c.loop-done.invariant in
-    let task = task_of c.args.program.now c.args.shared.now in
+    let task = task_of c.args.program.now c.args.lists.now c.args.shared.now in
     let start = c.args.shared.now.start in
     let old = c.loop-done.queue in
     let turns = c.args.turns in

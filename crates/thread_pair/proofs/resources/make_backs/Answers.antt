@@ -1,7 +1,7 @@
 use Rattle.std.proofs.Common.{arith, ◌≡◌, ◌∷◌, ◌++◌, [], All, List, append-nil, length, length-append, map, suc, sym, ap, ◌∙◌, subst, true≢false}
 use Rattle.std.proofs.lemmas.List.Elements.{All-push}
 use Rattle.bpf_maps.specs.Seats.{SeatView, new_seat, new_seats}
-use Rattle.thread_pair.specs.Resources.{IsBackOf, falling, number_of}
+use Rattle.thread_pair.specs.Resources.{IsBackOf, falling, seat_number}
 use Rattle.thread_pair.specs.declared.resources.BackResources.{BackResources}
 use Rattle.thread_pair.proofs.OrderLemmas.{pushed_falls}
 use Rattle.thread_pair.proofs.ReturnLemmas.{empty_list}
@@ -16,7 +16,7 @@ loop-seat-init c = (
       let n : length c.args.seats.items ≡ c.args.shared.now.layout.queues = ap length new ∙ length_new d c.args.shared.now.layout.queues in (
         new ∙ ap (new_seats d) (sym n),
         subst (All (IsBackOf d c.args.shared.now.layout.queues)) (sym c.in_ok-backs.ensures.items) (λ i e h. absurd (omega (arith, h))),
-        ap (λ (l : List BackResources). map number_of l ++ falling (length c.args.seats.items)) c.in_ok-backs.ensures.items ∙ ap falling n,
+        ap (λ (l : List BackResources). map seat_number l ++ falling (length c.args.seats.items)) c.in_ok-backs.ensures.items ∙ ap falling n,
       ),
 )
 
@@ -48,9 +48,9 @@ loop-seat-preserved c =
                   rx_writable = c.in_ok-rx.ensures.rights;
                   seat = last.1 ∙ ap (new_seat d) (let l = c.len-queue.ensures in omega arith);
                 })),
-            ap (λ (l : List BackResources). map number_of l ++ falling (length c.pop.new.self.items)) c.in_ok-push.ensures.items
-                ∙ pushed_falls number_of c.loop-seat.backs.items _ (length c.pop.new.self.items) queues (ap (λ (s : SeatView). s.number) last.1)
-                (ap (λ k. map number_of c.loop-seat.backs.items ++ falling k) (sym below) ∙ all.2),
+            ap (λ (l : List BackResources). map seat_number l ++ falling (length c.pop.new.self.items)) c.in_ok-push.ensures.items
+                ∙ pushed_falls seat_number c.loop-seat.backs.items _ (length c.pop.new.self.items) queues (ap (λ (s : SeatView). s.number) last.1)
+                (ap (λ k. map seat_number c.loop-seat.backs.items ++ falling k) (sym below) ∙ all.2),
           ),
     )
 
@@ -58,4 +58,4 @@ pub returns-clause-own : goal.returns-clause-own
 returns-clause-own c d new =
     let none : c.loop-seat.seats.items ≡ [] = empty_list c.loop-seat.seats.items (λ h. true≢false (sym (c.in_default.ensures.variant.1 (let ok = c.loop-seat.seats.ok in omega arith)))) in
     let all = c.loop-seat.invariant.2 d new in
-    (all.1, sym (append-nil (map number_of c.loop-seat.backs.items)) ∙ (ap (λ (l : List SeatView). map number_of c.loop-seat.backs.items ++ falling (length l)) (sym none) ∙ all.2))
+    (all.1, sym (append-nil (map seat_number c.loop-seat.backs.items)) ∙ (ap (λ (l : List SeatView). map seat_number c.loop-seat.backs.items ++ falling (length l)) (sym none) ∙ all.2))

@@ -2,7 +2,7 @@ use Rattle.std.proofs.Common.{arith, ℕ, suc, ◌≡◌, ◌∷◌, ◌++◌, [
 use Rattle.std.specs.List.{range_with_len}
 use Rattle.std.proofs.lemmas.List.Elements.{All-push}
 use Rattle.bpf_maps.specs.Seats.{SeatView}
-use Rattle.thread_pair.specs.Resources.{IsBackOf, falling, number_of}
+use Rattle.thread_pair.specs.Resources.{IsBackOf, falling, seat_number}
 use Rattle.thread_pair.specs.Promised.{Child, PromisesSeatOf, promised, promised_number, promised_task}
 use Rattle.thread_pair.specs.Working.{IsWork, Task, task_of}
 use Rattle.thread_pair.specs.declared.resources.BackResources.{BackResources}
@@ -16,8 +16,8 @@ loop-own-init g c =
     record {
       shapes = c.requires.shapes;
       resources = c.requires.resources;
-      promises = subst (All (PromisesSeatOf (task_of c.args.job.now.program.now c.args.job.now.shared.now) c.args.job.now.turns c.args.counters.now)) (sym none) (λ i e h. absurd (omega (arith, h)));
-      left = ap (λ (l : List Child). map number_of c.args.resources.items ++ falling (length l)) none ∙ (append-nil (map number_of c.args.resources.items) ∙ c.requires.numbers);
+      promises = subst (All (PromisesSeatOf (task_of c.args.job.now.program.now c.args.job.now.listed.now.lists.items c.args.job.now.shared.now) c.args.job.now.turns c.args.counters.now)) (sym none) (λ i e h. absurd (omega (arith, h)));
+      left = ap (λ (l : List Child). map seat_number c.args.resources.items ++ falling (length l)) none ∙ (append-nil (map seat_number c.args.resources.items) ∙ c.requires.numbers);
       started = subst (λ (l : List Child). map promised_number l ≡ range_with_len 0 (length l)) (sym none) refl;
       count = (let n = ap length none in let ok = c.args.backs.ok in omega arith);
       room = c.requires.room.1;
@@ -29,30 +29,31 @@ loop-own-preserved g c =
     let counters = c.args.counters.now in
     let split = c.in-Some.ensures.items in
     let known = last_of (IsBackOf counters c.args.job.now.shared.now.layout.queues) _ _ _ split before.resources in
-    let task = task_of c.args.job.now.program.now c.args.job.now.shared.now in
+    let task = task_of c.args.job.now.program.now c.args.job.now.listed.now.lists.items c.args.job.now.shared.now in
     let of = c.of-promise.ensures in
     let ok = c.in-Ok.ensures.ok in
     let is : promised c.in-Ok.back ≡ c.in-Some.own.seat = ap (λ p. p.seat.value) ok ∙ of.seat in
     let same : promised_task c.in-Ok.back ≡ task =
     let program = ap (λ p. p.program.value) ok ∙ of.program in
+    let lists = ap (λ p. p.lists.value.items) ok ∙ ap (λ v. v.items) of.lists in
     let queues = ap (λ p. p.queues) ok ∙ of.queues in
     let ifindex = ap (λ p. p.ifindex) ok ∙ of.numbers.0 in
     let start = ap (λ p. p.start) ok ∙ of.numbers.1 in
     let host = ap (λ p. p.host) ok ∙ of.host in
-    (λ i. record { program = program i; queues = queues i; ifindex = ifindex i; start = start i; host = host i }) in
+    (λ i. record { program = program i; lists = lists i; queues = queues i; ifindex = ifindex i; start = start i; host = host i }) in
     let turns = ap (λ p. p.turns) ok ∙ of.numbers.2 in
     let pushed = c.push_reserved.ensures.items in
     let old = c.loop-own.backs.items in
     let n = ap length split in
     let m = length-append c.pop.new.self.items (c.in-Some.own ∷ []) in
     let longer : length c.push_reserved.new.self.items ≡ suc (length old) = ap length pushed ∙ (let k = length-append old (c.in-Ok.back ∷ []) in omega (arith, k)) in
-    let lower = popped_falls number_of c.pop.new.self.items c.in-Some.own (length old) (vec_len c.args.resources) (ap (λ (l : List BackResources). map number_of l ++ falling (length old)) (sym split) ∙ before.left) in
+    let lower = popped_falls seat_number c.pop.new.self.items c.in-Some.own (length old) (vec_len c.args.resources) (ap (λ (l : List BackResources). map seat_number l ++ falling (length old)) (sym split) ∙ before.left) in
     record {
       shapes = before.shapes;
       resources = known.0;
       promises = subst (All (PromisesSeatOf task c.args.job.now.turns counters)) (sym pushed)
           (All-push (PromisesSeatOf task c.args.job.now.turns counters) old c.in-Ok.back before.promises ((ap (λ (s : SeatView). s.table) (is ∙ known.1.seat), ap (λ (s : SeatView). s.shapes) (is ∙ known.1.seat), ap (λ (s : SeatView). s.begin) (is ∙ known.1.seat)), same, turns));
-      left = ap (λ k. map number_of c.pop.new.self.items ++ falling k) longer ∙ lower.1;
+      left = ap (λ k. map seat_number c.pop.new.self.items ++ falling k) longer ∙ lower.1;
       started = subst (λ (l : List Child). map promised_number l ≡ range_with_len 0 (length l)) (sym pushed)
           (pushed_rises promised_number old c.in-Ok.back (ap (λ (s : SeatView). s.number) is ∙ lower.0) before.started);
       count = (let b = before.count in let l = c.push_reserved.ensures.len in omega arith);
@@ -76,14 +77,15 @@ spawn_with-requires-clause-keeps g c κs within r h =
     let of = c.of-promise.ensures in
     let p = c.of-promise.result in
     let seat = of.seat ∙ known.1.seat in
-    let task = task_of c.args.job.now.program.now c.args.job.now.shared.now in
+    let task = task_of c.args.job.now.program.now c.as_slice-lists.result.now c.args.job.now.shared.now in
     let program = of.program in
+    let lists = ap (λ v. v.items) of.lists ∙ sym c.as_slice-lists.ensures.value in
     let queues = of.queues in
     let ifindex = of.numbers.0 in
     let start = of.numbers.1 in
     let host = of.host in
-    let told : Task = record { program = p.program.value; queues = p.queues; ifindex = p.ifindex; start = p.start; host = p.host } in
-    let same : told ≡ task = (λ i. record { program = program i; queues = queues i; ifindex = ifindex i; start = start i; host = host i }) in (
+    let told : Task = record { program = p.program.value; lists = p.lists.value.items; queues = p.queues; ifindex = p.ifindex; start = p.start; host = p.host } in
+    let same : told ≡ task = (λ i. record { program = program i; lists = lists i; queues = queues i; ifindex = ifindex i; start = start i; host = host i }) in (
       h.0.0 ∙ sym (ap (λ (s : SeatView). s.table) seat),
       h.0.1 ∙ sym (ap (λ (s : SeatView). s.shapes) seat),
       h.0.2 ∙ sym (ap (λ (s : SeatView). s.begin) seat),
