@@ -66,7 +66,8 @@ enum laxonje_kind {
 	LAXONJE_SETTINGS, /* the settings text has the fault L`cause`. L0: out of memory */
 	LAXONJE_EMPTY,    /* there is no program */
 	LAXONJE_NULL,     /* `out` is null: nothing was done */
-	LAXONJE_OTHER     /* the settings text has another program, or other maps */
+	LAXONJE_OTHER,    /* the settings text has another program, or other maps */
+	LAXONJE_OBJECT    /* the object has no such program: `cause` says why, and `at` where */
 };
 
 /* The causes V0 to V19 of LAXONJE_REFUSED. There is no V18. */
@@ -103,6 +104,46 @@ enum laxonje_settings_cause {
 	LAXONJE_L_HEX,       /* a hex text */
 	LAXONJE_L_RELOCATION, /* a relocation */
 	LAXONJE_L_ROWS       /* rows of a map that no list can have */
+};
+
+/* The causes of LAXONJE_OBJECT. `at` is the number of a section, a symbol, a relocation of the function's section or a type, as the name
+ * says; of two the second. From LAXONJE_O_DEFINITION on it is a map's where no relocation is named, in the order in which the function first refers
+ * to them, those of constants last. */
+enum laxonje_object_cause {
+	LAXONJE_O_MEMORY,            /* memory ran out */
+	LAXONJE_O_HEADER,            /* the bytes don't begin with an ELF header */
+	LAXONJE_O_FORMAT,            /* no file of 64 bits and little-endian byte order */
+	LAXONJE_O_MACHINE,           /* no relocatable file for BPF */
+	LAXONJE_O_SECTION_TABLE,     /* the table of sections doesn't lie in the file */
+	LAXONJE_O_SECTION,           /* a section doesn't lie in the file */
+	LAXONJE_O_SECTION_NAMES,     /* sections have no names */
+	LAXONJE_O_NO_SYMBOLS,        /* no symbol table */
+	LAXONJE_O_TWO_SYMBOL_TABLES, /* section `at` is a second symbol table */
+	LAXONJE_O_SYMBOLS,           /* a symbol table of other symbols, or without names */
+	LAXONJE_O_NO_FUNCTION,       /* no function of this name */
+	LAXONJE_O_TWO_FUNCTIONS,     /* symbol `at` is a second one */
+	LAXONJE_O_CODE,              /* a function that isn't whole slots of a section of code */
+	LAXONJE_O_TWO_TABLES,        /* section `at` is a second table of relocations */
+	LAXONJE_O_TABLE,             /* section `at` isn't whole relocations without addends */
+	LAXONJE_O_ORDER,             /* relocation `at` doesn't lie above the one before it */
+	LAXONJE_O_RELOCATION,        /* relocation `at` is of another type, as for a call */
+	LAXONJE_O_PLACE,             /* it doesn't change a wide load, or one of a map that isn't of 0 */
+	LAXONJE_O_NO_MAP,            /* its symbol is neither a map nor among constants */
+	LAXONJE_O_MAPS,              /* more than 16 maps, with those of constants */
+	LAXONJE_O_NO_TYPES,          /* no types (BTF): compile with -g */
+	LAXONJE_O_TWO_TYPES,         /* section `at` is a second one of types */
+	LAXONJE_O_TYPES,             /* types without their header */
+	LAXONJE_O_TYPE,              /* type `at` isn't a whole one of a known kind */
+	LAXONJE_O_DEFINITION,        /* map `at` has no definition as libbpf has it */
+	LAXONJE_O_NAME,              /* its name isn't 1 to 32 bytes of UTF-8 */
+	LAXONJE_O_KIND,              /* its type is no array, hash or prefix trie */
+	LAXONJE_O_KEY,               /* its keys: 4 bytes of an array, else 1 to 64 of data */
+	LAXONJE_O_ENTRIES,           /* no entry, or more than 65,536 */
+	LAXONJE_O_VALUE,             /* values of no byte, or more than 64 */
+	LAXONJE_O_OUTSIDE,           /* relocation `at` is for a place outside of its section of constants */
+	LAXONJE_O_GLOBAL,            /* relocation `at` is for a global that programs may write to */
+	LAXONJE_O_ADDRESSES,         /* map `at` is constants that are addresses: a table of texts, say */
+	LAXONJE_O_CONSTANTS          /* it has more than 65,536 bytes of constants */
 };
 
 /* What became of a program: docs/REFUSALS.md has the causes, docs/SETTINGS.md the faults of settings. */
@@ -220,7 +261,9 @@ enum laxonje_taken {
 	LAXONJE_TAKEN_BUSY,     /* a turn, a delivery or a wait is under way */
 	LAXONJE_TAKEN_NO_FRAME, /* the packet has fewer than 14 bytes, or more than LAXONJE_PACKET */
 	LAXONJE_TAKEN_SLOTS,    /* a wait for more slots than the 256 of a ring */
-	LAXONJE_TAKEN_COUNTERS  /* the host lends fewer counters than the program has: laxonje_drive.h answers this */
+	LAXONJE_TAKEN_COUNTERS, /* the host lends fewer counters than the program has: laxonje_drive.h answers this */
+	LAXONJE_TAKEN_NOT_ACCEPTED, /* the guest doesn't take what the packet leaves to it, or its segments have no bytes or more than the packet */
+	LAXONJE_TAKEN_UNKNOWN   /* what the packet leaves has no name, or its segments have more than LAXONJE_PACKET bytes */
 };
 
 /* The answer to a program's lists that are to become a queue's. But for the first, the queue has the lists that it had. */
@@ -239,9 +282,16 @@ enum laxonje_offer {
 	LAXONJE_OFFER_GSO_TCPV6 = 2  /* TCP over IPv6: the backend's feature-gso-tcpv6 */
 };
 
-/* The answer to offers that are to become a queue's. But for the first, the queue makes those that it made. */
+/* What a guest says in XenStore that it takes: what a packet that is delivered may leave to it. */
+enum laxonje_accept {
+	LAXONJE_ACCEPT_GSO_TCPV4 = 1, /* TCP over IPv4 that is still to be segmented: the frontend's feature-gso-tcpv4 is 1 */
+	LAXONJE_ACCEPT_GSO_TCPV6 = 2, /* TCP over IPv6 that is: its feature-gso-tcpv6 is 1 */
+	LAXONJE_ACCEPT_CSUM_BLANK = 4 /* a blank checksum: its feature-no-csum-offload isn't 1, and its feature-ipv6-csum-offload is 1 */
+};
+
+/* The answer to offers that are to become a queue's, or to what its guest takes. But for the first, nothing has changed. */
 enum laxonje_offering {
-	LAXONJE_OFFERED,        /* the next turn takes what they allow */
+	LAXONJE_OFFERED,        /* the next turn takes what they allow; the next delivery may leave what the guest takes */
 	LAXONJE_OFFERED_NOT,    /* there is no queue */
 	LAXONJE_OFFERED_BUSY,   /* a turn, a delivery or a wait is under way */
 	LAXONJE_OFFERED_UNKNOWN /* a bit has no name */
@@ -254,14 +304,23 @@ enum laxonje_segments {
 	LAXONJE_SEGMENTS_TCPV6
 };
 
-/* What a turn, a delivery or a wait came to. */
+/* What a packet that is delivered leaves to its guest. A blank checksum's field holds the folded sum of the pseudo header. */
+enum laxonje_offload {
+	LAXONJE_OFFLOAD_NONE,       /* nothing */
+	LAXONJE_OFFLOAD_VALIDATED,  /* nothing, and its checksum was found right */
+	LAXONJE_OFFLOAD_CSUM_BLANK, /* its TCP or UDP checksum, which is blank */
+	LAXONJE_OFFLOAD_TCPV4,      /* the same, and to make segments of TCP over IPv4 */
+	LAXONJE_OFFLOAD_TCPV6       /* the same, and to make segments of TCP over IPv6 */
+};
+
+/* Result of a turn, delivery or wait. */
 enum laxonje_outcome {
 	LAXONJE_TURN_IDLE,             /* the tx ring had no request */
 	LAXONJE_TURN_RAN,              /* the program ran, and returned `number` */
 	LAXONJE_TURN_REFUSED,          /* the packet was refused for `cause`, and its slots were answered with ERROR */
 	LAXONJE_TURN_HALTED,           /* the queue has halted for `cause`, and makes no more accesses */
-	LAXONJE_DELIVERY_SENT,         /* the packet lies in the buffers of `slots` rx slots */
-	LAXONJE_DELIVERY_FEW_SLOTS,    /* the frontend posted fewer rx slots than the packet has pages. None was taken */
+	LAXONJE_DELIVERY_SENT,         /* the packet took `slots` rx slots: one for each page, and one more if it is to be segmented */
+	LAXONJE_DELIVERY_FEW_SLOTS,    /* the frontend posted fewer rx slots than the packet takes. None was taken */
 	LAXONJE_DELIVERY_REFUSED,      /* an rx slot's grant failed its check, and `slots` slots were answered with ERROR */
 	LAXONJE_DELIVERY_HALTED,       /* the queue has halted for `cause`, and makes no more accesses */
 	LAXONJE_AWAITED_POSTED = 9,    /* they are there by now, and no notice need come for them: deliver at once */
@@ -370,8 +429,8 @@ uint32_t laxonje_proved(void);
 /* The same as a text for logs, with the release, the commit and the kit. */
 const char *laxonje_build(void);
 
-/* A handle of a program, which holds none so far: laxonje_load, laxonje_load_settings and laxonje_again put one into it. Null if memory
- * ran out, or if the library is of another version. To each call a null handle is one that holds nothing. */
+/* A handle of a program, which holds none so far: laxonje_load, laxonje_load_settings, laxonje_load_object and laxonje_again put one into it.
+ * Null if memory ran out, or if the library is of another version. To each call a null handle is one that holds nothing. */
 static inline struct laxonje_program *laxonje_program_new(void);
 
 /* Frees a program and its handle, and sets the pointer to null. It does nothing with null. */
@@ -387,6 +446,14 @@ struct laxonje_verdict laxonje_load(const uint8_t *program, size_t program_bytes
 
 /* The same with the program and the maps of a settings text (docs/SETTINGS.md). */
 struct laxonje_verdict laxonje_load_settings(const uint8_t *text, size_t text_bytes, struct laxonje_program *out);
+
+/* The same with a function of an object, as clang makes one for BPF with -g, and the maps that it refers to. They are arrays, hashes and prefix
+ * tries, also those of the variants PERCPU and LRU, numbered in the order in which the function first refers to them; laxonje_map_named finds
+ * one. A value is as many counters as hold its bytes. A hash or a trie has no row. Behind them each section of constants that the function refers
+ * to is a map of its own, named as the section: ".rodata". `function` is the name in C.
+ * At worst the time grows with the square of an object's size, 0.3 s for 1 MiB: pass no longer one of someone you don't trust. */
+struct laxonje_verdict laxonje_load_object(const uint8_t *object, size_t object_bytes,
+                                           const uint8_t *function, size_t function_bytes, struct laxonje_program *out);
 
 /* A handle more of the same program, for another thread, in place of what `out` held. Nothing is verified or copied. LAXONJE_EMPTY, and none
  * in `out`, if there is no program. */
@@ -470,12 +537,18 @@ size_t laxonje_queue_step(struct laxonje_queue *queue, uint32_t *words, size_t w
 size_t laxonje_queue_counters(struct laxonje_queue *queue);
 
 /* Begins to deliver a packet of the host's own to the guest, between two turns: `producer` is that of the rx ring, word 0 of the frame
- * `rx`, as the host has just read it. The packet is copied. The next steps are of its delivery, until the one that says LAXONJE_OP_DONE.
- * The answer is LAXONJE_TAKEN, or else why nothing was begun (enum laxonje_taken). */
+ * `rx`, as the host has just read it. The packet is copied, and leaves nothing to the guest. The next steps are of its delivery, until the one
+ * that says LAXONJE_OP_DONE. The answer is LAXONJE_TAKEN, or else why nothing was begun (enum laxonje_taken). */
 uint32_t laxonje_queue_deliver(struct laxonje_queue *queue, uint32_t producer, const uint8_t *packet, size_t packet_bytes);
 
+/* The same for a packet that leaves this to the guest (enum laxonje_offload), if the guest takes it (laxonje_queue_accept). Of a packet that is
+ * to be segmented `segment_size` is the most bytes of payload in each segment, 1 to the packet's bytes; of others it isn't looked at. Nor are
+ * the packet's bytes: the host sees to it that they are what it says of them. */
+uint32_t laxonje_queue_deliver_as(struct laxonje_queue *queue, uint32_t producer, const uint8_t *packet, size_t packet_bytes,
+                                  uint32_t offload, uint32_t segment_size);
+
 /* Begins to wait for `pages` rx slots, between two turns: after LAXONJE_DELIVERY_FEW_SLOTS, with the packet's bytes divided by 4,096 and
- * rounded up. The next steps are of the wait, until the one that says LAXONJE_OP_DONE: they store the rx ring's event index, and read its
+ * rounded up, and one more if it is to be segmented. The next steps are of the wait, until the one that says LAXONJE_OP_DONE: they store the rx ring's event index, and read its
  * producer after it. The answer is LAXONJE_TAKEN, or else why nothing was begun (enum laxonje_taken). The last index that was stored
  * counts. */
 uint32_t laxonje_queue_await(struct laxonje_queue *queue, uint32_t pages);
@@ -487,6 +560,10 @@ uint32_t laxonje_queue_flags(struct laxonje_queue *queue);
 /* Has a queue make these offers (enum laxonje_offer) in place of its own, between two turns: a new queue makes none. The answer is of enum
  * laxonje_offering. */
 uint32_t laxonje_queue_offer(struct laxonje_queue *queue, uint32_t offers);
+
+/* Has a queue know what its guest takes (enum laxonje_accept), in place of what it knew, between two turns: a new queue delivers no packet that
+ * leaves anything. The answer is of enum laxonje_offering. */
+uint32_t laxonje_queue_accept(struct laxonje_queue *queue, uint32_t accepts);
 
 /* What kind of segments the packet of the turn that is under way or over is to make (enum laxonje_segments). 0 before the packet's slots are
  * read, of a packet that isn't to be segmented or isn't taken so, and with no queue. A delivery and a wait leave it. */
@@ -561,8 +638,9 @@ static inline struct laxonje_program *laxonje_program_new(void)
 
 static inline void laxonje_program_delete(struct laxonje_program **program)
 {
-	if (*program)
-		laxonje_free(*program);
+	if (!program)
+		return;
+	laxonje_free(*program);
 	free(*program);
 	*program = NULL;
 }
@@ -574,8 +652,9 @@ static inline struct laxonje_queue *laxonje_queue_new(void)
 
 static inline void laxonje_queue_delete(struct laxonje_queue **queue)
 {
-	if (*queue)
-		laxonje_queue_free(*queue);
+	if (!queue)
+		return;
+	laxonje_queue_free(*queue);
 	free(*queue);
 	*queue = NULL;
 }
@@ -592,8 +671,9 @@ static inline struct laxonje_shared *laxonje_counters_new(struct laxonje_program
 
 static inline void laxonje_counters_delete(struct laxonje_shared **counters)
 {
-	if (*counters)
-		laxonje_counters_free(*counters);
+	if (!counters)
+		return;
+	laxonje_counters_free(*counters);
 	free(*counters);
 	*counters = NULL;
 }

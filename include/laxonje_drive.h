@@ -1,8 +1,8 @@
 /* The loop of a host of netback's queue: each access of a turn, a delivery or a wait, made once and in order in pages that the host has
  * mapped; and names for its logs. C11 and C++17, for gcc and clang. It is glue over laxonje.h: tested, and not proved.
  *
- * A host fills in a struct laxonje_io and a struct laxonje_drive, and calls the three functions at the end. docs/HOST.md, "Netback's
- * queue", has a whole host over it. A host with accesses of its own writes its own loop over laxonje.h. */
+ * A host fills in a struct laxonje_io and a struct laxonje_drive, and calls laxonje_drive_turn, laxonje_drive_deliver and laxonje_drive_await.
+ * docs/HOST.md, "Netback's queue", has a whole host over it. A host with accesses of its own writes its own loop over laxonje.h. */
 #ifndef LAXONJE_DRIVE_H
 #define LAXONJE_DRIVE_H
 
@@ -154,7 +154,7 @@ static inline struct laxonje_op laxonje_drive_begun_(struct laxonje_drive *drive
 	return laxonje_drive_finish_(drive, io, ops, count);
 }
 
-/* A turn: at most one packet. */
+/* A turn: at most one packet. Of a queue that has halted the ring's producer is read all the same, so delete it before its pages are unmapped. */
 static inline struct laxonje_op laxonje_drive_turn(struct laxonje_drive *drive, const struct laxonje_io *io)
 {
 	struct laxonje_op ops[LAXONJE_OPS];
@@ -167,32 +167,47 @@ static inline struct laxonje_op laxonje_drive_turn(struct laxonje_drive *drive, 
 	return laxonje_drive_finish_(drive, io, ops, count);
 }
 
-/* A packet of the host's own to the guest. If it is taken (enum laxonje_taken), `over` says what became of it; else its outcome is
- * LAXONJE_NOTHING. */
-static inline uint32_t laxonje_drive_deliver(struct laxonje_drive *drive, const struct laxonje_io *io, const uint8_t *packet, size_t packet_bytes,
-                                             struct laxonje_op *over)
+/* A packet of the host's own to the guest, as laxonje_queue_deliver_as has it. If it is taken (enum laxonje_taken), `over` says what became of it;
+ * else its outcome is LAXONJE_NOTHING. */
+static inline uint32_t laxonje_drive_deliver_as(struct laxonje_drive *drive, const struct laxonje_io *io, const uint8_t *packet,
+                                                size_t packet_bytes, uint32_t offload, uint32_t segment_size, struct laxonje_op *over)
 {
 	uint32_t taken = laxonje_drive_may_begin_(drive);
 	if (taken == LAXONJE_TAKEN && !laxonje_drive_producer_(drive, io, drive->rx))
 		taken = LAXONJE_TAKEN_BUSY;
 	if (taken == LAXONJE_TAKEN)
-		taken = laxonje_queue_deliver(drive->queue, drive->words[0], packet, packet_bytes);
+		taken = laxonje_queue_deliver_as(drive->queue, drive->words[0], packet, packet_bytes, offload, segment_size);
 	*over = taken == LAXONJE_TAKEN ? laxonje_drive_begun_(drive, io) : laxonje_drive_nothing_(taken);
 	return taken;
 }
 
-/* A wait for the rx slots of a packet of that many bytes, one that can be delivered. If it is taken, `over` says what it came to; else its
- * outcome is LAXONJE_NOTHING. */
-static inline uint32_t laxonje_drive_await(struct laxonje_drive *drive, const struct laxonje_io *io, size_t packet_bytes, struct laxonje_op *over)
+/* The same for a packet that leaves nothing to the guest. */
+static inline uint32_t laxonje_drive_deliver(struct laxonje_drive *drive, const struct laxonje_io *io, const uint8_t *packet, size_t packet_bytes,
+                                             struct laxonje_op *over)
+{
+	return laxonje_drive_deliver_as(drive, io, packet, packet_bytes, LAXONJE_OFFLOAD_NONE, 0, over);
+}
+
+/* A wait for the rx slots of a packet of that many bytes that leaves this to the guest (enum laxonje_offload), one that can be delivered. If it is
+ * taken, `over` says what it came to; else its outcome is LAXONJE_NOTHING. */
+static inline uint32_t laxonje_drive_await_as(struct laxonje_drive *drive, const struct laxonje_io *io, size_t packet_bytes, uint32_t offload,
+                                              struct laxonje_op *over)
 {
 	const size_t page = 4 * LAXONJE_PAGE_WORDS, header = 14;
+	const size_t extra = offload == LAXONJE_OFFLOAD_TCPV4 || offload == LAXONJE_OFFLOAD_TCPV6;
 	uint32_t taken = laxonje_drive_may_begin_(drive);
 	if (taken == LAXONJE_TAKEN && (packet_bytes < header || packet_bytes > LAXONJE_PACKET))
 		taken = LAXONJE_TAKEN_NO_FRAME;
 	if (taken == LAXONJE_TAKEN)
-		taken = laxonje_queue_await(drive->queue, (uint32_t)((packet_bytes + page - 1) / page));
+		taken = laxonje_queue_await(drive->queue, (uint32_t)((packet_bytes + page - 1) / page + extra));
 	*over = taken == LAXONJE_TAKEN ? laxonje_drive_begun_(drive, io) : laxonje_drive_nothing_(taken);
 	return taken;
+}
+
+/* The same for a packet that leaves nothing to the guest. */
+static inline uint32_t laxonje_drive_await(struct laxonje_drive *drive, const struct laxonje_io *io, size_t packet_bytes, struct laxonje_op *over)
+{
+	return laxonje_drive_await_as(drive, io, packet_bytes, LAXONJE_OFFLOAD_NONE, over);
 }
 
 /* ---- The pages of a guest whose memory has many parts */
@@ -259,6 +274,8 @@ static inline const char *laxonje_taken_name(uint32_t taken)
 	case LAXONJE_TAKEN_NO_FRAME: return "fewer than 14 bytes, or more than 65,535";
 	case LAXONJE_TAKEN_SLOTS: return "more slots than a ring has";
 	case LAXONJE_TAKEN_COUNTERS: return "fewer counters than the program has";
+	case LAXONJE_TAKEN_NOT_ACCEPTED: return "the guest doesn't take what the packet leaves to it";
+	case LAXONJE_TAKEN_UNKNOWN: return "what the packet leaves has no name";
 	default: return "no answer";
 	}
 }

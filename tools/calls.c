@@ -9,6 +9,7 @@ const char laxonje_header_3 = LAXONJE_VERSION;
 
 HELD(laxonje_load);
 HELD(laxonje_load_settings);
+HELD(laxonje_load_object);
 HELD(laxonje_again);
 HELD(laxonje_free);
 HELD(laxonje_run);
@@ -25,9 +26,11 @@ HELD(laxonje_queue_turn);
 HELD(laxonje_queue_step);
 HELD(laxonje_queue_counters);
 HELD(laxonje_queue_deliver);
+HELD(laxonje_queue_deliver_as);
 HELD(laxonje_queue_await);
 HELD(laxonje_queue_flags);
 HELD(laxonje_queue_offer);
+HELD(laxonje_queue_accept);
 HELD(laxonje_queue_segment_type);
 HELD(laxonje_queue_segment_size);
 HELD(laxonje_queue_packet);
@@ -52,6 +55,12 @@ struct laxonje_verdict laxonje_load(const uint8_t *program, size_t program_bytes
 struct laxonje_verdict laxonje_load_settings(const uint8_t *text, size_t text_bytes, struct laxonje_program *out)
 {
 	return out ? held_laxonje_load_settings(text, text_bytes, out) : no_out;
+}
+
+struct laxonje_verdict laxonje_load_object(const uint8_t *object, size_t object_bytes, const uint8_t *function, size_t function_bytes,
+                                           struct laxonje_program *out)
+{
+	return out ? held_laxonje_load_object(object, object_bytes, function, function_bytes, out) : no_out;
 }
 
 struct laxonje_verdict laxonje_again(struct laxonje_program *program, struct laxonje_program *out)
@@ -156,6 +165,12 @@ uint32_t laxonje_queue_deliver(struct laxonje_queue *queue, uint32_t producer, c
 	return queue ? held_laxonje_queue_deliver(queue, producer, packet, packet_bytes) : LAXONJE_TAKEN_NOT;
 }
 
+uint32_t laxonje_queue_deliver_as(struct laxonje_queue *queue, uint32_t producer, const uint8_t *packet, size_t packet_bytes,
+                                  uint32_t offload, uint32_t segment_size)
+{
+	return queue ? held_laxonje_queue_deliver_as(queue, producer, packet, packet_bytes, offload, segment_size) : LAXONJE_TAKEN_NOT;
+}
+
 uint32_t laxonje_queue_await(struct laxonje_queue *queue, uint32_t pages)
 {
 	return queue ? held_laxonje_queue_await(queue, pages) : LAXONJE_TAKEN_NOT;
@@ -169,6 +184,11 @@ uint32_t laxonje_queue_flags(struct laxonje_queue *queue)
 uint32_t laxonje_queue_offer(struct laxonje_queue *queue, uint32_t offers)
 {
 	return queue ? held_laxonje_queue_offer(queue, offers) : LAXONJE_OFFERED_NOT;
+}
+
+uint32_t laxonje_queue_accept(struct laxonje_queue *queue, uint32_t accepts)
+{
+	return queue ? held_laxonje_queue_accept(queue, accepts) : LAXONJE_OFFERED_NOT;
 }
 
 uint32_t laxonje_queue_segment_type(struct laxonje_queue *queue)

@@ -8,7 +8,9 @@
 #define laxonje_counters_delete inline_counters_delete
 #define laxonje_drive_turn inline_drive_turn
 #define laxonje_drive_deliver inline_drive_deliver
+#define laxonje_drive_deliver_as inline_drive_deliver_as
 #define laxonje_drive_await inline_drive_await
+#define laxonje_drive_await_as inline_drive_await_as
 #define laxonje_mapped_page inline_mapped_page
 #define laxonje_mapped_extents inline_mapped_extents
 #define laxonje_taken_name inline_taken_name
@@ -26,7 +28,9 @@
 #undef laxonje_counters_delete
 #undef laxonje_drive_turn
 #undef laxonje_drive_deliver
+#undef laxonje_drive_deliver_as
 #undef laxonje_drive_await
+#undef laxonje_drive_await_as
 #undef laxonje_mapped_page
 #undef laxonje_mapped_extents
 #undef laxonje_taken_name
@@ -45,7 +49,9 @@ extern __typeof__(inline_counters_new) laxonje_counters_new;
 extern __typeof__(inline_counters_delete) laxonje_counters_delete;
 extern __typeof__(inline_drive_turn) laxonje_drive_turn;
 extern __typeof__(inline_drive_deliver) laxonje_drive_deliver;
+extern __typeof__(inline_drive_deliver_as) laxonje_drive_deliver_as;
 extern __typeof__(inline_drive_await) laxonje_drive_await;
+extern __typeof__(inline_drive_await_as) laxonje_drive_await_as;
 extern __typeof__(inline_mapped_page) laxonje_mapped_page;
 extern __typeof__(inline_mapped_extents) laxonje_mapped_extents;
 extern __typeof__(inline_taken_name) laxonje_taken_name;
@@ -96,9 +102,21 @@ uint32_t laxonje_drive_deliver(struct laxonje_drive *drive, const struct laxonje
 	return inline_drive_deliver(drive, io, packet, packet_bytes, over);
 }
 
+uint32_t laxonje_drive_deliver_as(struct laxonje_drive *drive, const struct laxonje_io *io, const uint8_t *packet, size_t packet_bytes,
+                                  uint32_t offload, uint32_t segment_size, struct laxonje_op *over)
+{
+	return inline_drive_deliver_as(drive, io, packet, packet_bytes, offload, segment_size, over);
+}
+
 uint32_t laxonje_drive_await(struct laxonje_drive *drive, const struct laxonje_io *io, size_t packet_bytes, struct laxonje_op *over)
 {
 	return inline_drive_await(drive, io, packet_bytes, over);
+}
+
+uint32_t laxonje_drive_await_as(struct laxonje_drive *drive, const struct laxonje_io *io, size_t packet_bytes, uint32_t offload,
+                                struct laxonje_op *over)
+{
+	return inline_drive_await_as(drive, io, packet_bytes, offload, over);
 }
 
 uint32_t *laxonje_mapped_page(const struct laxonje_mapped *parts, size_t count, uint32_t frame)

@@ -82,13 +82,20 @@ static void finish(struct input *input, struct laxonje_queue *queue, bool turn)
 	outcomes[ops[count - 1].outcome]++;
 }
 
+/* Begins a delivery of a packet that leaves anything to the guest. */
+static uint32_t deliver(struct input *input, struct laxonje_queue *queue, uint32_t what)
+{
+	static const uint8_t packet[LAXONJE_PACKET];
+	uint32_t bytes = FRAME + what % (LAXONJE_PACKET - FRAME), offload = (what >> 2) % (LAXONJE_OFFLOAD_TCPV6 + 1);
+	return laxonje_queue_deliver_as(queue, next(input), packet, bytes, offload, 1 + (what >> 5) % bytes);
+}
+
 /* A turn, a delivery or a wait. */
 static void take(struct input *input, struct laxonje_queue *queue)
 {
-	static const uint8_t packet[LAXONJE_PACKET];
 	uint32_t what = next(input);
 	if (what % 4 == 1)
-		is(laxonje_queue_deliver(queue, next(input), packet, FRAME + what % (LAXONJE_PACKET - FRAME)) == LAXONJE_TAKEN, "a delivery that isn't begun");
+		is(deliver(input, queue, what) == LAXONJE_TAKEN, "a delivery that isn't begun");
 	if (what % 4 == 2)
 		is(laxonje_queue_await(queue, (what >> 2) % (RING + 1)) == LAXONJE_TAKEN, "a wait that isn't begun");
 	finish(input, queue, what % 4 != 1 && what % 4 != 2);
@@ -104,6 +111,7 @@ int LLVMFuzzerTestOneInput(const uint8_t *bytes, size_t size)
 	struct laxonje_queue_desc desc = { TX, RX, GUEST, 0, PORT, 0, 0, near_zero(&input), near_zero(&input) };
 	is(laxonje_load(fuzz_program, fuzz_program_bytes, NULL, 0, program).kind == LAXONJE_ACCEPTED, "no program");
 	is(laxonje_queue_make_extents(program, extents, 2, table, 1, &desc, queue) == LAXONJE_MADE, "no queue");
+	is(laxonje_queue_accept(queue, LAXONJE_ACCEPT_GSO_TCPV4 | LAXONJE_ACCEPT_GSO_TCPV6 | LAXONJE_ACCEPT_CSUM_BLANK) == LAXONJE_OFFERED, "none taken");
 	for (int task = 0; task < TASKS; task++)
 		take(&input, queue);
 	laxonje_queue_delete(&queue);

@@ -3,15 +3,15 @@
 #include <laxonje.h>
 #include <stdio.h>
 
-enum { TX, RX, TABLE, DATA, FRAMES, GUEST = 5, PORT = 7, PERMIT = 1, SLOTS = 18, PAGES = 16, LATER = 3641 };
-enum { MOST_TURN = 33027, MOST_DELIVERY = 16484, MOST_WAIT = 2 };
+enum { TX, RX, TABLE, DATA, FRAMES, GUEST = 5, PORT = 7, PERMIT = 1, SLOTS = 18, PAGES = 16, BUFFERS, LATER = 3641 };
+enum { MOST_TURN = 33027, MOST_DELIVERY = 16484, MOST_SEGMENTED = 16488, MOST_WAIT = 2 };
 
 /* The guest's memory, which stays as it is: what the queue writes is dropped. */
 static uint32_t memory[FRAMES][LAXONJE_PAGE_WORDS];
 static uint32_t words[LAXONJE_PAGE_WORDS];
 static uint8_t packet[LAXONJE_PACKET];
 
-/* A packet of 65,535 bytes in 18 slots, and 16 buffers, all of them the same granted page. Each response owes a notice. */
+/* A packet of 65,535 bytes in 18 slots, and 17 buffers, all of them the same granted page. Each response owes a notice. */
 static void guest_publishes(void)
 {
 	for (uint32_t slot = 0; slot < SLOTS; slot++) {
@@ -20,7 +20,7 @@ static void guest_publishes(void)
 		at[2] = slot | (uint32_t)(slot ? LATER : LAXONJE_PACKET) << 16;
 	}
 	memory[TABLE][0] = PERMIT, memory[TABLE][1] = DATA;
-	memory[TX][0] = SLOTS, memory[RX][0] = PAGES;
+	memory[TX][0] = SLOTS, memory[RX][0] = BUFFERS;
 	memory[TX][3] = memory[RX][3] = 1;
 }
 
@@ -70,6 +70,9 @@ int main(void)
 	right &= takes(queue, "a turn", first, LAXONJE_TURN_RAN, MOST_TURN);
 	right &= makes(queue) && laxonje_queue_deliver(queue, PAGES, packet, LAXONJE_PACKET) == LAXONJE_TAKEN;
 	right &= takes(queue, "a delivery", none, LAXONJE_DELIVERY_SENT, MOST_DELIVERY);
+	right &= makes(queue) && laxonje_queue_accept(queue, LAXONJE_ACCEPT_GSO_TCPV4) == LAXONJE_OFFERED;
+	right &= laxonje_queue_deliver_as(queue, BUFFERS, packet, LAXONJE_PACKET, LAXONJE_OFFLOAD_TCPV4, 1) == LAXONJE_TAKEN;
+	right &= takes(queue, "a delivery to be segmented", none, LAXONJE_DELIVERY_SENT, MOST_SEGMENTED);
 	right &= makes(queue) && laxonje_queue_await(queue, PAGES) == LAXONJE_TAKEN;
 	right &= takes(queue, "a wait", none, LAXONJE_AWAITED_POSTED, MOST_WAIT);
 	laxonje_queue_delete(&queue);

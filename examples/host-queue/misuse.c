@@ -50,6 +50,7 @@ static void null_programs(struct laxonje_program *program)
 	const struct laxonje_packet packets[] = { { 0, BYTES } };
 	is("load", laxonje_load(pass, sizeof pass, NULL, 0, NULL).kind, LAXONJE_NULL);
 	is("load settings", laxonje_load_settings((const uint8_t *)counts, strlen(counts), NULL).kind, LAXONJE_NULL);
+	is("load object", laxonje_load_object((const uint8_t *)counts, strlen(counts), (const uint8_t *)counts, 1, NULL).kind, LAXONJE_NULL);
 	is("again to null", laxonje_again(program, NULL).kind, LAXONJE_NULL);
 	is("again of null", laxonje_again(NULL, program).kind, LAXONJE_EMPTY);
 	is("again of null leaves none", laxonje_map_count(program), 0);
@@ -81,10 +82,14 @@ static void null_queues(struct laxonje_program *program, struct laxonje_queue *q
 	is("queue counters", laxonje_queue_counters(NULL), LAXONJE_NOWHERE);
 	is("counters of no queue", laxonje_queue_counters(queue), LAXONJE_NOWHERE);
 	is("deliver", laxonje_queue_deliver(NULL, 0, packet, BYTES), LAXONJE_TAKEN_NOT);
+	is("deliver as", laxonje_queue_deliver_as(NULL, 0, packet, BYTES, LAXONJE_OFFLOAD_TCPV4, 1), LAXONJE_TAKEN_NOT);
+	is("deliver as of no queue", laxonje_queue_deliver_as(queue, 0, packet, BYTES, LAXONJE_OFFLOAD_TCPV4, 1), LAXONJE_TAKEN_NOT);
 	is("await", laxonje_queue_await(NULL, 1), LAXONJE_TAKEN_NOT);
 	is("flags", laxonje_queue_flags(NULL), 0);
 	is("offer", laxonje_queue_offer(NULL, 0), LAXONJE_OFFERED_NOT);
 	is("offer of no queue", laxonje_queue_offer(queue, 0), LAXONJE_OFFERED_NOT);
+	is("accept", laxonje_queue_accept(NULL, LAXONJE_ACCEPT_CSUM_BLANK), LAXONJE_OFFERED_NOT);
+	is("accept of no queue", laxonje_queue_accept(queue, LAXONJE_ACCEPT_CSUM_BLANK), LAXONJE_OFFERED_NOT);
 	is("segment type", laxonje_queue_segment_type(NULL), LAXONJE_SEGMENTS_NONE);
 	is("segment size", laxonje_queue_segment_size(NULL), 0);
 	is("packet", laxonje_queue_packet(NULL, packet, sizeof packet), 0);
@@ -93,6 +98,7 @@ static void null_queues(struct laxonje_program *program, struct laxonje_queue *q
 	is("queue relist of null", laxonje_queue_relist(NULL, NULL), LAXONJE_RELISTED_NOT);
 	is("queue relist of no queue", laxonje_queue_relist(queue, NULL), LAXONJE_RELISTED_NOT);
 	laxonje_queue_free(NULL);
+	laxonje_queue_delete(NULL), laxonje_program_delete(NULL), laxonje_counters_delete(NULL);
 }
 
 /* What a turn, a delivery and a wait answer if nothing can be begun. */

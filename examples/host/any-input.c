@@ -1,7 +1,7 @@
-/* Every call is answered, whatever it is given: programs and settings of 0 bytes to 1 MiB, good ones with bits changed,
+/* Every call is answered, whatever it is given: programs, settings and objects of 0 bytes to 1 MiB, good ones with bits changed,
  * maps and packets of any size, too few counters, handles that hold nothing. What isn't run changes nothing.
  *
- * usage: any-input CALLS SETTINGS.. ; under valgrind or a sanitizer nothing is lost and nothing is leaked. */
+ * usage: any-input CALLS SETTINGS-OR-OBJECT.. ; under valgrind or a sanitizer nothing is lost and nothing is leaked. */
 #include <laxonje.h>
 #include <stdbool.h>
 #include <stdio.h>
@@ -13,7 +13,7 @@ enum { MOST = 1 << 20, MOST_TEXTS = 32, MOST_PACKET = 70000, MOST_COUNTERS = 400
 static uint64_t state = 1;
 static uint8_t *texts[MOST_TEXTS];
 static size_t lengths[MOST_TEXTS], text_count;
-static unsigned long answers[5], runs, unrun;
+static unsigned long answers[LAXONJE_OBJECT + 1], runs, unrun;
 
 static uint64_t any(uint64_t below)
 {
@@ -77,6 +77,7 @@ static void load_any(struct holder *to)
 {
 	static const uint8_t nothing[1];
 	static const struct laxonje_map none[1];
+	static const char function[] = "count_protocol";
 	struct laxonje_program *program = to->program;
 	struct laxonje_map *maps = malloc(8 * sizeof *maps);
 	struct laxonje_verdict verdict, checked;
@@ -85,7 +86,7 @@ static void load_any(struct holder *to)
 
 	for (size_t i = 0; i < count; i++)
 		maps[i] = any(50) ? (struct laxonje_map){1 + any(16), 1 + any(3)} : (struct laxonje_map){any(2000), any(12)};
-	switch (any(8)) {
+	switch (any(10)) {
 	case 0: case 1: case 2: case 3:
 		bytes = any_bytes(&length);
 		verdict = laxonje_load_settings(bytes, length, program);
@@ -99,6 +100,11 @@ static void load_any(struct holder *to)
 	case 5:
 		verdict = laxonje_load(nothing, 0, none, 0, program);
 		break;
+	case 6: case 7:
+		bytes = any_bytes(&length);
+		verdict = laxonje_load_object(bytes, length, (const uint8_t *)function, any(9) ? sizeof function - 1 : any(9), program);
+		free(bytes);
+		break;
 	default:
 		length = any_program(small);
 		checked = laxonje_check(small, length, maps, count);
@@ -107,7 +113,7 @@ static void load_any(struct holder *to)
 			wrong("check and load differ");
 	}
 	free(maps);
-	if (verdict.kind > LAXONJE_SETTINGS)
+	if (verdict.kind > LAXONJE_SETTINGS && verdict.kind != LAXONJE_OBJECT)
 		wrong("kind");
 	to->live = verdict.kind == LAXONJE_ACCEPTED;
 	answers[verdict.kind]++;
@@ -270,7 +276,7 @@ int main(int argc, char **argv)
 		laxonje_program_delete(&programs[i].program);
 	for (size_t i = 0; i < text_count; i++)
 		free(texts[i]);
-	printf("calls %lu accepted %lu refused %lu map %lu settings %lu empty %lu runs %lu not-run %lu\n", count, answers[0], answers[1],
-	       answers[2], answers[3], answers[4], runs, unrun);
+	printf("calls %lu accepted %lu refused %lu map %lu settings %lu empty %lu object %lu runs %lu not-run %lu\n", count, answers[0], answers[1],
+	       answers[2], answers[3], answers[4], answers[LAXONJE_OBJECT], runs, unrun);
 	return 0;
 }

@@ -1,5 +1,6 @@
 pub mod AsBox
 mod FaultLemmas
+mod ObjectLemmas
 mod BatchLemmas
 pub mod AsQueueBox
 mod MadeLemmas

@@ -14,3 +14,8 @@ pub mod Advice
 pub mod CountersHandle
 pub mod Shared
 pub mod Offers
+pub mod Accepts
+pub mod Objects
+pub mod Loan
+pub mod QueueLoan
+pub mod CountersLoan

@@ -1,6 +1,6 @@
 -- Stated: claims rest on this file.
 -- What C is answered when it makes a queue.
-use Rattle.std.specs.Prelude.{ℕ, ◌≡◌, ◌⊎◌, List, Option, Some, map}
+use Rattle.std.specs.Prelude.{ℕ, ◌≡◌, ◌⊎◌, List, Option, Some, map, false}
 use Rattle.bpf_lists.specs.declared.list.MapList.{MapList}
 use Rattle.bpf_verify.specs.Consistent.{Accepted}
 use Rattle.xen_page.specs.declared.extents.Extent.{Extent}
@@ -13,6 +13,7 @@ use Rattle.xdp_host.specs.declared.queue_extents.XdpExtent.{XdpExtent}
 use Rattle.xdp_host.specs.declared.queue_fault.QueueFault.{QueueFault}
 use Rattle.xdp_host.specs.declared.queue_fault.QueueFault.TheVariants.{Make, Empty}
 use Rattle.xen_netif.specs.Segments.{no_offers}
+use Rattle.xen_netif.specs.declared.offload.Accepts.{Accepts}
 use Rattle.xdp_host.specs.declared.queue_abi.XdpQueueDesc.{XdpQueueDesc}
 
 -- The extents that C gives.
@@ -21,6 +22,10 @@ extent_of x = record { frames = x.frames; domain = x.domain }
 
 abbrev pub extents_of : List XdpExtent → List Extent
 extents_of extents = map extent_of extents
+
+-- A new queue's guest takes what leaves it nothing.
+abbrev pub accepts_whole : Accepts
+accepts_whole = record { blank_checksums = false; segments = no_offers }
 
 -- What C gives, with the limits of the form that it gives the owners in.
 abbrev pub given : List ℕ → Limits → List ℕ → XdpQueueDesc → Given
@@ -35,6 +40,7 @@ given owners limits table d =
       user = d.user;
       port = d.port;
       offers = no_offers;
+      accepts = accepts_whole;
       ifindex = d.ifindex;
       queue = d.queue;
       tx_index = d.tx_index;

@@ -1,7 +1,8 @@
 -- Stated: claims rest on this file.
 -- What C is answered when it has a queue make offers, and when it asks how a packet is to be segmented.
-use Rattle.std.specs.Prelude.{ℕ, ◌≡◌, Bool, true, false, ◌==◌, Option, None, Some, if◌then◌else◌}
+use Rattle.std.specs.Prelude.{ℕ, ◌≡◌, nat_lt, Option, None, Some, if◌then◌else◌}
 use Rattle.xen_netif.specs.Segments.{gso_type_number}
+use Rattle.xen_netif.specs.Words.{is_set}
 use Rattle.xen_netif.specs.declared.segments.Offers.{Offers}
 use Rattle.xen_netif.specs.declared.segments.Segments.{Segments}
 use Rattle.xen_host.specs.Offered.{IsOffering}
@@ -10,12 +11,11 @@ use Rattle.xen_host.specs.declared.offering.Offering.TheVariants.{Offered, Busy}
 use Rattle.xen_host.specs.declared.queue.Queue.{Queue}
 
 -- The bits of include/laxonje.h.
+abbrev pub types_of : ℕ → Offers
+types_of n = record { gso_tcpv4 = is_set n 0; gso_tcpv6 = is_set n 1 }
+
 abbrev pub offers_of : ℕ → Option Offers
-offers_of n =
-    if n == 0 then Some (record { gso_tcpv4 = false; gso_tcpv6 = false })
-    else (if n == 1 then Some (record { gso_tcpv4 = true; gso_tcpv6 = false })
-    else (if n == 2 then Some (record { gso_tcpv4 = false; gso_tcpv6 = true })
-    else (if n == 3 then Some (record { gso_tcpv4 = true; gso_tcpv6 = true }) else None)))
+offers_of n = if nat_lt n 4 then Some (types_of n) else None
 
 abbrev pub offering_number : Offering → ℕ
 offering_number Offered = 0

@@ -1,10 +1,12 @@
 //! What crosses to C. `include/laxonje.h` has these structs in the same order.
-ghost use Rattle.std.specs.Prelude.{◌≡◌};
+ghost use Rattle.std.specs.Prelude.{◌≡◌, min};
+ghost use Rattle.xdp_host.specs.Objects.{object_verdict};
 ghost use Rattle.xdp_host.specs.Ran.{action_number, nothing, run_of};
 ghost use Rattle.xdp_host.specs.Relisted.{relist_verdict};
 ghost use Rattle.xdp_host.specs.Verdict.{accepting, verdict_of};
 
 use crate::fault::Fault;
+use crate::object_fault::ObjectFault;
 use bpf_vm::Action;
 use xdp_program::{RelistFault, Run};
 
@@ -68,6 +70,28 @@ impl From<RelistFault> for XdpVerdict {
                 cause: 0,
                 at: 0,
             },
+        }
+    }
+}
+
+/// Where a fault is, in the bits that C gets.
+fn bounded(place: usize) -> u32
+    ensures { result ≡ min place 4294967295 }
+{
+    u32::try_from(place).unwrap_or(u32::MAX)
+}
+
+impl From<ObjectFault> for XdpVerdict {
+    ghost from_gives = { λ fault v. v ≡ object_verdict fault };
+
+    fn from(fault: ObjectFault) -> XdpVerdict {
+        match fault {
+            ObjectFault::Setup(fault) => XdpVerdict {
+                kind: 7,
+                cause: u32::from(fault.number()),
+                at: bounded(fault.place()),
+            },
+            ObjectFault::Program(fault) => XdpVerdict::from(fault),
         }
     }
 }

@@ -26,6 +26,9 @@ impl Model for Slot {
 }
 
 impl Slot {
+    ghost use Rattle.std.specs.Borrow.{sem};
+    ghost use Rattle.xdp_host.specs.CountersLoan.{LendsSlot};
+
     fn empty(alloc: Global) -> Slot
         ensures { result.held ≡ None }
     {
@@ -43,6 +46,15 @@ impl Slot {
             at: ptr as *mut u8,
             alloc,
         }
+    }
+
+    /// What the box holds, where it lies.
+    fn lend(&mut self) -> &mut SharedCounters
+        requires { IsSome self.old.held }
+        ensures* writes_back { sem 𝓛 (LendsSlot self.entry result) }
+        ensures value { self.old.held ≡ Some result.now }
+    {
+        unsafe { &mut *(self.at as *mut SharedCounters) }
     }
 
     fn into_parts(self) -> RawBox<SharedCounters, Global>
@@ -68,6 +80,9 @@ pub struct XdpCounters {
 }
 
 impl XdpCounters {
+    ghost use Rattle.std.specs.Borrow.{sem};
+    ghost use Rattle.xdp_host.specs.CountersLoan.{LendsHeld};
+
     /// None.
     fn none(alloc: Global) -> XdpCounters
         ensures { result.slot.held ≡ None }
@@ -85,6 +100,18 @@ impl XdpCounters {
         XdpCounters {
             slot: Slot::of_parts(RawBox::of(held)),
             live: true,
+        }
+    }
+
+    /// What the box holds, where it lies, if there is one.
+    pub fn held_mut(&mut self) -> Option<&mut SharedCounters>
+        ensures* writes_back { sem 𝓛 (LendsHeld self.entry result) }
+        ensures value { option_map (λ r. r.now) result ≡ self.old.slot.held }
+    {
+        if self.live {
+            Some(self.slot.lend())
+        } else {
+            None
         }
     }
 
@@ -130,17 +157,9 @@ impl XdpCounters {
     }
 }
 
-/// Drops a box. It isn't inlined, so that a call that only puts a box back saves no registers for it.
-#[inline(never)]
-fn release(held: Box<SharedCounters>) {
-    drop(held);
-}
-
 impl Drop for XdpCounters {
     fn drop(self) {
-        if let Some(held) = self.into_box() {
-            release(held);
-        }
+        drop(self.into_box());
     }
 }
 

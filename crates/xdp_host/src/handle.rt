@@ -29,6 +29,9 @@ impl Model for Slot {
 }
 
 impl Slot {
+    ghost use Rattle.std.specs.Borrow.{sem};
+    ghost use Rattle.xdp_host.specs.Loan.{LendsSlot};
+
     fn empty(alloc: Global) -> Slot
         ensures { result.held ≡ None }
     {
@@ -46,6 +49,15 @@ impl Slot {
             at: ptr as *mut u8,
             alloc,
         }
+    }
+
+    /// What the box holds, where it lies.
+    fn lend(&mut self) -> &mut LoadedProgram
+        requires { IsSome self.old.held }
+        ensures* writes_back { sem 𝓛 (LendsSlot self.entry result) }
+        ensures value { self.old.held ≡ Some result.now }
+    {
+        unsafe { &mut *(self.at as *mut LoadedProgram) }
     }
 
     fn into_parts(self) -> RawBox<LoadedProgram, Global>
@@ -71,6 +83,9 @@ pub struct XdpProgram {
 }
 
 impl XdpProgram {
+    ghost use Rattle.std.specs.Borrow.{sem};
+    ghost use Rattle.xdp_host.specs.Loan.{LendsHeld};
+
     /// No program.
     fn none(alloc: Global) -> XdpProgram
         ensures { result.slot.held ≡ None }
@@ -88,6 +103,18 @@ impl XdpProgram {
         XdpProgram {
             slot: Slot::of_parts(RawBox::of(held)),
             live: true,
+        }
+    }
+
+    /// What the box holds, where it lies, if there is one.
+    pub fn held_mut(&mut self) -> Option<&mut LoadedProgram>
+        ensures* writes_back { sem 𝓛 (LendsHeld self.entry result) }
+        ensures value { option_map (λ r. r.now) result ≡ self.old.slot.held }
+    {
+        if self.live {
+            Some(self.slot.lend())
+        } else {
+            None
         }
     }
 
@@ -138,17 +165,9 @@ impl XdpProgram {
     }
 }
 
-/// Drops a box. It isn't inlined, so that a call that only puts a box back saves no registers for it.
-#[inline(never)]
-fn release(held: Box<LoadedProgram>) {
-    drop(held);
-}
-
 impl Drop for XdpProgram {
     fn drop(self) {
-        if let Some(held) = self.into_box() {
-            release(held);
-        }
+        drop(self.into_box());
     }
 }
 

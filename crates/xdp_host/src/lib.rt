@@ -4,9 +4,11 @@
 //! - `abi`, `queue_abi`: what crosses to C, as in the header
 //! - `handle`, `loaded_program`, `raw_box`: a program that C holds; `fault`, `advice`: why there is none, and what to write
 //!   instead
+//! - `object_calls`, `object_fault`: a program of an object
 //! - `runs`, `batch`, `maps`: runs on one packet and on many in one call, and what C asks of counters and of maps
 //! - `queue_handle`, `queue_extents`, `queue_fault`: a queue that C holds, for a guest of one range of frames or of several
-//! - `queue_calls`, `queue_waits`: a queue's calls; `segment_calls`: what it offers, and how a packet is to be segmented
+//! - `queue_calls`, `queue_waits`: a queue's calls; `segment_calls`: what it offers, and how a packet is to be segmented; `offload_calls`: what
+//!   its guest takes, and packets that leave something to it
 //! - `relisting`: lists of maps that become others
 //! - `counters_handle`, `shared_fault`, `shared_calls`: counters that queues share, as C holds them
 #![tactic(auto)]
@@ -36,6 +38,9 @@ mod fault;
 mod handle;
 mod loaded_program;
 mod maps;
+mod object_calls;
+mod object_fault;
+mod offload_calls;
 mod queue_abi;
 mod queue_calls;
 mod queue_extents;
@@ -57,6 +62,9 @@ pub use fault::Fault;
 pub use handle::{XdpProgram, programs_cross_threads};
 pub use loaded_program::LoadedProgram;
 pub use maps::{laxonje_map_count, laxonje_map_name, laxonje_map_named, laxonje_map_size};
+pub use object_calls::laxonje_load_object;
+pub use object_fault::ObjectFault;
+pub use offload_calls::{laxonje_queue_accept, laxonje_queue_deliver_as};
 use queue_abi::NO_QUEUE;
 pub use queue_abi::{XdpQueueDesc, XdpQueueState};
 use queue_calls::{boxed, copied, given_packet, stepped};
@@ -74,7 +82,7 @@ pub use shared_calls::{
     laxonje_queue_share,
 };
 use std::alloc::Global;
-use xen_host::{FrameOwners, Op};
+use xen_host::{FrameOwners, Op, RxOffload};
 
 /// The version of `include/laxonje.h`.
 const VERSION: u32 = 3;
@@ -140,12 +148,8 @@ pub extern "C" fn laxonje_again(
     ensures none { IfNone out.new.slot.held (MatchOption program.old.slot.held (result ≡ verdict_of Fault.Empty)
         (λ _. result ≡ verdict_of out_of_memory)) }
 {
-    let again = match program.take(alloc) {
-        Some(held) => {
-            let again = held.again(alloc);
-            program.put(held);
-            again
-        }
+    let again = match program.held_mut() {
+        Some(held) => held.again(alloc),
         None => Err(Fault::Empty),
     };
     out.set(alloc, again)
@@ -175,7 +179,7 @@ pub extern "C" fn laxonje_queue_make(
         MakesOr h.program h.lists (given owners.now list_limits table.now desc.now) out.old.slot.held out.new.slot.held result) }
     ensures none { IfNone program.old.slot.held ((result ≡ fault_number QueueFault.Empty) × (out.new.slot.held ≡ out.old.slot.held)) }
 {
-    match program.take(alloc) {
+    match program.held_mut() {
         Some(held) => {
             let made = boxed(
                 alloc,
@@ -185,7 +189,6 @@ pub extern "C" fn laxonje_queue_make(
                 table,
                 desc,
             );
-            program.put(held);
             out.set(made)
         }
         None => QueueFault::Empty.number(),
@@ -195,12 +198,7 @@ pub extern "C" fn laxonje_queue_make(
 /// Begins a turn, with what was read of the tx producer, and says its first ops. How many: none if there is no queue,
 /// something is under way, or there is no room, and nothing changes then.
 #[unsafe(no_mangle)]
-pub extern "C" fn laxonje_queue_turn(
-    alloc: Global,
-    queue: &mut XdpQueue,
-    producer: u32,
-    ops: &mut [Op],
-) -> usize
+pub extern "C" fn laxonje_queue_turn(queue: &mut XdpQueue, producer: u32, ops: &mut [Op]) -> usize
     ensures there { IfNone queue.old.slot.held (queue.new.slot.held ≡ None) }
     ensures none { IfNone queue.old.slot.held ((result ≡ 0) × (ops.new ≡ ops.old)) }
     ensures begun { IfSome queue.old.slot.held (λ q. IsSome (resting q) → 1 ≤ length ops.old →
@@ -209,20 +207,16 @@ pub extern "C" fn laxonje_queue_turn(
         IfSome queue.new.slot.held (λ r. (result ≡ 0) × (ops.new ≡ ops.old) × (r ≡ q))) }
     ensures kept { IfSome queue.old.slot.held (λ _. IsSome queue.new.slot.held) }
 {
-    if !queue.is_live() {
-        return 0;
+    match queue.held_mut() {
+        Some(held) => held.turn(producer, ops),
+        None => 0,
     }
-    let mut held = queue.take_held(alloc);
-    let count = held.turn(producer, ops);
-    queue.put(held);
-    count
 }
 
 /// Goes on after the ops before, and says the next, as far as there is room: up to the first that has to be answered. How many. With
 /// no queue, nothing under way, fewer words than a page has, or fewer counters than the program has, nothing is asked and nothing changes.
 #[unsafe(no_mangle)]
 pub extern "C" fn laxonje_queue_step(
-    alloc: Global,
     queue: &mut XdpQueue,
     words: &mut [u32],
     counters: &mut [u64],
@@ -241,36 +235,25 @@ pub extern "C" fn laxonje_queue_step(
     ensures words { length words.new ≡ length words.old }
     ensures counters { length counters.new ≡ length counters.old }
 {
-    if !queue.is_live() {
-        return 0;
+    match queue.held_mut() {
+        Some(held) => stepped(held, words, counters, ops),
+        None => 0,
     }
-    let mut held = queue.take_held(alloc);
-    let count = stepped(&mut held, words, counters, ops);
-    queue.put(held);
-    count
 }
 
-/// Begins to deliver a packet of the host's own to the guest, with what was read of the rx producer. It is copied; the
+/// Begins to deliver a packet of the host's own to the guest, with what was read of the rx producer. It is copied, and leaves
+/// nothing to the guest; the
 /// steps that follow are of its delivery, until the op that says what became of it. The answer is 0; or, if nothing is
 /// begun, there is no queue, a turn or another delivery is under way, or the packet has fewer than 14 bytes or more
 /// than 65,535.
 #[unsafe(no_mangle)]
-pub extern "C" fn laxonje_queue_deliver(
-    alloc: Global,
-    queue: &mut XdpQueue,
-    producer: u32,
-    packet: &[u8],
-) -> u32
+pub extern "C" fn laxonje_queue_deliver(queue: &mut XdpQueue, producer: u32, packet: &[u8]) -> u32
     ensures none { IfNone queue.old.slot.held ((result ≡ no_queue) × (queue.new.slot.held ≡ None)) }
     ensures kept { IfSome queue.old.slot.held (λ _. IsSome queue.new.slot.held) }
-    ensures taken { IfSome queue.old.slot.held (λ q. IfSome queue.new.slot.held (λ r. DeliverAnswers q r producer packet.now result)) }
+    ensures taken { IfSome queue.old.slot.held (λ q. IfSome queue.new.slot.held (λ r. DeliverAnswers q r producer RxOffload.Whole packet.now result)) }
 {
-    match queue.take(alloc) {
-        Some(mut held) => {
-            let answer = given_packet(&mut held, producer, packet);
-            queue.put(held);
-            answer
-        }
+    match queue.held_mut() {
+        Some(held) => given_packet(held, producer, packet, RxOffload::Whole),
         None => NO_QUEUE,
     }
 }
@@ -278,37 +261,29 @@ pub extern "C" fn laxonje_queue_deliver(
 /// Copies the packet of the turn that ran or of the delivery that is over, as far as there is room. How many bytes it has: none with no
 /// queue, inside a turn and before the first, and after one that was idle, was refused or halted.
 #[unsafe(no_mangle)]
-pub extern "C" fn laxonje_queue_packet(alloc: Global, queue: &mut XdpQueue, out: &mut [u8]) -> usize
+pub extern "C" fn laxonje_queue_packet(queue: &mut XdpQueue, out: &mut [u8]) -> usize
     ensures kept { queue.new.slot.held ≡ queue.old.slot.held }
     ensures count { MatchOption queue.old.slot.held (result ≡ 0) (λ q. result ≡ length (packet_of q)) }
     ensures copied { MatchOption queue.old.slot.held (out.new ≡ out.old)
         (λ q. out.new ≡ take (length out.old) (packet_of q) ++ drop (length (packet_of q)) out.old) }
 {
-    match queue.take(alloc) {
-        Some(held) => {
-            let count = copied(held.packet(), out);
-            queue.put(held);
-            count
-        }
+    match queue.held_mut() {
+        Some(held) => copied(held.packet(), out),
         None => 0,
     }
 }
 
 /// Where a queue stands between two turns. None if there is no queue, or inside a turn.
 #[unsafe(no_mangle)]
-pub extern "C" fn laxonje_queue_state(alloc: Global, queue: &mut XdpQueue) -> XdpQueueState
+pub extern "C" fn laxonje_queue_state(queue: &mut XdpQueue) -> XdpQueueState
     ensures kept { queue.new.slot.held ≡ queue.old.slot.held }
     ensures state { MatchOption queue.old.slot.held (result ≡ no_state) (λ q. result ≡ state_or (resting q)) }
 {
-    match queue.take(alloc) {
-        Some(held) => {
-            let state = held.state();
-            queue.put(held);
-            match state {
-                Some(state) => XdpQueueState::of(state),
-                None => XdpQueueState::none(),
-            }
-        }
+    match queue.held_mut() {
+        Some(held) => match held.state() {
+            Some(state) => XdpQueueState::of(state),
+            None => XdpQueueState::none(),
+        },
         None => XdpQueueState::none(),
     }
 }

@@ -118,7 +118,7 @@ fn accept_text(alloc: Global, text: &[u8]) -> Result<NamedProgram, Fault>
 
 impl LoadedProgram {
     /// A box of a program.
-    fn boxed(
+    pub(crate) fn boxed(
         alloc: Global,
         program: Program,
         names: MapNames,

@@ -5,7 +5,6 @@ ghost use Rattle.xdp_host.specs.Maps.{map_at, map_or, name_at, no_map, number_of
 use crate::abi::XdpMap;
 use crate::handle::XdpProgram;
 use crate::queue_calls::copied;
-use std::alloc::Global;
 use xdp_program::{MapShape, Program};
 
 /// The size of a map, or none.
@@ -33,48 +32,36 @@ fn map_size(program: &Program, number: u32) -> XdpMap
 
 /// How many maps a program has. With no program, none.
 #[unsafe(no_mangle)]
-pub extern "C" fn laxonje_map_count(alloc: Global, program: &mut XdpProgram) -> usize
+pub extern "C" fn laxonje_map_count(program: &mut XdpProgram) -> usize
     ensures kept { program.new.slot.held ≡ program.old.slot.held }
     ensures count { MatchOption program.old.slot.held (result ≡ 0) (λ h. result ≡ length h.program.shapes) }
 {
-    match program.take(alloc) {
-        Some(held) => {
-            let count = held.program.verified().shapes().len();
-            program.put(held);
-            count
-        }
+    match program.held_mut() {
+        Some(held) => held.program.verified().shapes().len(),
         None => 0,
     }
 }
 
 /// The size of the map of this number, from 0: no entries and no counters if there is no such map, or no program.
 #[unsafe(no_mangle)]
-pub extern "C" fn laxonje_map_size(alloc: Global, program: &mut XdpProgram, number: u32) -> XdpMap
+pub extern "C" fn laxonje_map_size(program: &mut XdpProgram, number: u32) -> XdpMap
     ensures kept { program.new.slot.held ≡ program.old.slot.held }
     ensures size { MatchOption program.old.slot.held (result ≡ no_map) (λ h. result ≡ map_at h.program.shapes number) }
 {
-    match program.take(alloc) {
-        Some(held) => {
-            let size = map_size(&held.program, number);
-            program.put(held);
-            size
-        }
+    match program.held_mut() {
+        Some(held) => map_size(&held.program, number),
         None => size_of(None),
     }
 }
 
 /// The number of the map with this name, from 0: the greatest number if there is no such map, or no program.
 #[unsafe(no_mangle)]
-pub extern "C" fn laxonje_map_named(alloc: Global, program: &mut XdpProgram, name: &[u8]) -> usize
+pub extern "C" fn laxonje_map_named(program: &mut XdpProgram, name: &[u8]) -> usize
     ensures kept { program.new.slot.held ≡ program.old.slot.held }
     ensures number { MatchOption program.old.slot.held (result ≡ usize.MAX) (λ h. result ≡ number_of h.names name.now) }
 {
-    match program.take(alloc) {
-        Some(held) => {
-            let number = held.names.number(name);
-            program.put(held);
-            number.unwrap_or(usize::MAX)
-        }
+    match program.held_mut() {
+        Some(held) => held.names.number(name).unwrap_or(usize::MAX),
         None => usize::MAX,
     }
 }
@@ -82,23 +69,14 @@ pub extern "C" fn laxonje_map_named(alloc: Global, program: &mut XdpProgram, nam
 /// Copies out the name of the map of this number, from 0, as far as there is room. How many bytes it has: none if it has no name, if
 /// there is no such map, or no program.
 #[unsafe(no_mangle)]
-pub extern "C" fn laxonje_map_name(
-    alloc: Global,
-    program: &mut XdpProgram,
-    number: u32,
-    out: &mut [u8],
-) -> usize
+pub extern "C" fn laxonje_map_name(program: &mut XdpProgram, number: u32, out: &mut [u8]) -> usize
     ensures kept { program.new.slot.held ≡ program.old.slot.held }
     ensures count { MatchOption program.old.slot.held (result ≡ 0) (λ h. result ≡ length (name_at h.names number)) }
     ensures copied { MatchOption program.old.slot.held (out.new ≡ out.old)
         (λ h. out.new ≡ take (length out.old) (name_at h.names number) ++ drop (length (name_at h.names number)) out.old) }
 {
-    match program.take(alloc) {
-        Some(held) => {
-            let count = copied(held.names.name(number as usize), out);
-            program.put(held);
-            count
-        }
+    match program.held_mut() {
+        Some(held) => copied(held.names.name(number as usize), out),
         None => 0,
     }
 }

@@ -75,5 +75,6 @@ pub fn begin_number(answer: Begin) -> u32
         Begin::Begun => 0,
         Begin::Busy => 2,
         Begin::NoFrame => 3,
+        Begin::NotAccepted => 6,
     }
 }

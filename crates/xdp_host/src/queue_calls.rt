@@ -9,8 +9,8 @@ ghost use Rattle.xdp_host.specs.Begins.{DeliverAnswers};
 
 use crate::queue_abi::{XdpQueueDesc, begin_number};
 use std::alloc::Global;
-use xen_host::{FrameOwners, Lists, MakeFault, Op, Program, Queue, QueueParts};
-use xen_netif::NO_OFFERS;
+use xen_host::{FrameOwners, Lists, MakeFault, Op, Program, Queue, QueueParts, RxOffload};
+use xen_netif::{ACCEPTS_WHOLE, NO_OFFERS};
 
 /// A queue of what C gives, in a box.
 pub fn boxed(
@@ -34,6 +34,7 @@ pub fn boxed(
         user: desc.user,
         port: desc.port,
         offers: NO_OFFERS,
+        accepts: ACCEPTS_WHOLE,
         ifindex: desc.ifindex,
         queue: desc.queue,
         tx_index: desc.tx_index,
@@ -63,11 +64,11 @@ pub fn stepped(queue: &mut Queue, words: &mut [u32], counters: &mut [u64], ops: 
     }
 }
 
-/// Gives a queue a packet to deliver.
-pub fn given_packet(queue: &mut Queue, producer: u32, packet: &[u8]) -> u32
-    ensures { DeliverAnswers queue.old queue.new producer packet.now result }
+/// Gives a queue a packet to deliver, which leaves this to the guest.
+pub fn given_packet(queue: &mut Queue, producer: u32, packet: &[u8], offload: RxOffload) -> u32
+    ensures { DeliverAnswers queue.old queue.new producer offload packet.now result }
 {
-    begin_number(queue.deliver(producer, packet))
+    begin_number(queue.deliver(producer, packet, offload))
 }
 
 /// Copies bytes as far as there is room. How many there are.

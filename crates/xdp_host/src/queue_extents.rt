@@ -78,10 +78,9 @@ pub extern "C" fn laxonje_queue_make_extents(
         out.old.slot.held out.new.slot.held result) }
     ensures none { IfNone program.old.slot.held ((result ≡ fault_number QueueFault.Empty) × (out.new.slot.held ≡ out.old.slot.held)) }
 {
-    match program.take(alloc) {
+    match program.held_mut() {
         Some(held) => {
             let made = boxed_of_extents(alloc, &held.program, &held.lists, extents, table, desc);
-            program.put(held);
             out.set(made)
         }
         None => QueueFault::Empty.number(),

@@ -6,7 +6,6 @@ ghost use Rattle.xdp_host.specs.Begins.{WaitAnswers, no_queue};
 
 use crate::queue_abi::{NO_QUEUE, TOO_MANY_SLOTS, begin_number};
 use crate::queue_handle::XdpQueue;
-use std::alloc::Global;
 use xen_host::Queue;
 
 /// How many slots the rx ring has.
@@ -26,17 +25,13 @@ fn begun_wait(queue: &mut Queue, pages: u32) -> u32
 /// there. The answer is 0; or, if nothing is begun, there is no queue, the ring doesn't have so many, or a turn, a
 /// delivery or another wait is under way.
 #[unsafe(no_mangle)]
-pub extern "C" fn laxonje_queue_await(alloc: Global, queue: &mut XdpQueue, pages: u32) -> u32
+pub extern "C" fn laxonje_queue_await(queue: &mut XdpQueue, pages: u32) -> u32
     ensures none { IfNone queue.old.slot.held ((result ≡ no_queue) × (queue.new.slot.held ≡ None)) }
     ensures kept { IfSome queue.old.slot.held (λ _. IsSome queue.new.slot.held) }
     ensures begun { IfSome queue.old.slot.held (λ q. IfSome queue.new.slot.held (λ r. WaitAnswers q r pages result)) }
 {
-    match queue.take(alloc) {
-        Some(mut held) => {
-            let answer = begun_wait(&mut held, pages);
-            queue.put(held);
-            answer
-        }
+    match queue.held_mut() {
+        Some(held) => begun_wait(held, pages),
         None => NO_QUEUE,
     }
 }
@@ -44,16 +39,12 @@ pub extern "C" fn laxonje_queue_await(alloc: Global, queue: &mut XdpQueue, pages
 /// The flags of the first slot of the turn that is under way or over, as bits of `netif.h`. None with no queue, and before a turn
 /// has read a slot.
 #[unsafe(no_mangle)]
-pub extern "C" fn laxonje_queue_flags(alloc: Global, queue: &mut XdpQueue) -> u32
+pub extern "C" fn laxonje_queue_flags(queue: &mut XdpQueue) -> u32
     ensures kept { queue.new.slot.held ≡ queue.old.slot.held }
     ensures flags { MatchOption queue.old.slot.held (result ≡ 0) (λ q. result ≡ tx_flag_bits q.engine.offload.flags) }
 {
-    match queue.take(alloc) {
-        Some(held) => {
-            let flags = u32::from(held.flags().bits());
-            queue.put(held);
-            flags
-        }
+    match queue.held_mut() {
+        Some(held) => u32::from(held.flags().bits()),
         None => 0,
     }
 }
@@ -72,16 +63,12 @@ fn lent_counters(queue: &Queue) -> usize
 /// How many words the counters of a queue's program are, and 0 if it shares its counters: with fewer no step of it does anything.
 /// The greatest number with no queue.
 #[unsafe(no_mangle)]
-pub extern "C" fn laxonje_queue_counters(alloc: Global, queue: &mut XdpQueue) -> usize
+pub extern "C" fn laxonje_queue_counters(queue: &mut XdpQueue) -> usize
     ensures kept { queue.new.slot.held ≡ queue.old.slot.held }
     ensures words { MatchOption queue.old.slot.held (result ≡ usize.MAX) (λ q. result ≡ words_of q) }
 {
-    match queue.take(alloc) {
-        Some(held) => {
-            let count = lent_counters(&held);
-            queue.put(held);
-            count
-        }
+    match queue.held_mut() {
+        Some(held) => lent_counters(held),
         None => usize::MAX,
     }
 }

@@ -59,17 +59,13 @@ fn give_lists(queue: &mut Queue, held: &LoadedProgram) -> u32
 }
 
 /// Gives a queue the lists of what a handle holds.
-fn give_held(alloc: Global, queue: &mut Queue, program: &mut XdpProgram) -> u32
+fn give_held(queue: &mut Queue, program: &mut XdpProgram) -> u32
     ensures kept { program.new.slot.held ≡ program.old.slot.held }
     ensures none { IfNone program.old.slot.held ((result ≡ no_program) × (queue.new ≡ queue.old)) }
     ensures given { IfSome program.old.slot.held (λ h. TakesLists queue.old queue.new h result) }
 {
-    match program.take(alloc) {
-        Some(held) => {
-            let answer = give_lists(queue, &held);
-            program.put(held);
-            answer
-        }
+    match program.held_mut() {
+        Some(held) => give_lists(queue, held),
         None => NO_PROGRAM,
     }
 }
@@ -81,23 +77,15 @@ pub extern "C" fn laxonje_relist(alloc: Global, program: &mut XdpProgram, text: 
     ensures kept { IfSome program.old.slot.held (λ _. IsSome program.new.slot.held) }
     ensures taken { IfSome program.old.slot.held (λ h. IfSome program.new.slot.held (λ n. TakesText text.now h n result)) }
 {
-    match program.take(alloc) {
-        Some(mut held) => {
-            let verdict = take_text(alloc, &mut held, text);
-            program.put(held);
-            verdict
-        }
+    match program.held_mut() {
+        Some(held) => take_text(alloc, held, text),
         None => XdpVerdict::from(Fault::Empty),
     }
 }
 
 /// Gives a queue the lists of a program in place of its own, between two turns. Nothing is verified or copied.
 #[unsafe(no_mangle)]
-pub extern "C" fn laxonje_queue_relist(
-    alloc: Global,
-    queue: &mut XdpQueue,
-    program: &mut XdpProgram,
-) -> u32
+pub extern "C" fn laxonje_queue_relist(queue: &mut XdpQueue, program: &mut XdpProgram) -> u32
     ensures held { program.new.slot.held ≡ program.old.slot.held }
     ensures no_queue { IfNone queue.old.slot.held ((result ≡ no_queue) × (queue.new.slot.held ≡ None)) }
     ensures kept { IfSome queue.old.slot.held (λ _. IsSome queue.new.slot.held) }
@@ -106,12 +94,8 @@ pub extern "C" fn laxonje_queue_relist(
     ensures given { IfSome program.old.slot.held (λ h. IfSome queue.old.slot.held (λ q. IfSome queue.new.slot.held (λ r.
         TakesLists q r h result))) }
 {
-    match queue.take(alloc) {
-        Some(mut held) => {
-            let answer = give_held(alloc, &mut held, program);
-            queue.put(held);
-            answer
-        }
+    match queue.held_mut() {
+        Some(held) => give_held(held, program),
         None => NO_QUEUE,
     }
 }

@@ -11,13 +11,11 @@ ghost use Rattle.xdp_host.specs.Ran.{IsNotRun, action_number};
 use crate::abi::XdpRun;
 use crate::batch::{XdpPacket, run_each};
 use crate::handle::XdpProgram;
-use std::alloc::Global;
 
 /// Runs a program on a packet where it lies. With no program, too few words or a packet of more than 65,535 bytes nothing
 /// is run and nothing changes.
 #[unsafe(no_mangle)]
 pub extern "C" fn laxonje_run(
-    alloc: Global,
     program: &mut XdpProgram,
     counters: &mut [u64],
     packet: &mut [u8],
@@ -33,12 +31,8 @@ pub extern "C" fn laxonje_run(
     ensures none { IfNone program.old.slot.held (IsNotRun result packet.old packet.new counters.old counters.new) }
     ensures words { length counters.new ≡ length counters.old }
 {
-    match program.take(alloc) {
-        Some(mut held) => {
-            let run = held.run(counters, packet, ifindex, queue);
-            program.put(held);
-            XdpRun::from(run)
-        }
+    match program.held_mut() {
+        Some(held) => XdpRun::from(held.run(counters, packet, ifindex, queue)),
         None => XdpRun::nothing(),
     }
 }
@@ -48,7 +42,6 @@ pub extern "C" fn laxonje_run(
 /// result of no run.
 #[unsafe(no_mangle)]
 pub extern "C" fn laxonje_run_batch(
-    alloc: Global,
     program: &mut XdpProgram,
     counters: &mut [u64],
     bytes: &mut [u8],
@@ -64,28 +57,20 @@ pub extern "C" fn laxonje_run_batch(
     ensures rest { drop result results.new ≡ drop result results.old }
     ensures none { IfNone program.old.slot.held ((result ≡ 0) × (bytes.new ≡ bytes.old) × (counters.new ≡ counters.old)) }
 {
-    match program.take(alloc) {
-        Some(mut held) => {
-            let count = run_each(&mut held, counters, bytes, packets, results, ifindex, queue);
-            program.put(held);
-            count
-        }
+    match program.held_mut() {
+        Some(held) => run_each(held, counters, bytes, packets, results, ifindex, queue),
         None => 0,
     }
 }
 
 /// How many words a program's counters are. With no program, none.
 #[unsafe(no_mangle)]
-pub extern "C" fn laxonje_counters(alloc: Global, program: &mut XdpProgram) -> usize
+pub extern "C" fn laxonje_counters(program: &mut XdpProgram) -> usize
     ensures kept { program.new.slot.held ≡ program.old.slot.held }
     ensures words { MatchOption program.old.slot.held (result ≡ 0) (λ h. result ≡ total h.program.shapes) }
 {
-    match program.take(alloc) {
-        Some(held) => {
-            let count = held.program.counters();
-            program.put(held);
-            count
-        }
+    match program.held_mut() {
+        Some(held) => held.program.counters(),
         None => 0,
     }
 }
@@ -93,7 +78,6 @@ pub extern "C" fn laxonje_counters(alloc: Global, program: &mut XdpProgram) -> u
 /// Which of a program's words a counter is: the greatest number if there is no such counter, or no program.
 #[unsafe(no_mangle)]
 pub extern "C" fn laxonje_place(
-    alloc: Global,
     program: &mut XdpProgram,
     map: u32,
     value: u32,
@@ -105,10 +89,9 @@ pub extern "C" fn laxonje_place(
     ensures none { IfSome program.old.slot.held (λ h. (IsCounter h.program.shapes map value counter → ⊥) → result ≡ usize.MAX) }
     ensures empty { IfNone program.old.slot.held (result ≡ usize.MAX) }
 {
-    match program.take(alloc) {
+    match program.held_mut() {
         Some(held) => {
             let place = held.program.place(map, value, counter);
-            program.put(held);
             place.unwrap_or(usize::MAX)
         }
         None => usize::MAX,

@@ -1,39 +1,39 @@
 //! What C has a queue offer its guest, and how a turn's packet is to be segmented.
-ghost use Rattle.std.specs.Prelude.{◌≡◌, None, IfNone, IfSome, IsSome, MatchOption};
+ghost use Rattle.std.specs.Prelude.{◌≡◌, ◌<◌, None, IfNone, IfSome, IsSome, MatchOption};
+ghost use Rattle.xen_netif.specs.Words.{is_set};
 ghost use Rattle.xdp_host.specs.Begins.{no_queue};
-ghost use Rattle.xdp_host.specs.Offers.{OfferAnswers, offering_number, offers_of, segment_size, segment_type};
+ghost use Rattle.xdp_host.specs.Offers.{OfferAnswers, offering_number, offers_of, segment_size, segment_type, types_of};
 
 use crate::queue_abi::NO_QUEUE;
 use crate::queue_handle::XdpQueue;
-use std::alloc::Global;
 use xen_host::{Offering, Offers, Queue, Segments};
 
 /// What is answered if a bit has no name.
-const UNKNOWN_OFFER: u32 = 3;
+pub const UNKNOWN_OFFER: u32 = 3;
+
+/// Whether a bit is set.
+pub fn has_bit(bits: u32, index: u32) -> bool
+    requires { index < 32 }
+    ensures { result ≡ is_set bits index }
+{
+    bits >> index & 1 == 1
+}
+
+/// The types of segments whose bits are set.
+pub fn types_of(bits: u32) -> Offers
+    ensures { result ≡ types_of bits }
+{
+    Offers {
+        gso_tcpv4: has_bit(bits, 0),
+        gso_tcpv6: has_bit(bits, 1),
+    }
+}
 
 /// The offers of these bits, if each has a name.
 fn offers_of(bits: u32) -> Option<Offers>
     ensures { result ≡ offers_of bits }
 {
-    match bits {
-        0 => Some(Offers {
-            gso_tcpv4: false,
-            gso_tcpv6: false,
-        }),
-        1 => Some(Offers {
-            gso_tcpv4: true,
-            gso_tcpv6: false,
-        }),
-        2 => Some(Offers {
-            gso_tcpv4: false,
-            gso_tcpv6: true,
-        }),
-        3 => Some(Offers {
-            gso_tcpv4: true,
-            gso_tcpv6: true,
-        }),
-        _ => None,
-    }
+    if bits < 4 { Some(types_of(bits)) } else { None }
 }
 
 /// The number of the answer to offers.
@@ -59,17 +59,13 @@ fn make_offers(queue: &mut Queue, bits: u32) -> u32
 /// Has a queue make these offers in place of its own, between two turns. The answer is 0; or, if it makes those that it made, there is no
 /// queue, a turn, a delivery or a wait is under way, or a bit has no name.
 #[unsafe(no_mangle)]
-pub extern "C" fn laxonje_queue_offer(alloc: Global, queue: &mut XdpQueue, offers: u32) -> u32
+pub extern "C" fn laxonje_queue_offer(queue: &mut XdpQueue, offers: u32) -> u32
     ensures none { IfNone queue.old.slot.held ((result ≡ no_queue) × (queue.new.slot.held ≡ None)) }
     ensures kept { IfSome queue.old.slot.held (λ _. IsSome queue.new.slot.held) }
     ensures given { IfSome queue.old.slot.held (λ q. IfSome queue.new.slot.held (λ r. OfferAnswers q r offers result)) }
 {
-    match queue.take(alloc) {
-        Some(mut held) => {
-            let answer = make_offers(&mut held, offers);
-            queue.put(held);
-            answer
-        }
+    match queue.held_mut() {
+        Some(held) => make_offers(held, offers),
         None => NO_QUEUE,
     }
 }
@@ -97,32 +93,24 @@ fn size_number(segments: Option<Segments>) -> u32
 /// What kind of segments the packet of the turn that is under way or over is to make. 0 with no queue, before its chain is whole, and of a
 /// packet that isn't to be segmented.
 #[unsafe(no_mangle)]
-pub extern "C" fn laxonje_queue_segment_type(alloc: Global, queue: &mut XdpQueue) -> u32
+pub extern "C" fn laxonje_queue_segment_type(queue: &mut XdpQueue) -> u32
     ensures kept { queue.new.slot.held ≡ queue.old.slot.held }
     ensures number { MatchOption queue.old.slot.held (result ≡ 0) (λ q. result ≡ segment_type q.engine.offload.segments) }
 {
-    match queue.take(alloc) {
-        Some(held) => {
-            let number = type_number(held.segments());
-            queue.put(held);
-            number
-        }
+    match queue.held_mut() {
+        Some(held) => type_number(held.segments()),
         None => 0,
     }
 }
 
 /// The most bytes of payload in each of these segments.
 #[unsafe(no_mangle)]
-pub extern "C" fn laxonje_queue_segment_size(alloc: Global, queue: &mut XdpQueue) -> u32
+pub extern "C" fn laxonje_queue_segment_size(queue: &mut XdpQueue) -> u32
     ensures kept { queue.new.slot.held ≡ queue.old.slot.held }
     ensures size { MatchOption queue.old.slot.held (result ≡ 0) (λ q. result ≡ segment_size q.engine.offload.segments) }
 {
-    match queue.take(alloc) {
-        Some(held) => {
-            let size = size_number(held.segments());
-            queue.put(held);
-            size
-        }
+    match queue.held_mut() {
+        Some(held) => size_number(held.segments()),
         None => 0,
     }
 }

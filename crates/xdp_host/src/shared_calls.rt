@@ -36,10 +36,9 @@ pub extern "C" fn laxonje_counters_make(
     ensures made { IfSome program.old.slot.held (λ h. MakesShared h.program queues out.old.slot.held out.new.slot.held result) }
     ensures none { IfNone program.old.slot.held ((result ≡ nothing_to_share) × (out.new.slot.held ≡ out.old.slot.held)) }
 {
-    match program.take(alloc) {
+    match program.held_mut() {
         Some(held) => {
             let made = boxed(alloc, &held.program, queues);
-            program.put(held);
             out.set(made)
         }
         None => NOTHING_TO_SHARE,
@@ -49,7 +48,6 @@ pub extern "C" fn laxonje_counters_make(
 /// A shared counter, by one atomic load: 0 if there is no such counter, or there are none.
 #[unsafe(no_mangle)]
 pub extern "C" fn laxonje_counters_at(
-    alloc: Global,
     counters: &mut XdpCounters,
     map: u32,
     entry: u32,
@@ -59,12 +57,8 @@ pub extern "C" fn laxonje_counters_at(
     ensures read { IfSome counters.old.slot.held (λ c. IfSome counters.new.slot.held (λ d. ReadsShared c d map entry counter result)) }
     ensures kept { IfSome counters.old.slot.held (λ _. IsSome counters.new.slot.held) }
 {
-    match counters.take(alloc) {
-        Some(mut held) => {
-            let number = held.at(map, entry, counter);
-            counters.put(held);
-            number.unwrap_or(0)
-        }
+    match counters.held_mut() {
+        Some(held) => held.at(map, entry, counter).unwrap_or(0),
         None => 0,
     }
 }
@@ -89,11 +83,7 @@ fn share(queue: &mut Queue, counters: &mut SharedCounters) -> u32
 
 /// Has a queue share counters, from its next step on. The answer is 0, or why it doesn't; then nothing has changed of it.
 #[unsafe(no_mangle)]
-pub extern "C" fn laxonje_queue_share(
-    alloc: Global,
-    queue: &mut XdpQueue,
-    counters: &mut XdpCounters,
-) -> u32
+pub extern "C" fn laxonje_queue_share(queue: &mut XdpQueue, counters: &mut XdpCounters) -> u32
     ensures shared { IfSome queue.old.slot.held (λ q. IfSome counters.old.slot.held (λ c. IfSome queue.new.slot.held (λ r.
         IfSome counters.new.slot.held (λ d. ShareAnswers q r c d result)))) }
     ensures none { IfNone queue.old.slot.held ((result ≡ nothing_to_share) × (queue.new.slot.held ≡ None) ×
@@ -103,19 +93,13 @@ pub extern "C" fn laxonje_queue_share(
     ensures kept { IfSome queue.old.slot.held (λ _. IsSome queue.new.slot.held) }
     ensures counters { IfSome counters.old.slot.held (λ _. IsSome counters.new.slot.held) }
 {
-    let Some(mut shared) = counters.take(alloc) else {
+    let Some(counters) = counters.held_mut() else {
         return NOTHING_TO_SHARE;
     };
-    let answer = match queue.take(alloc) {
-        Some(mut held) => {
-            let answer = share(&mut held, &mut shared);
-            queue.put(held);
-            answer
-        }
+    match queue.held_mut() {
+        Some(queue) => share(queue, counters),
         None => NOTHING_TO_SHARE,
-    };
-    counters.put(shared);
-    answer
+    }
 }
 
 /// Has a queue give its share to another.
@@ -131,7 +115,7 @@ fn pass(queue: &mut Queue, to: &mut Queue) -> u32
 /// Has a queue give its share in counters to another, as to the one that follows it. The answer is 0, or why it doesn't; then nothing has
 /// changed of either.
 #[unsafe(no_mangle)]
-pub extern "C" fn laxonje_queue_pass(alloc: Global, queue: &mut XdpQueue, to: &mut XdpQueue) -> u32
+pub extern "C" fn laxonje_queue_pass(queue: &mut XdpQueue, to: &mut XdpQueue) -> u32
     ensures passed { IfSome queue.old.slot.held (λ q. IfSome to.old.slot.held (λ t. IfSome queue.new.slot.held (λ r.
         IfSome to.new.slot.held (λ u. PassAnswers q r t u result)))) }
     ensures none { IfNone queue.old.slot.held ((result ≡ nothing_to_share) × (queue.new.slot.held ≡ None) ×
@@ -141,17 +125,11 @@ pub extern "C" fn laxonje_queue_pass(alloc: Global, queue: &mut XdpQueue, to: &m
     ensures kept { IfSome queue.old.slot.held (λ _. IsSome queue.new.slot.held) }
     ensures to { IfSome to.old.slot.held (λ _. IsSome to.new.slot.held) }
 {
-    let Some(mut from) = queue.take(alloc) else {
+    let Some(queue) = queue.held_mut() else {
         return NOTHING_TO_SHARE;
     };
-    let answer = match to.take(alloc) {
-        Some(mut held) => {
-            let answer = pass(&mut from, &mut held);
-            to.put(held);
-            answer
-        }
+    match to.held_mut() {
+        Some(to) => pass(queue, to),
         None => NOTHING_TO_SHARE,
-    };
-    queue.put(from);
-    answer
+    }
 }

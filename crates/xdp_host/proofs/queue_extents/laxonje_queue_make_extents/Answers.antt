@@ -1,8 +1,7 @@
 use Rattle.std.proofs.Common.{Option, subst}
-use Rattle.std.specs.Prelude.{IfOk, IfSome}
+use Rattle.std.specs.Prelude.{IfSome}
 use Rattle.xen_page.specs.Owned.{domains_of}
 use Rattle.xen_host.specs.Frames.{extent_limits}
-use Rattle.xen_host.specs.Making.{IsMadeOf}
 use Rattle.xdp_host.specs.Made.{MakesOr, extents_of, given}
 use Rattle.xdp_host.specs.declared.loaded_program.LoadedProgram.{LoadedProgram}
 use Rattle.xdp_host.proofs.MadeLemmas.{makes_or}
@@ -14,8 +13,6 @@ returns-in-Some-clause-made c =
     let m = c.boxed_of_extents-made in
     let old = c.args.out.now.slot.held in
     let new = c.set.new.self.slot.held in
-    let lists = c.deref-in-Some.result.now.lists in
-    let of_program = subst (λ (h : LoadedProgram). IfOk m.result (λ b. IsMadeOf h.program lists g b.value)) c.deref.ensures m.ensures.made in
-    let made = subst (λ (h : LoadedProgram). IfOk m.result (λ b. IsMadeOf c.in-Some.held.value.program h.lists g b.value)) c.deref-in-Some.ensures of_program in
-    let all = makes_or c.in-Some.held.value.program c.in-Some.held.value.lists g old new c.set.result m.result made m.ensures.fault c.set.ensures.ok c.set.ensures.err in
-    subst (λ (o : Option LoadedProgram). IfSome o (λ h. MakesOr h.program h.lists g old new c.set.result)) c.in-Some.ensures.gone all
+    let held = c.in-Some.held.now in
+    let all = makes_or held.program held.lists g old new c.set.result m.result m.ensures.made m.ensures.fault c.set.ensures.ok c.set.ensures.err in
+    subst (λ (o : Option LoadedProgram). IfSome o (λ h. MakesOr h.program h.lists g old new c.set.result)) c.in-Some.ensures.value all

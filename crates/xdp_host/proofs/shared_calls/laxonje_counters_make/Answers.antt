@@ -1,6 +1,5 @@
 use Rattle.std.proofs.Common.{Option, subst}
-use Rattle.std.specs.Prelude.{IfOk, IfSome}
-use Rattle.xen_host.specs.Sharing.{AreNewFor}
+use Rattle.std.specs.Prelude.{IfSome}
 use Rattle.xdp_host.specs.Shared.{MakesShared}
 use Rattle.xdp_host.specs.declared.loaded_program.LoadedProgram.{LoadedProgram}
 use Rattle.xdp_host.proofs.SharedLemmas.{makes_shared}
@@ -12,6 +11,5 @@ returns-in-Some-clause-made c =
     let queues = c.args.queues in
     let old = c.args.out.now.slot.held in
     let new = c.set.new.self.slot.held in
-    let made = subst (λ (h : LoadedProgram). IfOk m.result (λ b. AreNewFor h.program queues b.value)) c.deref.ensures m.ensures.made in
-    let all = makes_shared c.in-Some.held.value.program queues old new c.set.result m.result made m.ensures.fault c.set.ensures.ok c.set.ensures.err in
-    subst (λ (o : Option LoadedProgram). IfSome o (λ h. MakesShared h.program queues old new c.set.result)) c.in-Some.ensures.gone all
+    let all = makes_shared c.in-Some.held.now.program queues old new c.set.result m.result m.ensures.made m.ensures.fault c.set.ensures.ok c.set.ensures.err in
+    subst (λ (o : Option LoadedProgram). IfSome o (λ h. MakesShared h.program queues old new c.set.result)) c.in-Some.ensures.value all
