@@ -37,8 +37,11 @@ fn stop(why: &str) -> ! {
 }
 
 fn link(folder: &str) {
-    let archive = Path::new(folder).join("liblaxonje.a");
+    let (archive, shared) = (Path::new(folder).join("liblaxonje.a"), Path::new(folder).join("liblaxonje.so"));
     let fixed = archive.exists() && env::var_os("LAXONJE_DYNAMIC").is_none();
+    if !fixed && !shared.exists() {
+        stop(&format!("{folder} has no liblaxonje.so{}", if archive.exists() { "" } else { " and no liblaxonje.a" }));
+    }
     println!("cargo:rerun-if-changed={}", archive.display());
     println!("cargo:rustc-link-search=native={folder}");
     println!("cargo:rustc-link-lib={}laxonje", if fixed { "static=" } else { "" });
@@ -46,22 +49,20 @@ fn link(folder: &str) {
 
 /// The folders of the library and of its header, as pkg-config says them.
 fn installed() -> Result<(String, Option<String>), String> {
-    let libraries = match flag("--libs-only-L", "-L")? {
-        Some(folder) => folder,
-        None => pkg_config(&["--variable=libdir"])?,
-    };
-    Ok((libraries, Some(flag("--cflags-only-I", "-I")?.unwrap_or_else(|| "/usr/include".to_owned()))))
+    Ok((variable("libdir")?, Some(variable("includedir")?)))
 }
 
-/// What follows the first flag of this kind.
-fn flag(which: &str, prefix: &str) -> Result<Option<String>, String> {
-    let flags = pkg_config(&[which])?;
-    let found = flags.split_whitespace().find_map(|flag| flag.strip_prefix(prefix)).map(str::to_owned);
-    Ok(found)
+/// A folder that pkg-config knows. It says its own with a backslash before each blank.
+fn variable(name: &str) -> Result<String, String> {
+    let folder = pkg_config(&format!("--variable={name}"))?;
+    match Path::new(&folder).exists() {
+        true => Ok(folder),
+        false => Ok(folder.replace("\\ ", " ")),
+    }
 }
 
-fn pkg_config(words: &[&str]) -> Result<String, String> {
-    let said = Command::new("pkg-config").args(words).arg("laxonje").output().map_err(|error| format!("pkg-config: {error}"))?;
+fn pkg_config(word: &str) -> Result<String, String> {
+    let said = Command::new("pkg-config").args([word, "laxonje"]).output().map_err(|error| format!("pkg-config: {error}"))?;
     match said.status.success() {
         true => Ok(String::from_utf8_lossy(&said.stdout).trim().to_owned()),
         false => Err(String::from_utf8_lossy(&said.stderr).trim().replace('\n', "; ")),

@@ -3,6 +3,7 @@
 #![allow(non_camel_case_types)]
 
 use std::os::raw::{c_char, c_int, c_long, c_short, c_uint, c_ulong, c_void};
+use std::sync::atomic::AtomicU32;
 
 /// Opaque types of Xen's libraries.
 #[repr(C)]
@@ -145,6 +146,10 @@ pub struct ifreq {
 }
 pub const TUNSETIFF: c_ulong = 0x4004_54ca;
 pub const TUNSETPERSIST: c_ulong = 0x4004_54cb;
+pub const TUNSETOFFLOAD: c_ulong = 0x4004_54d0;
+pub const TUN_F_CSUM: c_ulong = 1;
+pub const TUN_F_TSO4: c_ulong = 2;
+pub const TUN_F_TSO6: c_ulong = 4;
 pub const TUNSETCARRIER: c_ulong = 0x4004_54e2;
 pub const TUNGETFEATURES: c_ulong = 0x8004_54cf;
 pub const SIOCGIFFLAGS: c_ulong = 0x8913;
@@ -200,6 +205,15 @@ pub const PR_CAPBSET_DROP: c_int = 24;
 pub const PR_SET_TIMERSLACK: c_int = 29;
 pub const PR_SET_NO_NEW_PRIVS: c_int = 38;
 pub const SECCOMP_MODE_FILTER: c_ulong = 2;
+
+/// `struct timespec` of the C library.
+#[repr(C)]
+#[derive(Clone, Copy, Default)]
+pub struct timespec {
+    pub seconds: c_long,
+    pub nanoseconds: c_long,
+}
+pub const CLOCK_THREAD_CPUTIME_ID: c_int = 3;
 
 /// `struct iovec`, `struct msghdr`, `struct cmsghdr` and `struct timeval` of the C library.
 #[repr(C)]
@@ -291,6 +305,20 @@ pub struct io_event {
     pub result: i64,
     pub second: i64,
 }
+/// `struct aio_ring` of Linux's `fs/aio.c`: how each ended, in memory of this process at a context's address. `io_event`s follow, from the one
+/// `head` says up to the one before `tail`.
+#[repr(C)]
+pub struct aio_ring {
+    pub id: u32,
+    pub count: u32,
+    pub head: AtomicU32,
+    pub tail: AtomicU32,
+    pub magic: u32,
+    pub compatible: u32,
+    pub incompatible: u32,
+    pub header_bytes: u32,
+}
+pub const AIO_RING_MAGIC: u32 = 0xa10a_10a1;
 pub const IOCB_CMD_PREAD: u16 = 0;
 pub const IOCB_CMD_PWRITE: u16 = 1;
 pub const SYS_IO_SETUP: c_long = 206;
@@ -323,6 +351,7 @@ extern "C" {
     pub fn setpriority(which: c_int, who: c_uint, nice: c_int) -> c_int;
     pub fn getrlimit(resource: c_int, limit: *mut rlimit) -> c_int;
     pub fn setrlimit(resource: c_int, limit: *const rlimit) -> c_int;
+    pub fn clock_gettime(clock: c_int, time: *mut timespec) -> c_int;
     pub fn capset(header: *mut cap_header, data: *const cap_data) -> c_int;
 }
 
@@ -337,4 +366,5 @@ const _: () = assert!(std::mem::size_of::<cap_header>() == 8 && std::mem::size_o
 const _: () = assert!(std::mem::size_of::<sock_filter>() == 8 && std::mem::size_of::<sock_fprog>() == 16);
 const _: () = assert!(std::mem::size_of::<iovec>() == 16 && std::mem::size_of::<msghdr>() == 56);
 const _: () = assert!(std::mem::size_of::<cmsghdr>() == 16 && std::mem::size_of::<timeval>() == 16);
-const _: () = assert!(std::mem::size_of::<iocb>() == 64 && std::mem::size_of::<io_event>() == 32);
+const _: () = assert!(std::mem::size_of::<timespec>() == 16);
+const _: () = assert!(std::mem::size_of::<iocb>() == 64 && std::mem::size_of::<io_event>() == 32 && std::mem::size_of::<aio_ring>() == 32);

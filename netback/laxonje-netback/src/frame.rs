@@ -1,5 +1,8 @@
 //! Frames whose TCP or UDP checksum is blank, or that are to be segmented, as the kernel wants them. Each length of a frame is the guest's, and
 //! is looked at: the kernel gets no header that doesn't fit the frame.
+pub mod segments;
+pub mod to_guest;
+
 use crate::os::HEADER_BYTES;
 use laxonje::{SegmentKind, Segments};
 
@@ -40,6 +43,8 @@ const IPV6: u16 = 0x86dd;
 const VLAN: [u16; 2] = [0x8100, 0x88a8];
 const TCP: u8 = 6;
 const UDP: u8 = 17;
+/// The shortest header of IPv4.
+const IPV4_HEADER: usize = 20;
 const EXTENSIONS: [u8; 3] = [0, 43, 60]; // hop by hop, routing, destination options
 const MOST_EXTENSIONS: usize = 8;
 /// More fragments, and the offset.
@@ -49,9 +54,11 @@ const NEEDS_CHECKSUM: u8 = 1;
 const GSO_TCPV4: u8 = 1;
 const GSO_TCPV6: u8 = 4;
 const GSO_ECN: u8 = 0x80;
-/// The place of TCP's checksum, its shortest header, and the flag that stays with the first segment (RFC 3168).
+/// The places of the checksums of TCP and UDP, their shortest headers, and the flag that stays with the first segment (RFC 3168).
 const TCP_CHECKSUM: usize = 16;
+const UDP_CHECKSUM: usize = 6;
 const TCP_HEADER: usize = 20;
+const UDP_HEADER: usize = 8;
 const CWR: u8 = 0x80;
 /// The most bytes of headers that each segment may repeat: Ethernet with two tags, 256 of IP, as Linux reads them, and the longest of TCP.
 const MOST_HEADERS: usize = ETHERNET + MOST_TAGS * TAG + 256 + 60;
@@ -78,6 +85,11 @@ fn sum(bytes: &[u8]) -> u32 {
     bytes.chunks_exact(2).map(|two| u32::from(u16::from_be_bytes([two[0], two[1]]))).sum()
 }
 
+/// The sum of any number of bytes: behind the last of an odd number comes a zero.
+fn sum_of_all(bytes: &[u8]) -> u32 {
+    sum(bytes) + bytes.chunks_exact(2).remainder().first().map_or(0, |last| u32::from(*last) << 8)
+}
+
 fn folded(mut sum: u32) -> u16 {
     while sum > 0xffff {
         sum = (sum & 0xffff) + (sum >> 16);
@@ -98,12 +110,12 @@ fn network(frame: &[u8]) -> Option<(u16, usize)> {
 }
 
 fn in_ipv4(frame: &[u8], at: usize) -> Option<Carried> {
-    let header = usize::from(byte(frame, at)? & 15) * 4;
-    let fragment = short(frame, at + 6)? & FRAGMENT;
-    let addresses = sum(frame.get(at + 12..at + 20)?);
-    let end = at + usize::from(short(frame, at + 2)?);
-    let whole = header >= 20 && fragment == 0;
-    whole.then_some(Carried { protocol: byte(frame, at + 9)?, start: at + header, end, addresses })
+    let fixed: &[u8; IPV4_HEADER] = frame.get(at..at + IPV4_HEADER)?.try_into().ok()?;
+    let header = usize::from(fixed[0] & 15) * 4;
+    let fragment = u16::from_be_bytes([fixed[6], fixed[7]]) & FRAGMENT;
+    let end = at + usize::from(u16::from_be_bytes([fixed[2], fixed[3]]));
+    let whole = header >= IPV4_HEADER && fragment == 0;
+    whole.then_some(Carried { protocol: fixed[9], start: at + header, end, addresses: sum(&fixed[12..]) })
 }
 
 fn in_ipv6(frame: &[u8], at: usize) -> Option<Carried> {
@@ -127,6 +139,15 @@ fn carried(frame: &[u8]) -> Option<(u16, Carried)> {
         (IPV6, at) => (IPV6, in_ipv6(frame, at)?),
         _ => return None,
     })
+}
+
+/// Where in the header of a protocol its checksum is. `None`: it is neither TCP nor UDP.
+fn checksum_place(protocol: u8) -> Option<usize> {
+    match protocol {
+        TCP => Some(TCP_CHECKSUM),
+        UDP => Some(UDP_CHECKSUM),
+        _ => None,
+    }
 }
 
 /// What is left to the kernel of a frame whose checksum is blank, if it is, and of which these segments are to be made, if they are; blank fields are
@@ -166,13 +187,9 @@ fn segmented(frame: &mut [u8], segments: Segments) -> Option<Left> {
 /// packet of IP, and nothing can be filled in.
 fn prepare(frame: &mut [u8]) -> Option<Blank> {
     let (_, carried) = carried(frame)?;
-    let (field, shortest) = match carried.protocol {
-        TCP => (TCP_CHECKSUM, TCP_HEADER),
-        UDP => (6, 8),
-        _ => return None,
-    };
+    let place = carried.start + checksum_place(carried.protocol)?;
+    let shortest = if carried.protocol == TCP { TCP_HEADER } else { UDP_HEADER };
     let length = carried.end.checked_sub(carried.start).filter(|length| *length >= shortest && carried.end <= frame.len())?;
-    let place = carried.start + field;
     let pseudo = folded(carried.addresses + u32::from(carried.protocol) + length as u32);
     frame[place..place + 2].copy_from_slice(&pseudo.to_be_bytes());
     Some(Blank { start: carried.start, place })

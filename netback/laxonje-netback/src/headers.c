@@ -16,6 +16,7 @@
 #include <sys/time.h>
 #include <sys/signalfd.h>
 #include <sys/syscall.h>
+#include <time.h>
 #include <linux/aio_abi.h>
 #include <linux/capability.h>
 #include <linux/filter.h>
@@ -123,6 +124,8 @@ IS(offsetof(struct msghdr, msg_flags), 48);
 IS(sizeof(struct cmsghdr), 16);
 IS(offsetof(struct cmsghdr, cmsg_type), 12);
 IS(sizeof(struct timeval), 16);
+IS(sizeof(struct timespec), 16);
+IS(CLOCK_THREAD_CPUTIME_ID, 3);
 IS(AF_UNIX, 1);
 IS(SOCK_SEQPACKET, 5);
 IS(SOCK_CLOEXEC, 02000000);

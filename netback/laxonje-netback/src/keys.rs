@@ -1,9 +1,13 @@
 //! What a guest's frontend wrote into XenStore. Nothing of it is trusted.
-use laxonje::Offers;
+use laxonje::{Accepts, Offers};
 use std::fmt;
 
 const GSO_TCPV4: &str = "feature-gso-tcpv4";
 const GSO_TCPV6: &str = "feature-gso-tcpv6";
+const NO_CHECKSUM: &str = "feature-no-csum-offload";
+const CHECKSUM_IPV6: &str = "feature-ipv6-csum-offload";
+const SCATTERS: &str = "feature-sg";
+const NOTIFIES: &str = "feature-rx-notify";
 
 /// The states of a device (`xenbus.h`).
 #[derive(Clone, Copy, Debug, PartialEq, Eq)]
@@ -64,6 +68,8 @@ pub struct FrontKeys {
     pub notifies: bool,
     /// It takes packets of more than a page.
     pub scatters: bool,
+    /// What of a packet may be left to it.
+    pub accepts: Accepts,
 }
 
 /// Why a frontend isn't served.
@@ -127,6 +133,15 @@ pub fn offers(read: impl Fn(&str) -> Option<String>) -> Offers {
     Offers { tcpv4: flag(&read, GSO_TCPV4), tcpv6: flag(&read, GSO_TCPV6) }
 }
 
+/// What of a packet may be left to a frontend. One that takes no blank checksum, or no packet of more than a page, takes no segments, as
+/// Linux has it.
+fn accepts(read: impl Fn(&str) -> Option<String>) -> Accepts {
+    let takes_ipv4 = read(NO_CHECKSUM).map_or(true, |text| number(&text) == Some(0));
+    let checksum = takes_ipv4 && flag(&read, CHECKSUM_IPV6);
+    let segments = |key| checksum && flag(&read, SCATTERS) && flag(&read, key);
+    Accepts { tcpv4: segments(GSO_TCPV4), tcpv6: segments(GSO_TCPV6), checksum }
+}
+
 /// The keys of a frontend that is offered that many queues.
 pub fn front(read: impl Fn(&str) -> Option<String>, offered: u32) -> Result<FrontKeys, KeyError> {
     if !flag(&read, "request-rx-copy") {
@@ -141,7 +156,7 @@ pub fn front(read: impl Fn(&str) -> Option<String>, offered: u32) -> Result<Fron
     }
     let folder = |number: u32| if count == 1 { String::new() } else { format!("queue-{number}/") };
     let queues: Result<_, _> = (0..count).map(|number| queue(&read, &folder(number))).collect();
-    Ok(FrontKeys { queues: queues?, notifies: flag(&read, "feature-rx-notify"), scatters: flag(&read, "feature-sg") })
+    Ok(FrontKeys { queues: queues?, notifies: flag(&read, NOTIFIES), scatters: flag(&read, SCATTERS), accepts: accepts(read) })
 }
 
 /// What comes next for a device.
@@ -207,7 +222,8 @@ mod tests {
     #[test]
     fn one_queue_has_its_keys_in_the_folder() {
         let front_keys = front(keys(&ONE), 4).unwrap();
-        assert_eq!(front_keys, FrontKeys { queues: vec![QueueKeys { tx: 8, rx: 9, event: 3 }], notifies: true, scatters: true });
+        let queues = vec![QueueKeys { tx: 8, rx: 9, event: 3 }];
+        assert_eq!(front_keys, FrontKeys { queues, notifies: true, scatters: true, accepts: Accepts::default() });
         let told = [&ONE[..], &[("multi-queue-num-queues", "1")]].concat();
         assert_eq!(front(keys(&told), 1).unwrap(), front_keys);
     }
@@ -226,7 +242,7 @@ mod tests {
         ];
         let front_keys = front(keys(&two), 2).unwrap();
         assert_eq!(front_keys.queues, [QueueKeys { tx: 1, rx: 2, event: 3 }, QueueKeys { tx: 4, rx: 5, event: 6 }]);
-        assert!(!front_keys.notifies && !front_keys.scatters);
+        assert!(!front_keys.notifies && !front_keys.scatters && front_keys.accepts == Accepts::default());
         assert_eq!(front(keys(&two), 1), Err(KeyError::Queues(2, 1)));
         assert_eq!(front(keys(&two[..7]), 2), Err(KeyError::NoNumber("queue-1/event-channel".to_owned())));
     }
@@ -257,6 +273,35 @@ mod tests {
         }
         // a process before this may have said nothing
         assert_eq!(offers(keys(&[("feature-sg", "1")])), Offers::default());
+    }
+
+    #[test]
+    fn a_frontend_takes_what_its_keys_say() {
+        const ALL: [(&str, &str); 4] = [(SCATTERS, "1"), (CHECKSUM_IPV6, "1"), (GSO_TCPV4, "1"), (GSO_TCPV6, "1")];
+        let with = |key: &'static str, value: &'static str| {
+            let mut changed: Vec<_> = ALL.iter().copied().filter(|one| one.0 != key).collect();
+            changed.push((key, value));
+            accepts(keys(&changed))
+        };
+        let segments = |tcpv4, tcpv6| Accepts { tcpv4, tcpv6, checksum: true };
+        let rows = [
+            ("other", "1", Accepts::ALL),
+            (NO_CHECKSUM, "0", Accepts::ALL),
+            (GSO_TCPV4, "0", segments(false, true)),
+            (GSO_TCPV6, "", segments(true, false)),
+            (SCATTERS, "0", segments(false, false)),
+            // a blank checksum is of any version, and segments have one
+            (CHECKSUM_IPV6, "0", Accepts::default()),
+            (CHECKSUM_IPV6, "2", Accepts::default()),
+            (NO_CHECKSUM, "1", Accepts::default()),
+            (NO_CHECKSUM, "2", Accepts::default()),
+            (NO_CHECKSUM, "x", Accepts::default()),
+        ];
+        for (key, value, wanted) in rows {
+            assert_eq!(with(key, value), wanted, "{key} {value}");
+        }
+        assert_eq!(accepts(keys(&ALL[..3])), segments(true, false));
+        assert_eq!(accepts(keys(&[])), Accepts::default());
     }
 
     #[test]

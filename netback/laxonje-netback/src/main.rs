@@ -8,6 +8,7 @@ mod filters;
 mod frame;
 mod guests;
 mod keys;
+mod lists;
 mod log;
 mod options;
 #[allow(unsafe_code)]

@@ -46,6 +46,11 @@ totals! {
     /// Packets to the guest that were delivered, and their bytes.
     delivered,
     delivered_bytes,
+    /// Those of them that the guest is to make segments of, and others whose checksum is blank.
+    delivered_segmented,
+    delivered_blank,
+    /// Packets that the TAP device had with a header that doesn't fit, or that its guest doesn't take: they are dropped.
+    unfit,
     /// Packets to the guest whose buffers Xen or the queue refused, and how often it had too few.
     undelivered,
     waits,

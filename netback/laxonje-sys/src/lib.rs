@@ -39,6 +39,7 @@ pub const LAXONJE_SETTINGS: u32 = 3;
 pub const LAXONJE_EMPTY: u32 = 4;
 pub const LAXONJE_NULL: u32 = 5;
 pub const LAXONJE_OTHER: u32 = 6;
+pub const LAXONJE_OBJECT: u32 = 7;
 
 /// The verifier's causes: V0 to V19.
 pub const LAXONJE_V_MEMORY: u32 = 0;
@@ -71,6 +72,42 @@ pub const LAXONJE_L_NAME: u32 = 5;
 pub const LAXONJE_L_HEX: u32 = 6;
 pub const LAXONJE_L_RELOCATION: u32 = 7;
 pub const LAXONJE_L_ROWS: u32 = 8;
+
+/// Why an object has no program of a name.
+pub const LAXONJE_O_MEMORY: u32 = 0;
+pub const LAXONJE_O_HEADER: u32 = 1;
+pub const LAXONJE_O_FORMAT: u32 = 2;
+pub const LAXONJE_O_MACHINE: u32 = 3;
+pub const LAXONJE_O_SECTION_TABLE: u32 = 4;
+pub const LAXONJE_O_SECTION: u32 = 5;
+pub const LAXONJE_O_SECTION_NAMES: u32 = 6;
+pub const LAXONJE_O_NO_SYMBOLS: u32 = 7;
+pub const LAXONJE_O_TWO_SYMBOL_TABLES: u32 = 8;
+pub const LAXONJE_O_SYMBOLS: u32 = 9;
+pub const LAXONJE_O_NO_FUNCTION: u32 = 10;
+pub const LAXONJE_O_TWO_FUNCTIONS: u32 = 11;
+pub const LAXONJE_O_CODE: u32 = 12;
+pub const LAXONJE_O_TWO_TABLES: u32 = 13;
+pub const LAXONJE_O_TABLE: u32 = 14;
+pub const LAXONJE_O_ORDER: u32 = 15;
+pub const LAXONJE_O_RELOCATION: u32 = 16;
+pub const LAXONJE_O_PLACE: u32 = 17;
+pub const LAXONJE_O_NO_MAP: u32 = 18;
+pub const LAXONJE_O_MAPS: u32 = 19;
+pub const LAXONJE_O_NO_TYPES: u32 = 20;
+pub const LAXONJE_O_TWO_TYPES: u32 = 21;
+pub const LAXONJE_O_TYPES: u32 = 22;
+pub const LAXONJE_O_TYPE: u32 = 23;
+pub const LAXONJE_O_DEFINITION: u32 = 24;
+pub const LAXONJE_O_NAME: u32 = 25;
+pub const LAXONJE_O_KIND: u32 = 26;
+pub const LAXONJE_O_KEY: u32 = 27;
+pub const LAXONJE_O_ENTRIES: u32 = 28;
+pub const LAXONJE_O_VALUE: u32 = 29;
+pub const LAXONJE_O_OUTSIDE: u32 = 30;
+pub const LAXONJE_O_GLOBAL: u32 = 31;
+pub const LAXONJE_O_ADDRESSES: u32 = 32;
+pub const LAXONJE_O_CONSTANTS: u32 = 33;
 
 /// What a program's number stands for.
 pub const LAXONJE_ABORTED: u32 = 0;
@@ -120,6 +157,8 @@ pub const LAXONJE_TAKEN_BUSY: u32 = 2;
 pub const LAXONJE_TAKEN_NO_FRAME: u32 = 3;
 pub const LAXONJE_TAKEN_SLOTS: u32 = 4;
 pub const LAXONJE_TAKEN_COUNTERS: u32 = 5;
+pub const LAXONJE_TAKEN_NOT_ACCEPTED: u32 = 6;
+pub const LAXONJE_TAKEN_UNKNOWN: u32 = 7;
 
 /// Why a queue has the lists that it had.
 pub const LAXONJE_RELISTED: u32 = 0;
@@ -133,7 +172,12 @@ pub const LAXONJE_RELISTED_PROGRAM: u32 = 5;
 pub const LAXONJE_OFFER_GSO_TCPV4: u32 = 1;
 pub const LAXONJE_OFFER_GSO_TCPV6: u32 = 2;
 
-/// Why a queue makes the offers that it made.
+/// What a guest takes of a packet that is delivered.
+pub const LAXONJE_ACCEPT_GSO_TCPV4: u32 = 1;
+pub const LAXONJE_ACCEPT_GSO_TCPV6: u32 = 2;
+pub const LAXONJE_ACCEPT_CSUM_BLANK: u32 = 4;
+
+/// Why a queue makes the offers that it made, or its guest takes what it took.
 pub const LAXONJE_OFFERED: u32 = 0;
 pub const LAXONJE_OFFERED_NOT: u32 = 1;
 pub const LAXONJE_OFFERED_BUSY: u32 = 2;
@@ -143,6 +187,13 @@ pub const LAXONJE_OFFERED_UNKNOWN: u32 = 3;
 pub const LAXONJE_SEGMENTS_NONE: u32 = 0;
 pub const LAXONJE_SEGMENTS_TCPV4: u32 = 1;
 pub const LAXONJE_SEGMENTS_TCPV6: u32 = 2;
+
+/// What a packet that is delivered leaves to its guest.
+pub const LAXONJE_OFFLOAD_NONE: u32 = 0;
+pub const LAXONJE_OFFLOAD_VALIDATED: u32 = 1;
+pub const LAXONJE_OFFLOAD_CSUM_BLANK: u32 = 2;
+pub const LAXONJE_OFFLOAD_TCPV4: u32 = 3;
+pub const LAXONJE_OFFLOAD_TCPV6: u32 = 4;
 
 /// What a turn, a delivery or a wait came to.
 pub const LAXONJE_TURN_IDLE: u32 = 0;
@@ -298,6 +349,9 @@ extern "C" {
         program: *const u8, program_bytes: usize, maps: *const laxonje_map, map_count: usize, out: *mut laxonje_program,
     ) -> laxonje_verdict;
     pub fn laxonje_load_settings(text: *const u8, text_bytes: usize, out: *mut laxonje_program) -> laxonje_verdict;
+    pub fn laxonje_load_object(
+        object: *const u8, object_bytes: usize, function: *const u8, function_bytes: usize, out: *mut laxonje_program,
+    ) -> laxonje_verdict;
     pub fn laxonje_again(program: *mut laxonje_program, out: *mut laxonje_program) -> laxonje_verdict;
     pub fn laxonje_run(
         program: *mut laxonje_program, counters: *mut u64, counter_count: usize, packet: *mut u8, packet_bytes: usize, ifindex: u32,
@@ -332,9 +386,13 @@ extern "C" {
     ) -> usize;
     pub fn laxonje_queue_counters(queue: *mut laxonje_queue) -> usize;
     pub fn laxonje_queue_deliver(queue: *mut laxonje_queue, producer: u32, packet: *const u8, packet_bytes: usize) -> u32;
+    pub fn laxonje_queue_deliver_as(
+        queue: *mut laxonje_queue, producer: u32, packet: *const u8, packet_bytes: usize, offload: u32, segment_size: u32,
+    ) -> u32;
     pub fn laxonje_queue_await(queue: *mut laxonje_queue, pages: u32) -> u32;
     pub fn laxonje_queue_flags(queue: *mut laxonje_queue) -> u32;
     pub fn laxonje_queue_offer(queue: *mut laxonje_queue, offers: u32) -> u32;
+    pub fn laxonje_queue_accept(queue: *mut laxonje_queue, accepts: u32) -> u32;
     pub fn laxonje_queue_segment_type(queue: *mut laxonje_queue) -> u32;
     pub fn laxonje_queue_segment_size(queue: *mut laxonje_queue) -> u32;
     pub fn laxonje_queue_packet(queue: *mut laxonje_queue, out: *mut u8, out_bytes: usize) -> usize;

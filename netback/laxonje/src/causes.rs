@@ -68,6 +68,44 @@ causes! {
 }
 
 causes! {
+    /// Why an object has no program of a name: the cause of `LAXONJE_OBJECT`.
+    ObjectCause:
+    HEADER = LAXONJE_O_HEADER, "the bytes don't begin with an ELF header";
+    FORMAT = LAXONJE_O_FORMAT, "no file of 64 bits and little-endian byte order";
+    MACHINE = LAXONJE_O_MACHINE, "no relocatable file for BPF";
+    SECTION_TABLE = LAXONJE_O_SECTION_TABLE, "the table of sections doesn't lie in the file";
+    SECTION = LAXONJE_O_SECTION, "a section doesn't lie in the file";
+    SECTION_NAMES = LAXONJE_O_SECTION_NAMES, "sections have no names";
+    NO_SYMBOLS = LAXONJE_O_NO_SYMBOLS, "no symbol table";
+    TWO_SYMBOL_TABLES = LAXONJE_O_TWO_SYMBOL_TABLES, "section `at` is a second symbol table";
+    SYMBOLS = LAXONJE_O_SYMBOLS, "a symbol table of other symbols, or without names";
+    NO_FUNCTION = LAXONJE_O_NO_FUNCTION, "no function of this name";
+    TWO_FUNCTIONS = LAXONJE_O_TWO_FUNCTIONS, "symbol `at` is a second one";
+    CODE = LAXONJE_O_CODE, "a function that isn't whole slots of a section of code";
+    TWO_TABLES = LAXONJE_O_TWO_TABLES, "section `at` is a second table of relocations";
+    TABLE = LAXONJE_O_TABLE, "section `at` isn't whole relocations without addends";
+    ORDER = LAXONJE_O_ORDER, "relocation `at` doesn't lie above the one before it";
+    RELOCATION = LAXONJE_O_RELOCATION, "relocation `at` is of another type, as for a call";
+    PLACE = LAXONJE_O_PLACE, "it doesn't change a wide load, or one of a map that isn't of 0";
+    NO_MAP = LAXONJE_O_NO_MAP, "its symbol is neither a map nor among constants";
+    MAPS = LAXONJE_O_MAPS, "more than 16 maps, with those of constants";
+    NO_TYPES = LAXONJE_O_NO_TYPES, "no types (BTF): compile with -g";
+    TWO_TYPES = LAXONJE_O_TWO_TYPES, "section `at` is a second one of types";
+    TYPES = LAXONJE_O_TYPES, "types without their header";
+    TYPE = LAXONJE_O_TYPE, "type `at` isn't a whole one of a known kind";
+    DEFINITION = LAXONJE_O_DEFINITION, "map `at` has no definition as libbpf has it";
+    NAME = LAXONJE_O_NAME, "its name isn't 1 to 32 bytes of UTF-8";
+    KIND = LAXONJE_O_KIND, "its type is no array, hash or prefix trie";
+    KEY = LAXONJE_O_KEY, "its keys: 4 bytes of an array, else 1 to 64 of data";
+    ENTRIES = LAXONJE_O_ENTRIES, "no entry, or more than 65,536";
+    VALUE = LAXONJE_O_VALUE, "values of no byte, or more than 64";
+    OUTSIDE = LAXONJE_O_OUTSIDE, "relocation `at` is for a place outside of its section of constants";
+    GLOBAL = LAXONJE_O_GLOBAL, "relocation `at` is for a global that programs may write to";
+    ADDRESSES = LAXONJE_O_ADDRESSES, "map `at` is constants that are addresses: a table of texts, say";
+    CONSTANTS = LAXONJE_O_CONSTANTS, "it has more than 65,536 bytes of constants";
+}
+
+causes! {
     /// Why a packet of a guest was refused.
     Refusal:
     SHORT = LAXONJE_REFUSAL_SHORT, "less than an Ethernet header";

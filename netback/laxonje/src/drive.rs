@@ -2,8 +2,10 @@
 use crate::causes::Halt;
 use crate::guest::{Entry, Guest, Op, PAGE_WORDS};
 use crate::handle::{ProgramHandle, QueueHandle, SharedHandle};
-use crate::queue::{Extent, Grant, Indices, MakeError, ReplaceError, Setup, Stopped};
+use crate::offload::{Accepts, Offload};
+use crate::outcome::{DeliverError, Grant, ReplaceError, Stopped};
 use crate::segments::{OfferError, Offers, Segments};
+use crate::setup::{Extent, Indices, MakeError, Setup};
 use crate::shared::ShareError;
 use alloc::boxed::Box;
 use alloc::vec::Vec;
@@ -13,10 +15,6 @@ use laxonje_sys as sys;
 const PRODUCER: usize = 0;
 
 type Ops = [sys::laxonje_op; sys::LAXONJE_OPS];
-
-/// A turn, a delivery or a wait was begun and didn't come to its end: a `Guest` panicked inside it. Nothing is done for it any more: the next
-/// step would answer an access that wasn't made with the words of one before.
-pub(crate) struct Abandoned;
 
 /// A queue with what it was made of and the words that it is lent.
 pub(crate) struct Driver {
@@ -28,10 +26,12 @@ pub(crate) struct Driver {
     ops: Ops,
     /// The last grant entry that was read since the last beginning.
     grant: Option<Grant>,
-    /// From before the first access until all is over. A panic of the guest's leaves it set.
-    is_under_way: bool,
+    /// Why nothing may begin. From before the first access until all is over it is `Abandoned`, which a panic of the guest's leaves: the next
+    /// step would answer an access that wasn't made with the words of one before.
+    stopped: Option<Stopped>,
     shares: bool,
     offers: Offers,
+    accepts: Accepts,
 }
 
 impl Driver {
@@ -56,25 +56,36 @@ impl Driver {
             words: Box::new([0; PAGE_WORDS]),
             ops: Ops::default(),
             grant: None,
-            is_under_way: false,
+            stopped: None,
             shares: false,
             offers: Offers::default(),
+            accepts: Accepts::default(),
         };
-        driver.make(program, setup.at).map(|()| driver)
+        driver.make(program, setup.at, false).map(|()| driver)
     }
 
-    /// Makes a queue in place of the one that there is, with that one's offers, and gives it that one's share in counters.
-    fn make(&mut self, program: &ProgramHandle, at: Indices) -> Result<(), MakeError> {
+    /// Makes a queue in place of the one that there is, with that one's offers and guest. `keeps_share`: it gets that one's share in counters,
+    /// too. If none is made nothing has changed.
+    fn make(&mut self, program: &ProgramHandle, at: Indices, keeps_share: bool) -> Result<(), MakeError> {
         let desc = sys::laxonje_queue_desc { tx_index: at.tx, rx_index: at.rx, ..self.desc };
         let mut made = QueueHandle::none();
         if let Some(cause) = MakeError::of(made.make(program, &self.frames, &self.table, &desc)) {
             return Err(cause);
         }
-        match made.offer(self.offers.bits()) {
-            sys::LAXONJE_OFFERED => {}
-            answer => return Err(MakeError::Unknown(answer)), // the library has taken them before
+        for answer in [made.offer(self.offers.bits()), made.accept(self.accepts.bits())] {
+            if answer != sys::LAXONJE_OFFERED {
+                return Err(MakeError::Unknown(answer)); // the library has taken them before
+            }
         }
-        self.shares = self.shares && self.handle.pass(&mut made) == sys::LAXONJE_SHARES_NOW;
+        let shares = self.shares && keeps_share;
+        if shares {
+            match self.handle.pass(&mut made) {
+                sys::LAXONJE_SHARES_NOW => {}
+                sys::LAXONJE_SHARES_MEMORY => return Err(MakeError::Memory),
+                answer => return Err(MakeError::Unknown(answer)), // its maps have the same sizes
+            }
+        }
+        self.shares = shares;
         self.handle = made;
         Ok(())
     }
@@ -82,13 +93,12 @@ impl Driver {
     /// `keeps_share`: the queue goes on with the counters that it shares, if it does.
     pub fn replace(&mut self, program: &ProgramHandle, keeps_share: bool) -> Result<(), ReplaceError> {
         let at = self.indices().map_err(ReplaceError::of)?;
-        self.shares &= keeps_share;
-        self.make(program, at).map_err(ReplaceError::Make)
+        self.make(program, at, keeps_share).map_err(ReplaceError::Make)
     }
 
     /// The library's answer: busy, too, if a guest panicked before the library began.
     pub fn relist(&mut self, program: &ProgramHandle) -> u32 {
-        match self.is_under_way {
+        match self.is_abandoned() {
             false => self.handle.relist(program),
             true => sys::LAXONJE_RELISTED_BUSY,
         }
@@ -96,7 +106,7 @@ impl Driver {
 
     /// Makes these offers, also of a queue that comes in this one's place.
     pub fn offer(&mut self, offers: Offers) -> Result<(), OfferError> {
-        if self.is_under_way {
+        if self.is_abandoned() {
             return Err(OfferError::Abandoned);
         }
         OfferError::of(self.handle.offer(offers.bits()))?;
@@ -104,56 +114,72 @@ impl Driver {
         Ok(())
     }
 
+    /// Knows that its guest takes so much, also of a queue that comes in this one's place.
+    pub fn accept(&mut self, accepts: Accepts) -> Result<(), OfferError> {
+        if self.is_abandoned() {
+            return Err(OfferError::Abandoned);
+        }
+        OfferError::of(self.handle.accept(accepts.bits()))?;
+        self.accepts = accepts;
+        Ok(())
+    }
+
     pub fn share(&mut self, counters: &mut SharedHandle) -> Result<(), ShareError> {
+        if self.is_abandoned() {
+            return Err(ShareError::Abandoned);
+        }
         ShareError::of(counters.share(&mut self.handle))?;
         self.shares = true;
         Ok(())
     }
 
-    pub fn turn(&mut self, counters: &mut [u64], guest: &mut (impl Guest + ?Sized)) -> Result<sys::laxonje_op, Abandoned> {
+    fn is_abandoned(&self) -> bool {
+        self.stopped == Some(Stopped::Abandoned)
+    }
+
+    pub fn turn(&mut self, counters: &mut [u64], guest: &mut (impl Guest + ?Sized)) -> Result<sys::laxonje_op, Stopped> {
         self.begin()?;
         let producer = producer(self.desc.tx, guest);
         let count = self.handle.turn(producer, &mut self.ops);
         self.finish(count, counters, guest)
     }
 
-    /// `Ok(None)`: the packet is too short or too long.
     pub fn deliver(
-        &mut self, packet: &[u8], counters: &mut [u64], guest: &mut (impl Guest + ?Sized),
-    ) -> Result<Option<sys::laxonje_op>, Abandoned> {
+        &mut self, packet: &[u8], offload: Offload, counters: &mut [u64], guest: &mut (impl Guest + ?Sized),
+    ) -> Result<Result<sys::laxonje_op, DeliverError>, Stopped> {
         self.begin()?;
         let producer = producer(self.desc.rx, guest);
-        match self.handle.deliver(producer, packet) {
-            sys::LAXONJE_TAKEN => self.step_on(counters, guest).map(Some),
-            sys::LAXONJE_TAKEN_NO_FRAME => {
-                self.is_under_way = false;
-                Ok(None)
-            }
-            _ => Err(Abandoned),
+        let taken = self.handle.deliver(producer, packet, offload);
+        if taken == sys::LAXONJE_TAKEN {
+            return self.step_on(counters, guest).map(Ok);
         }
+        let why = DeliverError::of(taken).ok_or(Stopped::Abandoned)?;
+        self.stopped = None;
+        Ok(Err(why))
     }
 
-    pub fn wait_for(&mut self, pages: u32, counters: &mut [u64], guest: &mut (impl Guest + ?Sized)) -> Result<sys::laxonje_op, Abandoned> {
+    pub fn wait_for(&mut self, slots: u32, counters: &mut [u64], guest: &mut (impl Guest + ?Sized)) -> Result<sys::laxonje_op, Stopped> {
         self.begin()?;
-        match self.handle.wait_for(pages) {
+        match self.handle.wait_for(slots) {
             sys::LAXONJE_TAKEN => self.step_on(counters, guest),
-            _ => Err(Abandoned),
+            _ => Err(Stopped::Abandoned),
         }
     }
 
     /// Notes that something is under way, if nothing is.
-    fn begin(&mut self) -> Result<(), Abandoned> {
-        match core::mem::replace(&mut self.is_under_way, true) {
-            false => {
+    fn begin(&mut self) -> Result<(), Stopped> {
+        match self.stopped {
+            None => {
+                self.stopped = Some(Stopped::Abandoned);
                 self.grant = None;
                 Ok(())
             }
-            true => Err(Abandoned),
+            Some(why) => Err(why),
         }
     }
 
     /// Takes the next step of what is under way, and goes on to its end.
-    fn step_on(&mut self, counters: &mut [u64], guest: &mut (impl Guest + ?Sized)) -> Result<sys::laxonje_op, Abandoned> {
+    fn step_on(&mut self, counters: &mut [u64], guest: &mut (impl Guest + ?Sized)) -> Result<sys::laxonje_op, Stopped> {
         let count = self.step(counters);
         self.finish(count, counters, guest)
     }
@@ -164,35 +190,32 @@ impl Driver {
 
     /// Takes what is under way to its end: the ops that are there, and those of each further step. A step without ops is one that the
     /// library doesn't take.
-    fn finish(&mut self, mut count: usize, counters: &mut [u64], guest: &mut (impl Guest + ?Sized)) -> Result<sys::laxonje_op, Abandoned> {
+    fn finish(&mut self, mut count: usize, counters: &mut [u64], guest: &mut (impl Guest + ?Sized)) -> Result<sys::laxonje_op, Stopped> {
         while count > 0 {
             if self.make_ops(count, guest) {
-                self.is_under_way = false;
-                return Ok(self.ops[count - 1]);
+                let over = self.ops[count - 1];
+                self.stopped = halt_of(&over).map(Stopped::Halted);
+                return self.stopped.map_or(Ok(over), Err);
             }
             count = self.step(counters);
         }
-        Err(Abandoned)
+        Err(Stopped::Abandoned)
     }
 
     /// Makes the first ops in their order. Returns whether the last of them says that all is over.
     fn make_ops(&mut self, count: usize, guest: &mut (impl Guest + ?Sized)) -> bool {
         let ops = &self.ops[..count];
         for op in ops {
-            make_op(op, &mut self.words, guest);
-            let words = words_of(op, &self.words);
-            if op.entry != sys::LAXONJE_ENTRY_NONE {
-                self.grant = Some(Grant { entry: Entry::of(op), words: [words[0], words[1]] });
-            }
-            guest.told(&Op::of(op), words);
+            make_op(op, &mut self.words, &mut self.grant, guest);
+            guest.told(&Op::of(op), words_of(op, &self.words));
         }
         ops.last().map_or(false, |op| op.kind == sys::LAXONJE_OP_DONE)
     }
 
     pub fn packet(&self, out: &mut [u8]) -> usize {
-        match self.is_under_way {
-            false => self.handle.packet(out),
-            true => 0,
+        match self.stopped {
+            None => self.handle.packet(out),
+            Some(_) => 0,
         }
     }
 
@@ -210,21 +233,35 @@ impl Driver {
     }
 
     pub fn indices(&self) -> Result<Indices, Stopped> {
+        if let Some(why) = self.stopped {
+            return Err(why);
+        }
         let at = self.handle.state();
         match at.kind {
-            sys::LAXONJE_STANDS if !self.is_under_way => Ok(Indices { tx: at.tx_index, rx: at.rx_index }),
-            sys::LAXONJE_STANDS_HALTED => Err(Stopped::Halted(Halt(at.halt))),
+            sys::LAXONJE_STANDS => Ok(Indices { tx: at.tx_index, rx: at.rx_index }),
             _ => Err(Stopped::Abandoned),
         }
     }
 }
 
-fn make_op(op: &sys::laxonje_op, words: &mut [u32; PAGE_WORDS], guest: &mut (impl Guest + ?Sized)) {
+/// Why a queue has halted, if what is over says so.
+fn halt_of(over: &sys::laxonje_op) -> Option<Halt> {
+    match over.outcome {
+        sys::LAXONJE_TURN_HALTED | sys::LAXONJE_DELIVERY_HALTED | sys::LAXONJE_AWAITED_HALTED => Some(Halt(over.cause)),
+        _ => None,
+    }
+}
+
+/// Makes an op. If it reads an entry of the grant table, that is noted.
+fn make_op(op: &sys::laxonje_op, words: &mut [u32; PAGE_WORDS], grant: &mut Option<Grant>, guest: &mut (impl Guest + ?Sized)) {
     let (word, count) = (op.word as usize, op.count as usize);
     let lent = op.lent as usize..op.lent as usize + count;
     match op.kind {
         sys::LAXONJE_OP_READ if op.entry != sys::LAXONJE_ENTRY_NONE => {
-            words[lent].copy_from_slice(&guest.entry(&Entry::of(op)));
+            let entry = Entry::of(op);
+            let read = guest.entry(&entry);
+            words[lent].copy_from_slice(&read);
+            *grant = Some(Grant { entry, words: read });
         }
         sys::LAXONJE_OP_READ => guest.read(op.frame, word, &mut words[lent]),
         sys::LAXONJE_OP_WRITE => guest.write(op.frame, word, &words[lent]),
@@ -235,15 +272,16 @@ fn make_op(op: &sys::laxonje_op, words: &mut [u32; PAGE_WORDS], guest: &mut (imp
     }
 }
 
-/// The words that an op read or wrote.
+/// The words that an op read or wrote, which `make_op` has looked at. Nothing here can fail, so that it costs nothing where no trace is kept.
 fn words_of<'a>(op: &'a sys::laxonje_op, words: &'a [u32; PAGE_WORDS]) -> &'a [u32] {
     let (lent, count) = (op.lent as usize, op.count as usize);
-    match op.kind {
-        sys::LAXONJE_OP_READ | sys::LAXONJE_OP_WRITE => &words[lent..lent + count],
-        sys::LAXONJE_OP_STORE => &op.value[..count],
-        sys::LAXONJE_OP_PUSH => &words[lent..=lent],
-        _ => &[],
-    }
+    let found = match op.kind {
+        sys::LAXONJE_OP_READ | sys::LAXONJE_OP_WRITE => words.get(lent..lent + count),
+        sys::LAXONJE_OP_STORE => op.value.get(..count),
+        sys::LAXONJE_OP_PUSH => words.get(lent..=lent),
+        _ => None,
+    };
+    found.unwrap_or_default()
 }
 
 /// The producer of requests of a ring.

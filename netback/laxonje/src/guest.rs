@@ -1,4 +1,5 @@
 //! What a queue asks of its host: the accesses of a guest's pages, and notices.
+use crate::loads::read_words;
 use core::sync::atomic::{fence, AtomicU32, Ordering};
 use laxonje_sys as sys;
 
@@ -119,10 +120,7 @@ pub trait Guest {
 
 impl<Memory: GuestMemory + ?Sized> Guest for Memory {
     fn read(&mut self, frame: u32, word: usize, into: &mut [u32]) {
-        let from = &self.page(frame)[word..word + into.len()];
-        for (to, shared) in into.iter_mut().zip(from) {
-            *to = shared.load(Ordering::Acquire);
-        }
+        read_words(&self.page(frame)[word..word + into.len()], into);
     }
 
     fn write(&mut self, frame: u32, word: usize, from: &[u32]) {

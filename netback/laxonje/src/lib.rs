@@ -61,10 +61,12 @@
 //!
 //! Without its feature `std` the crate is of `core` and `alloc`; the library itself wants a C library's `malloc`, `realloc`, `free` and `mem*`.
 //!
-//! Each value is `Send` and not `Sync`: one call at a time, on any thread.
+//! Each value is `Send`: one call at a time, on any thread. A [`Program`] is `Sync` too, so that an `Arc` of it makes queues on any threads;
+//! for runs a thread takes one of its own by [`Program::try_clone`]. A queue isn't:
 //!
 //! ```compile_fail,E0277
 //! fn shared<Value: Sync>() {}
+//! shared::<laxonje::Program>();
 //! shared::<laxonje::Queue>();
 //! ```
 #![cfg_attr(not(feature = "std"), no_std)]
@@ -84,20 +86,27 @@ mod guest;
 #[allow(unsafe_code)]
 mod handle;
 mod lists;
+#[allow(unsafe_code)]
+mod loads;
+mod lock;
+mod offload;
+mod outcome;
 mod program;
 mod queue;
 mod segments;
+mod setup;
 mod shared;
 
-pub use causes::{Cause, Fault, Halt, Refusal};
+pub use causes::{Cause, Fault, Halt, ObjectCause, Refusal};
 pub use guest::{Entry, Guest, GuestMemory, Op, Page, PAGE_BYTES, PAGE_WORDS};
 pub use lists::{QueueRelistError, RelistError};
+pub use loads::read_words;
+pub use offload::{Accepts, Offload};
+pub use outcome::{Awaited, DeliverError, Delivery, Flags, Grant, ReplaceError, Stopped, Turn, TurnRun};
 pub use program::{
     build, check, check_version, proved, Action, LoadError, MapSize, Outcome, Packet, Program, Run, VersionError, MOST_BYTES,
 };
-pub use queue::{
-    Awaited, DeliverError, Delivery, Extent, Flags, Grant, Indices, MakeError, Queue, ReplaceError, Setup, Stopped, Turn, TurnRun,
-    TABLE_FRAMES,
-};
+pub use queue::Queue;
 pub use segments::{OfferError, Offers, SegmentKind, Segments};
+pub use setup::{Extent, Indices, MakeError, Setup, TABLE_FRAMES};
 pub use shared::{Counters, ShareError, MOST_SHARES};

@@ -1,5 +1,5 @@
 //! Programs: accepted once, run on packets in place.
-use crate::causes::{Cause, Fault};
+use crate::causes::{Cause, Fault, ObjectCause};
 use crate::handle::{self, advice, version, ProgramHandle};
 use alloc::string::String;
 use alloc::vec;
@@ -35,6 +35,13 @@ pub enum LoadError {
     Map(u32),
     /// The settings text has the fault L`0`.
     Settings(Fault),
+    /// The object has no such program.
+    Object {
+        /// Why.
+        cause: ObjectCause,
+        /// Where: a section, a symbol, a relocation or a type of the object, or a map, as the cause says.
+        at: u32,
+    },
     /// Memory ran out.
     Memory,
 }
@@ -55,6 +62,7 @@ impl fmt::Display for LoadError {
             LoadError::Refused { cause, slot } => write!(to, "V{} at slot {slot}: {cause}", cause.0),
             LoadError::Map(number) => write!(to, "map {number} is out of its limits"),
             LoadError::Settings(fault) => write!(to, "L{}: {fault}", fault.0),
+            LoadError::Object { cause, at } => write!(to, "O{} at {at}: {cause}", cause.0),
             LoadError::Memory => to.write_str("memory ran out"),
         }
     }
@@ -107,7 +115,10 @@ pub fn check(program: &[u8], maps: &[MapSize]) -> Result<u32, LoadError> {
 fn accepted(verdict: sys::laxonje_verdict) -> Result<u32, LoadError> {
     match (verdict.kind, verdict.cause) {
         (sys::LAXONJE_ACCEPTED, _) => Ok(verdict.at),
-        (sys::LAXONJE_REFUSED, sys::LAXONJE_V_MEMORY) | (sys::LAXONJE_SETTINGS, sys::LAXONJE_L_MEMORY) => Err(LoadError::Memory),
+        (sys::LAXONJE_REFUSED, sys::LAXONJE_V_MEMORY)
+        | (sys::LAXONJE_SETTINGS, sys::LAXONJE_L_MEMORY)
+        | (sys::LAXONJE_OBJECT, sys::LAXONJE_O_MEMORY) => Err(LoadError::Memory),
+        (sys::LAXONJE_OBJECT, cause) => Err(LoadError::Object { cause: ObjectCause(cause), at: verdict.at }),
         (sys::LAXONJE_REFUSED, cause) => Err(LoadError::Refused { cause: Cause(cause), slot: verdict.at }),
         (sys::LAXONJE_MAP, _) => Err(LoadError::Map(verdict.at)),
         (_, fault) => Err(LoadError::Settings(Fault(fault))),
@@ -146,6 +157,7 @@ impl Action {
 
 /// How a run ended.
 #[derive(Clone, Copy, Debug, PartialEq, Eq)]
+#[non_exhaustive]
 pub struct Run {
     /// What the program returned.
     pub number: u32,
@@ -186,7 +198,7 @@ impl Outcome {
     }
 }
 
-/// An accepted program with its maps.
+/// An accepted program with its maps. Threads may share one, as by an `Arc`: each call by a `&` waits until no other thread is in one.
 pub struct Program {
     pub(crate) handle: ProgramHandle,
     maps: Vec<MapSize>,
@@ -203,6 +215,12 @@ impl Program {
     /// Accepts the program of a settings text.
     pub fn from_settings(text: &[u8]) -> Result<Program, LoadError> {
         Program::made(|handle| handle.load_settings(text))
+    }
+
+    /// Accepts the program that the function of this name is in an object, as clang makes one for BPF with `-g`, with the maps that it refers
+    /// to. A hash or a prefix trie has no row.
+    pub fn from_object(object: &[u8], function: &str) -> Result<Program, LoadError> {
+        Program::made(|handle| handle.load_object(object, function.as_bytes()))
     }
 
     /// The same program once more, for another thread: nothing is verified or copied.

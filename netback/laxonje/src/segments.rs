@@ -16,12 +16,16 @@ impl Offers {
     pub const ALL: Offers = Offers { tcpv4: true, tcpv6: true };
 
     pub(crate) fn bits(self) -> u32 {
-        let bit = |is_made: bool, bit: u32| if is_made { bit } else { 0 };
-        bit(self.tcpv4, sys::LAXONJE_OFFER_GSO_TCPV4) | bit(self.tcpv6, sys::LAXONJE_OFFER_GSO_TCPV6)
+        bits_of(&[(self.tcpv4, sys::LAXONJE_OFFER_GSO_TCPV4), (self.tcpv6, sys::LAXONJE_OFFER_GSO_TCPV6)])
     }
 }
 
-/// Why a queue makes the offers that it made.
+/// The bits that are set.
+pub(crate) fn bits_of(bits: &[(bool, u32)]) -> u32 {
+    bits.iter().filter(|(is_set, _)| *is_set).map(|(_, bit)| bit).sum()
+}
+
+/// Why a queue makes the offers that it made, or its guest takes what it took.
 #[derive(Clone, Copy, Debug, PartialEq, Eq)]
 #[non_exhaustive]
 pub enum OfferError {
@@ -65,12 +69,12 @@ pub enum SegmentKind {
     Unknown(u32),
 }
 
-/// The segments that a packet is to make. Whether the packet is one of that kind isn't looked at: its bytes are the guest's.
+/// The segments that a packet is to make. Whether the packet is one of that kind isn't looked at: the bytes of one that comes are the guest's.
 #[derive(Clone, Copy, Debug, PartialEq, Eq)]
 pub struct Segments {
     /// What they are of.
     pub kind: SegmentKind,
-    /// The most bytes of payload in each: 536 up to the packet's length.
+    /// The most bytes of payload in each: 536 up to the packet's length of a packet that comes.
     pub size: u32,
 }
 

@@ -1,5 +1,7 @@
 //! Programs: accepted, refused with a cause, run, handed to another thread.
-use laxonje::{Action, Cause, Fault, LoadError, MapSize, Outcome, Packet, Program};
+use laxonje::{Action, Cause, Extent, Fault, LoadError, MapSize, Outcome, Packet, Program, Queue, Setup};
+use std::ops::Range;
+use std::sync::Arc;
 
 /// r0 = 2; exit.
 const PASS: [u8; 16] = [0xb7, 0, 0, 0, 2, 0, 0, 0, 0x95, 0, 0, 0, 0, 0, 0, 0];
@@ -73,6 +75,29 @@ fn another_thread_has_its_own() {
     assert_eq!(theirs.join().unwrap(), counters);
 }
 
+/// Threads that share a program: each call by a `&` answers as if it were alone.
+#[test]
+fn threads_share_a_program() {
+    let program = Arc::new(Program::from_settings(COUNT.as_bytes()).unwrap());
+    let frames = [Extent { frames: 3, domain: 1 }];
+    let setup = Setup { frames: &frames, table: &[2], tx: 0, rx: 1, frontend: 1, ..Setup::default() };
+    std::thread::scope(|scope| {
+        for _ in 0..4 {
+            let (program, setup) = (Arc::clone(&program), &setup);
+            scope.spawn(move || {
+                for _ in 0..500 {
+                    assert_eq!((program.place(0, 17, 0), program.map_named("protocols")), (Some(17), Some(0)));
+                    let mut own = program.try_clone().unwrap();
+                    let mut counters = program.new_counters();
+                    assert!(own.run(&mut counters, &mut udp(), 0, 0).is_some());
+                    let mut queue = Queue::new(&program, setup).unwrap();
+                    assert_eq!((counters[17], queue.relist(&program)), (1, Ok(())));
+                }
+            });
+        }
+    });
+}
+
 #[test]
 fn the_library_has_the_version_of_the_crate() {
     laxonje::check_version().unwrap();
@@ -99,8 +124,9 @@ fn the_library_says_how_it_was_built() {
 fn a_batch_is_its_packets_runs() {
     let mut program = Program::from_settings(COUNT.as_bytes()).unwrap();
     let (mut counters, mut bytes) = (program.new_counters(), [udp(), udp()].concat());
-    // the two frames, nothing, bytes that both have, and what doesn't lie there
-    let packets: [Packet; 7] = [0..60, 60..120, 5..5, 30..90, 61..121, usize::MAX - 1..usize::MAX, 121..120].map(Packet::from);
+    // the two frames, nothing, bytes that both have, what doesn't lie there, and a range whose end is before its start
+    let reversed = Range { start: 121, end: 120 };
+    let packets: [Packet; 7] = [0..60, 60..120, 5..5, 30..90, 61..121, usize::MAX - 1..usize::MAX, reversed].map(Packet::from);
     let mut outcomes = [Outcome::default(); 8];
     assert_eq!(outcomes[0].run(), None);
     assert_eq!(program.run_batch(&mut counters, &mut bytes, &packets, &mut outcomes, 0, 0), 7);

@@ -4,7 +4,7 @@ use crate::guests::{Asked, Cause, Connect, QueueTold, Report};
 use crate::keys::{self, FrontKeys, QueueKeys, State};
 use crate::stats::add;
 use crate::xen::Events;
-use laxonje::Halt;
+use laxonje::{Accepts, Halt, Offers};
 use std::os::unix::io::RawFd;
 use std::time::{Duration, Instant};
 
@@ -57,12 +57,14 @@ impl Device {
     fn order_connect(&mut self, shared: &Shared, front: &FrontKeys, fresh: bool) -> Result<Served, String> {
         self.connection += 1;
         shared.guests.borrow_mut().make_way(self.id.domain).map_err(|error| format!("its process: {error}"))?;
+        let (offers, accepts) = self.agreed(shared, front);
         let (mut keys, mut open) = (Vec::new(), Vec::new());
         for queue in &front.queues {
             let events = Events::bind(self.id.domain, queue.event)
                 .map_err(|error| format!("its event channel {} can't be bound: {error}", queue.event))?;
             let interface = &self.port.interface;
             let tap = interface.open_tap(self.port.kind).map_err(|error| format!("{}: {error}", interface.name()))?;
+            tap.leave(accepts).map_err(|error| format!("{}: what its kernel leaves to the guest: {error}", interface.name()))?;
             keys.push(QueueKeys { event: events.port(), ..*queue });
             open.push((tap, events));
         }
@@ -74,13 +76,21 @@ impl Device {
             fresh,
             notifies: front.notifies,
             scatters: front.scatters,
-            offers: keys::offers(|key| self.key(shared, key)),
+            offers,
+            accepts,
             queues: keys,
         };
         let descriptors: Vec<RawFd> = open.iter().flat_map(|(tap, events)| [tap.fd(), events.fd()]).collect();
         let ordered = shared.guests.borrow_mut().connect(self.id.domain, &self.filter, connect, &descriptors);
         let process = ordered.map_err(|error| format!("its process: {error}"))?;
         Ok(Served { process, queues: open.len(), fresh, awaited: Some(Instant::now() + CONNECTS) })
+    }
+
+    /// What the guest may leave to this domain, as its backend's keys said, and what may be left to the guest: nothing, if it may leave nothing.
+    fn agreed(&self, shared: &Shared, front: &FrontKeys) -> (Offers, Accepts) {
+        let offers = keys::offers(|key| self.key(shared, key));
+        let is_asked = offers != Offers::default();
+        (offers, if is_asked { front.accepts } else { Accepts::default() })
     }
 
     pub fn asked(&self, served: &Served) -> Asked {

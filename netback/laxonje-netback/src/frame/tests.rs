@@ -3,7 +3,7 @@ use super::*;
 use crate::os::{Interface, TapKind};
 
 /// A frame of IPv4 with `length` bytes after its header.
-fn ipv4(protocol: u8, length: usize) -> Vec<u8> {
+pub fn ipv4(protocol: u8, length: usize) -> Vec<u8> {
     let mut frame = vec![0; 34 + length];
     frame[12..14].copy_from_slice(&[0x08, 0x00]);
     frame[14] = 0x45;
@@ -13,7 +13,7 @@ fn ipv4(protocol: u8, length: usize) -> Vec<u8> {
     frame
 }
 
-fn ipv6(protocol: u8, payload: &[u8]) -> Vec<u8> {
+pub fn ipv6(protocol: u8, payload: &[u8]) -> Vec<u8> {
     let mut frame = vec![0; 54];
     frame[12..14].copy_from_slice(&[0x86, 0xdd]);
     frame[14] = 0x60;
@@ -25,7 +25,7 @@ fn ipv6(protocol: u8, payload: &[u8]) -> Vec<u8> {
 }
 
 /// RFC 1071, done by what the kernel would do: the sum from `start` on, inverted.
-fn filled(frame: &[u8], blank: Blank, end: usize) -> u16 {
+pub fn filled(frame: &[u8], blank: Blank, end: usize) -> u16 {
     let mut covered = frame[blank.start..end].to_vec();
     covered.resize((covered.len() + 1) / 2 * 2, 0);
     !folded(sum(&covered))
@@ -123,22 +123,22 @@ fn with_tcp(mut frame: Vec<u8>, payload: usize) -> Vec<u8> {
     frame
 }
 
-fn tcp4(payload: usize) -> Vec<u8> {
+pub fn tcp4(payload: usize) -> Vec<u8> {
     with_tcp(ipv4(TCP, 20 + payload), payload)
 }
 
-fn tcp6(payload: usize) -> Vec<u8> {
+pub fn tcp6(payload: usize) -> Vec<u8> {
     ipv6(TCP, &tcp(payload))
 }
 
 /// An IPv6 packet whose TCP comes behind extension headers, each of 8 bytes and these eights more.
-fn behind_extensions(kinds: &[u8], eights: u8, payload: usize) -> Vec<u8> {
+pub fn behind_extensions(kinds: &[u8], eights: u8, payload: usize) -> Vec<u8> {
     let next = kinds[1..].iter().copied().chain([TCP]);
     let headers = next.flat_map(|next| [&[next, eights][..], &vec![0; 6 + 8 * usize::from(eights)]].concat());
     ipv6(kinds[0], &headers.chain(tcp(payload)).collect::<Vec<u8>>())
 }
 
-fn tagged(frame: &[u8], tags: usize) -> Vec<u8> {
+pub fn tagged(frame: &[u8], tags: usize) -> Vec<u8> {
     [&frame[..12], &[0x81, 0, 0, 5].repeat(tags), &frame[12..]].concat()
 }
 

@@ -2,7 +2,7 @@
 use super::codec::{Reader, Writer};
 use crate::keys::QueueKeys;
 use crate::stats::{Counts, Rings, COUNTS};
-use laxonje::Offers;
+use laxonje::{Accepts, Offers};
 
 /// The most bytes of a message.
 pub const MOST_MESSAGE: usize = 1 << 15;
@@ -46,6 +46,8 @@ pub struct Connect {
     pub scatters: bool,
     /// What the guest was offered.
     pub offers: Offers,
+    /// What of a packet may be left to it.
+    pub accepts: Accepts,
     /// The references of the rings, and the port that is bound.
     pub queues: Vec<QueueKeys>,
 }
@@ -166,9 +168,10 @@ impl Order {
 
 impl Connect {
     fn write(&self, to: Writer) -> Writer {
-        let Connect { device, connection, ifindex, program, fresh, notifies, scatters, offers, queues } = self;
-        let to = to.number(*device).long(*connection).number(*ifindex).long(*program).flag(*fresh).flag(*notifies);
-        let to = to.flag(*scatters).flag(offers.tcpv4).flag(offers.tcpv6).number(queues.len() as u32);
+        let Connect { device, connection, ifindex, program, fresh, notifies, scatters, offers, accepts, queues } = self;
+        let to = to.number(*device).long(*connection).number(*ifindex).long(*program).flag(*fresh).flag(*notifies).flag(*scatters);
+        let to = to.flag(offers.tcpv4).flag(offers.tcpv6).flag(accepts.tcpv4).flag(accepts.tcpv6).flag(accepts.checksum);
+        let to = to.number(queues.len() as u32);
         queues.iter().fold(to, |to, keys| to.number(keys.tx).number(keys.rx).number(keys.event))
     }
 
@@ -182,6 +185,7 @@ impl Connect {
             notifies: from.flag()?,
             scatters: from.flag()?,
             offers: Offers { tcpv4: from.flag()?, tcpv6: from.flag()? },
+            accepts: Accepts { tcpv4: from.flag()?, tcpv6: from.flag()?, checksum: from.flag()? },
             queues: Connect::queues(from)?,
         })
     }

@@ -116,13 +116,14 @@ impl Process {
         self.use_only(device, filter.number)
     }
 
-    /// Has it verify a filter that it doesn't know yet.
+    /// Has it verify a filter that it doesn't know yet, or take the lists alone if it knows the one that differs in these.
     fn give(&mut self, filter: &Filter) -> io::Result<()> {
         if self.known.insert(filter.number) {
             for part in filter.text.chunks(TEXT_PART) {
                 self.order(&Order::Text(part.to_vec()))?;
             }
-            self.order(&Order::Program { number: filter.number, lists_of: filter.lists_of })?;
+            let lists_of = if self.known.contains(&filter.lists_of) { filter.lists_of } else { 0 };
+            self.order(&Order::Program { number: filter.number, lists_of })?;
         }
         Ok(())
     }
@@ -269,7 +270,7 @@ impl Asked {
 mod tests {
     use super::*;
     use crate::stats::COUNTS;
-    use laxonje::Offers;
+    use laxonje::{Accepts, Offers};
 
     const ASKED: Asked = Asked { device: 3, queues: 2, counters: 4 };
 
@@ -358,10 +359,10 @@ mod tests {
     #[test]
     fn a_filter_is_given_once_and_forgotten_when_no_device_has_it() {
         let (mut process, far) = pair();
-        let filter = |number| {
+        let filter = |number, lists_of| {
             let text = include_bytes!("../../../../examples/count-protocols/settings.toml").to_vec();
             let program = laxonje::Program::from_settings(&text).unwrap();
-            Filter { path: "f.toml".into(), program, text, number, lists_of: 0, offers: Offers::ALL }
+            Filter { path: "f.toml".into(), program, text, number, lists_of, offers: Offers::ALL }
         };
         let connect = |device| Connect {
             device,
@@ -372,9 +373,10 @@ mod tests {
             notifies: true,
             scatters: true,
             offers: Offers::ALL,
+            accepts: Accepts::ALL,
             queues: Vec::new(),
         };
-        let (first, second) = (filter(1), filter(2));
+        let (first, second) = (filter(1, 0), filter(2, 1));
         let said = || {
             let mut room = [0; MOST_MESSAGE];
             let orders = std::iter::from_fn(|| far.take(&mut room).unwrap().map(|length| Order::decode(&room[..length]).unwrap()));
@@ -384,10 +386,13 @@ mod tests {
         process.connect(&first, connect(1), &[]).unwrap();
         assert_eq!(said(), [Order::Program { number: 1, lists_of: 0 }, Order::Connect(connect(0)), Order::Connect(connect(1))]);
         process.replace(0, &second).unwrap();
-        assert_eq!(said(), [Order::Program { number: 2, lists_of: 0 }, Order::Replace { device: 0, number: 2 }]);
+        assert_eq!(said(), [Order::Program { number: 2, lists_of: 1 }, Order::Replace { device: 0, number: 2 }]);
         process.replace(1, &second).unwrap();
         assert_eq!(said(), [Order::Replace { device: 1, number: 2 }, Order::Forget { number: 1 }]);
         process.replace(1, &first).unwrap();
         assert_eq!(said(), [Order::Program { number: 1, lists_of: 0 }, Order::Replace { device: 1, number: 1 }]);
+        // the one whose lists it would have isn't there any longer
+        process.replace(0, &filter(4, 3)).unwrap();
+        assert_eq!(said()[0], Order::Program { number: 4, lists_of: 0 });
     }
 }

@@ -11,7 +11,7 @@ use crate::os::{
 use crate::serve::{self, make_queue, queue_bytes, Ended, Handle, Place, Reports, SharedCounters, Told, Way, Worker, XenGuest};
 use crate::stats::Totals;
 use crate::xen::{Events, Grants};
-use laxonje::Program;
+use laxonje::{LoadError, Program};
 use std::collections::BTreeMap;
 use std::io::{self, Read};
 use std::os::unix::io::{AsRawFd, OwnedFd};
@@ -137,10 +137,17 @@ impl Serving {
     fn verify(&mut self, number: u64, lists_of: u64) {
         let text = std::mem::take(&mut self.text);
         let known = self.programs.get(&lists_of).and_then(|program| relisted(program, &text));
-        match known.map_or_else(|| loaded(&text), Ok) {
+        match known.map_or_else(|| self.verified(&text, lists_of), Ok) {
             Ok(program) => drop(self.programs.insert(number, program)),
             Err(error) => self.log.line(&format!("a filter isn't accepted: {error}")),
         }
+    }
+
+    fn verified(&self, text: &[u8], lists_of: u64) -> Result<Program, LoadError> {
+        if lists_of != 0 {
+            self.log.line("a filter of which the lists alone are others is verified anew");
+        }
+        loaded(text)
     }
 
     fn connect(&mut self, connect: &Connect, descriptors: Vec<OwnedFd>) -> Result<(), String> {
@@ -155,7 +162,7 @@ impl Serving {
             let guest = self.guest(keys, connect.fresh, Arc::clone(&totals), &log)?;
             let events = Events::of(events, keys.event).map_err(|error| format!("its event channel: {error}"))?;
             let mut queue = make_queue(program, &guest, self.domain, connect.ifindex, number).map_err(|error| error.to_string())?;
-            queue.offer(connect.offers).map_err(|error| error.to_string())?;
+            queue.offer(connect.offers).and_then(|()| queue.accept(connect.accepts)).map_err(|error| error.to_string())?;
             let place = Place { domain: self.domain, device: connect.device, queue: number, connection: connect.connection };
             let (stalled, log) = (Arc::clone(&stalled), log.clone());
             let (notifies, scatters) = (connect.notifies, connect.scatters);

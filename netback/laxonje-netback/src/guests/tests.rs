@@ -4,7 +4,7 @@ use super::*;
 use crate::keys::QueueKeys;
 use crate::os::lock;
 use crate::stats::Counts;
-use laxonje::Offers;
+use laxonje::{Accepts, Offers};
 use std::collections::VecDeque;
 use std::path::PathBuf;
 use std::sync::{Mutex, MutexGuard, PoisonError};
@@ -123,8 +123,9 @@ impl Bench {
     fn connect_queues(&mut self, domain: u16, device: u32, filter: &Filter, count: usize) -> u64 {
         let (first, second) = Socket::pair().unwrap();
         let queues = vec![QueueKeys { tx: 8, rx: 9, event: 3 }; count];
-        let (program, offers) = (filter.number, filter.offers);
-        let connect = Connect { device, connection: 1, ifindex: 1, program, fresh: true, notifies: true, scatters: true, offers, queues };
+        let (program, offers, accepts) = (filter.number, filter.offers, Accepts::ALL);
+        let (fresh, notifies, scatters) = (true, true, true);
+        let connect = Connect { device, connection: 1, ifindex: 1, program, fresh, notifies, scatters, offers, accepts, queues };
         self.guests().connect(domain, filter, connect, &[first.fd(), second.fd()]).unwrap()
     }
 

@@ -1,21 +1,26 @@
 //! Several reads and writes of a descriptor in one system call: `io_submit(2)`.
 //!
 //! A process of a PV domain pays more for a system call than for most packets. The kernel makes these in their order, and those of a TAP
-//! device that isn't waited for are through when the call returns.
+//! device that isn't waited for are through when the call returns. How they ended is read where the kernel shows it: a call for that is made
+//! only if it shows it otherwise, or later.
 //!
-//! What makes each `unsafe` block sound: a context is one that `io_setup` answered, until `io_destroy`, and one thread has it; buffers are
-//! borrowed until all that was submitted is through, since `run` waits for that.
+//! What makes each `unsafe` block sound: a context is one that `io_setup` answered, until `io_destroy`, and one thread has it. It is the
+//! address of an `aio_ring` and its events. Buffers are borrowed until all that was submitted is through, since `run` waits for that.
 use crate::ffi;
 use std::io;
+use std::mem::size_of;
 use std::os::raw::{c_long, c_ulong};
 use std::os::unix::io::RawFd;
 use std::ptr;
+use std::sync::atomic::Ordering;
 
 /// A context of the kernel's for a number of reads and writes at once.
 #[derive(Debug)]
 pub struct Batch {
     /// 0: the kernel no longer says what is through, and the context is given up.
     context: c_ulong,
+    /// The kernel shows what is through in the way that is known here.
+    shows: bool,
     most: usize,
     blocks: Vec<ffi::iocb>,
     /// The address of each block.
@@ -35,10 +40,15 @@ impl Batch {
         let mut context: c_ulong = 0;
         // SAFETY: the kernel writes the context's address there.
         let status = unsafe { ffi::syscall(ffi::SYS_IO_SETUP, most as c_long, &mut context as *mut c_ulong) };
-        match status {
-            0 => Ok(Batch { context, most, blocks: Vec::new(), pointers: Vec::new(), events: Vec::new(), results: Vec::new() }),
-            _ => Err(io::Error::last_os_error()),
+        if status != 0 {
+            return Err(io::Error::last_os_error());
         }
+        let (blocks, pointers, events, results) = (Vec::new(), Vec::new(), Vec::new(), Vec::new());
+        let mut batch = Batch { context, shows: false, most, blocks, pointers, events, results };
+        let ring = batch.ring();
+        let known = (ffi::AIO_RING_MAGIC, 0, size_of::<ffi::aio_ring>() as u32);
+        batch.shows = (ring.magic, ring.incompatible, ring.header_bytes) == known && ring.count > 0;
+        Ok(batch)
     }
 
     pub fn is_open(&self) -> bool {
@@ -82,8 +92,39 @@ impl Batch {
         }
     }
 
-    /// Waits for what was submitted. If the kernel no longer says what is through, the context is given up.
+    /// Takes what the kernel shows of what was submitted, and waits for the rest.
     fn collect(&mut self, count: usize) {
+        let shown = (0..count).map_while(|_| self.take_shown()).count();
+        self.wait_for(count - shown);
+    }
+
+    /// Takes how one ended, if the kernel shows that of one.
+    fn take_shown(&mut self) -> Option<()> {
+        let event = if self.shows { self.next_shown()? } else { return None };
+        self.results[event.data as usize] = event.result;
+        Some(())
+    }
+
+    fn next_shown(&self) -> Option<ffi::io_event> {
+        let ring = self.ring();
+        let (head, tail) = (ring.head.load(Ordering::Relaxed), ring.tail.load(Ordering::Acquire));
+        if head == tail || head >= ring.count {
+            return None;
+        }
+        let first = (self.context as *const ffi::aio_ring).wrapping_add(1).cast::<ffi::io_event>();
+        // SAFETY: the module's reason: there are `count` events, and the kernel doesn't write this one before `head` is past it.
+        let event = unsafe { first.wrapping_add(head as usize).read() };
+        ring.head.store((head + 1) % ring.count, Ordering::Release);
+        Some(event)
+    }
+
+    fn ring(&self) -> &ffi::aio_ring {
+        // SAFETY: the module's reason; but for its atomic words it doesn't change.
+        unsafe { &*(self.context as *const ffi::aio_ring) }
+    }
+
+    /// Waits for so many. If the kernel no longer says what is through, the context is given up.
+    fn wait_for(&mut self, count: usize) {
         self.events.resize(count, ffi::io_event::default());
         let mut left = count;
         while left > 0 {
@@ -137,17 +178,33 @@ mod tests {
     fn packets_go_and_come_in_one_call() {
         let (near, far) = UnixDatagram::pair().unwrap();
         near.set_nonblocking(true).unwrap();
-        far.send(b"one").unwrap();
-        far.send(b"two and").unwrap();
-        let mut batch = Batch::open(4).unwrap();
-        let (mut first, mut second, mut third) = ([0; 8], [0; 8], [0; 8]);
-        let (writes, reads) = ([&b"a"[..], b"bc", b"def"], [&mut first[..], &mut second, &mut third]);
-        assert_eq!(run(&mut batch, near.as_raw_fd(), writes, reads), [Some(1), Some(2), Some(3), Some(3), Some(7), None]);
-        assert_eq!((&first[..3], &second[..7]), (&b"one"[..], &b"two and"[..]));
-        let mut room = [0; 8];
-        assert_eq!((far.recv(&mut room).unwrap(), far.recv(&mut room).unwrap(), far.recv(&mut room).unwrap()), (1, 2, 3));
-        assert_eq!(run(&mut batch, near.as_raw_fd(), [], []), []);
-        assert_eq!(run(&mut batch, -1, [b"x", b"y"], []), [None, None]);
+        for is_shown in [true, false] {
+            far.send(b"one").unwrap();
+            far.send(b"two and").unwrap();
+            let mut batch = Batch::open(4).unwrap();
+            batch.shows &= is_shown;
+            let (mut first, mut second, mut third) = ([0; 8], [0; 8], [0; 8]);
+            let (writes, reads) = ([&b"a"[..], b"bc", b"def"], [&mut first[..], &mut second, &mut third]);
+            assert_eq!(run(&mut batch, near.as_raw_fd(), writes, reads), [Some(1), Some(2), Some(3), Some(3), Some(7), None]);
+            assert_eq!((&first[..3], &second[..7]), (&b"one"[..], &b"two and"[..]));
+            let mut room = [0; 8];
+            assert_eq!((far.recv(&mut room).unwrap(), far.recv(&mut room).unwrap(), far.recv(&mut room).unwrap()), (1, 2, 3));
+            assert_eq!(run(&mut batch, near.as_raw_fd(), [], []), []);
+            assert_eq!(run(&mut batch, -1, [b"x", b"y"], []), [None, None]);
+        }
+    }
+
+    #[test]
+    fn what_is_shown_takes_no_call() {
+        let (near, far) = UnixDatagram::pair().unwrap();
+        let mut batch = Batch::open(2).unwrap();
+        // more than the kernel has places for, so that they are used again
+        for byte in 0..=255 {
+            assert_eq!(run(&mut batch, near.as_raw_fd(), [&[byte][..], &[byte, byte]], []), [Some(1), Some(2)]);
+            let mut room = [0; 2];
+            assert_eq!((far.recv(&mut room).unwrap(), far.recv(&mut room).unwrap(), room), (1, 2, [byte, byte]));
+            assert!(!batch.shows || (batch.events.is_empty() && batch.next_shown().is_none()));
+        }
     }
 
     #[test]
@@ -156,7 +213,7 @@ mod tests {
         let mut batch = Batch::open(4).unwrap();
         // SAFETY: as that of `give_up`: the context isn't used again but to be refused.
         unsafe { ffi::syscall(ffi::SYS_IO_DESTROY, batch.context) };
-        batch.collect(1);
+        batch.wait_for(1);
         assert!(!batch.is_open());
         assert_eq!(run(&mut batch, near.as_raw_fd(), [b"x"], []), [None]);
     }

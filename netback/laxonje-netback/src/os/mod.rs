@@ -1,5 +1,6 @@
 //! What the program asks of Linux beyond std: waiting, signals, sockets, TAP devices, and giving up privileges.
 mod batch;
+mod clock;
 mod lock;
 mod memory;
 mod privileges;
@@ -7,6 +8,7 @@ mod socket;
 mod tap;
 mod wait;
 
+pub use clock::thread_time;
 pub use lock::lock;
 pub use memory::{limit_memory, look_for_memory};
 pub use privileges::{

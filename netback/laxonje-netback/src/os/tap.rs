@@ -1,10 +1,11 @@
 //! TAP devices, and what is set of an interface.
 //!
 //! What makes each `unsafe` block sound: the requests of `netdevice(7)` and of `if_tun.h` read and write one `struct ifreq`, which is
-//! the caller's own; SIOCBRADDIF reads it, TUNSETPERSIST takes a number, and TUNGETFEATURES writes one.
+//! the caller's own; SIOCBRADDIF reads it, TUNSETPERSIST and TUNSETOFFLOAD take a number, and TUNGETFEATURES writes one.
 use super::batch::{Batch, Moved};
 use super::done;
 use crate::ffi;
+use laxonje::Accepts;
 use std::fs::{File, OpenOptions};
 use std::io::{self, Read, Write};
 use std::os::raw::{c_int, c_uint, c_ulong};
@@ -196,6 +197,16 @@ impl Tap {
         // SAFETY: the module's reason.
         done(unsafe { ffi::ioctl(self.file.as_raw_fd(), ffi::TUNGETFEATURES, &mut features) })?;
         Ok(features & c_uint::from(ffi::IFF_VNET_HDR) != 0)
+    }
+
+    /// What the kernel may leave undone of the device's packets from now on. TCP with notices of congestion (RFC 3168) isn't among that, as it
+    /// isn't for Linux's vifs: the kernel makes its segments.
+    pub fn leave(&self, accepts: Accepts) -> io::Result<()> {
+        let Accepts { tcpv4, tcpv6, checksum } = accepts;
+        let bit = |is_left: bool, bit: c_ulong| if is_left { bit } else { 0 };
+        let bits = bit(checksum, ffi::TUN_F_CSUM) | bit(tcpv4, ffi::TUN_F_TSO4) | bit(tcpv6, ffi::TUN_F_TSO6);
+        // SAFETY: the module's reason.
+        done(unsafe { ffi::ioctl(self.file.as_raw_fd(), ffi::TUNSETOFFLOAD, bits) })
     }
 
     /// Whether its interface has a carrier.

@@ -8,15 +8,16 @@
 //! before their turns, and the packets that wait are copied to the posted buffers in one call before their deliveries. What was
 //! copied is a guess at what the queue is going to ask for: an entry that isn't the one guessed is asked for then. All pages are
 //! given back before a response is shown.
+mod ahead;
 mod held;
 mod ring;
 
 use self::held::Held;
-use self::ring::{Guess, Ring, REQUESTS_IN_RING, RESPONSES, RX_SLOT, TX_SLOT};
+use self::ring::{Ring, REQUESTS_IN_RING, RESPONSES, RX_SLOT, TX_SLOT};
 use super::arena::{Arena, Packet};
 use crate::keys::QueueKeys;
 use crate::stats::{Rings, Totals};
-use crate::xen::{Memory, PageCopy, Pages, Places};
+use crate::xen::{Memory, PageCopy, Pages};
 use laxonje::{Entry, Extent, Guest, GuestMemory, Page, PAGE_BYTES};
 use std::fmt;
 use std::io;
@@ -37,44 +38,8 @@ const PAGES_AHEAD: usize = 32;
 const PAGES_ASKED: usize = 64;
 /// The memory for the pages of a queue that are copied: each of its three rooms may take a page more.
 pub const COPIES_BYTES: usize = (2 * PAGES_AHEAD + PAGES_ASKED + 3) * PAGE_BYTES;
-/// Flags of a tx request, in its second word, and of an extra info, in its first.
-const MORE_DATA: u32 = 4 << 16;
-const EXTRA_INFO: u32 = 8 << 16;
-const MORE_EXTRAS: u32 = 1 << 8;
 const PERMIT_ACCESS: u32 = 1;
 const READONLY: u32 = 4;
-
-/// What the next tx slot is, by those before it (netif.h).
-#[derive(Clone, Copy, Debug, PartialEq, Eq)]
-enum Comes {
-    /// The first of a packet.
-    First,
-    /// One with more of its data.
-    Data,
-    /// An extra info, and behind the last of them more data, or the next packet.
-    Extra { then_data: bool },
-}
-
-impl Comes {
-    fn is_extra(self) -> bool {
-        matches!(self, Comes::Extra { .. })
-    }
-
-    /// What comes behind this slot, of these first words.
-    fn behind(self, first: u32, second: u32) -> Comes {
-        let then_data = match self {
-            Comes::First if second & EXTRA_INFO != 0 => return Comes::Extra { then_data: second & MORE_DATA != 0 },
-            Comes::Extra { .. } if first & MORE_EXTRAS != 0 => return self,
-            Comes::Extra { then_data } => then_data,
-            Comes::First | Comes::Data => second & MORE_DATA != 0,
-        };
-        if then_data {
-            Comes::Data
-        } else {
-            Comes::First
-        }
-    }
-}
 
 /// How pages of a guest are had.
 #[derive(Clone, Copy, Debug, PartialEq, Eq)]
@@ -191,117 +156,6 @@ impl<Xen: Pages> XenGuest<Xen> {
         std::mem::take(&mut self.refused)
     }
 
-    /// Copies the pages of requests that are shown, and says up to which index.
-    pub fn fetch(&mut self) -> io::Result<u32> {
-        self.forget();
-        let shown = self.tx.shown();
-        if self.way == Way::Map || shown > REQUESTS_IN_RING {
-            return Ok(self.tx.done.wrapping_add(shown.min(REQUESTS_IN_RING)));
-        }
-        let count = self.guess_requests(shown);
-        self.xen.fetch(self.domain, &mut self.copies, &mut self.taken)?;
-        Totals::add(&self.totals.copied_pages, self.copies.len() as u64);
-        for (slot, copy) in self.tx_guessed.iter().zip(&self.copies) {
-            self.tx.guesses[*slot] = Some(Guess::of(copy, copy.at));
-        }
-        Ok(self.tx.done.wrapping_add(count))
-    }
-
-    /// Guesses at the next requests, of whole packets as far as there is room. How many.
-    fn guess_requests(&mut self, shown: u32) -> u32 {
-        let mut places = Places::of(&self.taken);
-        let (mut requests, mut copies) = (0, 0);
-        let mut comes = Comes::First;
-        self.copies.clear();
-        for number in 0..shown {
-            let slot = self.tx.slot(number);
-            if !comes.is_extra() && !self.guess_request(slot, &mut places) {
-                break;
-            }
-            comes = comes.behind(self.tx.word(slot, 0), self.tx.word(slot, 1));
-            if comes == Comes::First {
-                (requests, copies) = (number + 1, self.copies.len());
-            }
-        }
-        self.copies.truncate(copies);
-        match requests {
-            0 => shown, // no packet that ends here: its pages are asked for
-            _ => requests,
-        }
-    }
-
-    /// Guesses at what a tx slot asks to be read: whole words of one page. Returns whether there was room.
-    fn guess_request(&mut self, slot: usize, places: &mut Places) -> bool {
-        let (second, third) = (self.tx.word(slot, 1), self.tx.word(slot, 2));
-        let (offset, size) = ((second & 0xffff) as usize, (third >> 16) as usize);
-        let start = (offset / 4 * 4).min(PAGE_BYTES);
-        let bytes = ((offset + size + 3) / 4 * 4).min(PAGE_BYTES) - start;
-        let at = match places.take(bytes) {
-            Some(at) => at,
-            None => return false,
-        };
-        if bytes > 0 {
-            self.copies.push(PageCopy { reference: self.tx.word(slot, 0), offset: start, at, bytes, allowed: false });
-            self.tx_guessed.push(slot);
-        }
-        true
-    }
-
-    /// Whether all requests before an index are answered.
-    pub fn is_done(&self, end: u32) -> bool {
-        self.tx.done == end
-    }
-
-    /// Forgets what was copied for turns and deliveries that didn't come, or went another way.
-    pub fn forget(&mut self) {
-        self.tx_guessed.drain(..).for_each(|slot| self.tx.guesses[slot] = None);
-        self.rx_guessed.drain(..).for_each(|slot| self.rx.guesses[slot] = None);
-    }
-
-    /// Copies packets that wait to the buffers that are posted for them, as many as there are buffers and room for. How many packets.
-    pub fn put(&mut self, arena: &Arena) -> io::Result<usize> {
-        self.forget();
-        if self.way == Way::Map {
-            return Ok(arena.packets().count());
-        }
-        let (posted, mut places, mut count) = (self.posted(), Places::of(&self.given), 0);
-        self.copies.clear();
-        for packet in arena.packets() {
-            if self.copies.len() + packet.pages() > posted || !self.give(arena, packet, &mut places) {
-                break;
-            }
-            count += 1;
-        }
-        self.xen.put(self.domain, &mut self.copies, &self.given)?;
-        Totals::add(&self.totals.copied_pages, self.copies.len() as u64);
-        let pages = arena.packets().take(count).flat_map(|packet| 0..packet.pages());
-        for ((number, copy), page) in (0..).zip(&self.copies).zip(pages) {
-            let slot = self.rx.slot(number);
-            self.rx.guesses[slot] = Some(Guess::of(copy, page));
-            self.rx_guessed.push(slot);
-        }
-        Ok(count)
-    }
-
-    /// Guesses at the buffers of a packet. Whether there was room for all of it.
-    fn give(&mut self, arena: &Arena, packet: Packet, places: &mut Places) -> bool {
-        let before = self.copies.len();
-        for page in 0..packet.pages() {
-            let bytes = arena.page(packet, page);
-            let at = match places.take(bytes.len()) {
-                Some(at) => at,
-                None => {
-                    self.copies.truncate(before);
-                    return false;
-                }
-            };
-            self.given.bytes_mut()[at..at + bytes.len()].copy_from_slice(bytes);
-            let reference = self.rx.word(self.rx.slot(self.copies.len() as u32), 1);
-            self.copies.push(PageCopy { reference, offset: 0, at, bytes: bytes.len(), allowed: false });
-        }
-        true
-    }
-
     fn ring(&self, frame: u32) -> Option<&Page> {
         match frame {
             TX_RING => Some(&self.tx.page),
@@ -330,14 +184,13 @@ impl GuestMemory for Words<'_> {
 
 impl<Xen: Pages> Guest for XenGuest<Xen> {
     fn read(&mut self, frame: u32, word: usize, into: &mut [u32]) {
-        match frame {
-            TX_RING => self.tx.note_read(word),
-            RX_RING => self.rx.note_read(word),
+        let ring = match frame {
+            TX_RING => &mut self.tx,
+            RX_RING => &mut self.rx,
             _ => return self.read_granted(frame.wrapping_sub(GRANTED), 4 * word..4 * (word + into.len()), into),
-        }
-        if let Some(page) = self.ring(frame) {
-            Words(page).read(frame, word, into);
-        }
+        };
+        ring.note_read(word);
+        Words(&ring.page).read(frame, word, into);
     }
 
     fn write(&mut self, frame: u32, word: usize, from: &[u32]) {

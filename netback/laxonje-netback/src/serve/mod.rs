@@ -2,6 +2,7 @@
 mod arena;
 mod counting;
 mod guest;
+mod noting;
 mod rests;
 mod running;
 mod stall;

@@ -1,10 +1,11 @@
 //! A queue's thread at work: packets both ways, and what its process's first thread orders.
-use super::arena::{Arena, Out};
+use super::arena::{Arena, Exchanged, Out, Packet};
 use super::guest::Delivering;
+use super::noting::{note_delivered, note_left};
 use super::rests::Rests;
 use super::stall::{Due, Stall};
 use super::worker::{Ended, Fault, Order, Told, Worker};
-use crate::frame::{self, Left};
+use crate::frame;
 use crate::os::{wait, Wanted};
 use crate::stats::Totals;
 use laxonje::{Action, Awaited, Delivery, Program, Stopped, Turn, TurnRun};
@@ -283,7 +284,7 @@ impl Running {
         Totals::add(&totals.passed, 1);
         Totals::add(&totals.passed_bytes, length as u64);
         let left = frame::left(&mut room[..length], run.flags.checksum_blank(), run.segments);
-        count_left(totals, run, left);
+        note_left(totals, run.flags, run.segments, left);
         if let Some(left) = left {
             self.out.push(frame::header(left), length);
         }
@@ -294,8 +295,9 @@ impl Running {
 
     /// Gives the packets that passed to the TAP device, and takes those that it has if they are wanted.
     fn exchange(&mut self, wants: bool) {
-        let (lost, more) = self.arena.exchange(&mut self.worker.tap, &self.out, wants);
+        let Exchanged { lost, unfit, more } = self.arena.exchange(&mut self.worker.tap, &self.out, wants);
         Totals::add(&self.worker.totals.lost, lost);
+        Totals::add(&self.worker.totals.unfit, unfit);
         self.out.clear();
         if wants {
             self.tap_ready = more;
@@ -330,14 +332,13 @@ impl Running {
             _ => return Ok(false),
         };
         let Worker { guest, queue, totals, .. } = &mut self.worker;
-        let delivery = queue.deliver(self.arena.bytes(packet), &mut Delivering { guest, arena: &self.arena, packet });
+        let delivery = queue.deliver_as(self.arena.bytes(packet), packet.offload, &mut Delivering { guest, arena: &self.arena, packet });
         match delivery {
             Ok(Delivery::Sent { .. }) => {
-                Totals::add(&totals.delivered, 1);
-                Totals::add(&totals.delivered_bytes, packet.length as u64);
+                note_delivered(totals, packet);
                 self.has_buffers();
             }
-            Ok(Delivery::FewSlots) => return self.await_buffers(packet.length).map(|()| false),
+            Ok(Delivery::FewSlots) => return self.await_buffers(packet).map(|()| false),
             Ok(Delivery::Halted(cause)) => return Err(Ended::Halted(cause)),
             Ok(Delivery::Refused { .. }) => {
                 Totals::add(&totals.undelivered, 1);
@@ -345,15 +346,16 @@ impl Running {
                 self.worker.log.caused(&format_args!("a packet isn't delivered: an rx slot's grant failed its check{grant}"));
             }
             Ok(_) => return Err(abandoned()),
-            Err(_) => Totals::add(&totals.undelivered, 1),
+            // the kernel had it for a connection before, whose guest took it
+            Err(_) => Totals::add(&totals.unfit, 1),
         }
         self.arena.leave();
         Ok(true)
     }
 
-    fn await_buffers(&mut self, bytes: usize) -> Result<(), Ended> {
+    fn await_buffers(&mut self, packet: Packet) -> Result<(), Ended> {
         Totals::add(&self.worker.totals.waits, 1);
-        match self.worker.queue.wait_for(bytes, &mut self.worker.guest) {
+        match self.worker.queue.wait_for_as(packet.length, packet.offload, &mut self.worker.guest) {
             Ok(Awaited::Waiting) => {
                 self.waiting = true;
                 self.stall.begin(Instant::now());
@@ -365,20 +367,6 @@ impl Running {
         }
         Ok(())
     }
-}
-
-/// Counts what a packet that passed leaves to the kernel. `None`: it is dropped.
-fn count_left(totals: &Totals, run: TurnRun, left: Option<Left>) {
-    let dropped = match run.segments {
-        Some(_) => &totals.unsegmented,
-        None => &totals.blank_dropped,
-    };
-    let counts = [
-        (&totals.blank_checksums, run.flags.checksum_blank()),
-        (&totals.segmented, matches!(left, Some(Left::Segments(..)))),
-        (dropped, left.is_none()),
-    ];
-    counts.into_iter().for_each(|(count, is_counted)| Totals::add(count, is_counted.into()));
 }
 
 /// A queue that was left in the midst of a turn isn't used again: `caught` ends its thread.

@@ -21,7 +21,7 @@ const STACK_BYTES: usize = 2 << 20;
 /// What the library keeps of a queue beside the program's counters.
 const LIBRARY_BYTES: usize = 1 << 20;
 /// The most memory that a queue takes beside these.
-const QUEUE_BYTES: usize = 6 << 20;
+const QUEUE_BYTES: usize = 7 << 20;
 const _: () = assert!(PACKETS_BYTES + COPIES_BYTES + STACK_BYTES + LIBRARY_BYTES <= QUEUE_BYTES);
 
 /// What the first thread wants of a queue's.

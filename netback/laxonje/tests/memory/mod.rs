@@ -9,7 +9,7 @@ pub const TABLE: usize = 2;
 pub const DATA: usize = 3;
 pub const GUEST: u16 = 5;
 const FRAMES: usize = 16;
-const RING: usize = 16; // the first word of a ring's slots
+pub const RING: usize = 16; // the first word of a ring's slots
 const PERMIT: u32 = 1;
 const READONLY: u32 = 4;
 
@@ -38,6 +38,11 @@ impl Memory {
             memory.set(ring, 3, 1);
         }
         memory
+    }
+
+    /// A guest none of whose pages can be had.
+    pub fn gone() -> Memory {
+        Memory { pages: Vec::new(), notices: Vec::new() }
     }
 
     pub fn set(&self, frame: usize, word: usize, value: u32) {
@@ -74,12 +79,6 @@ impl Memory {
         self.set(TX, 0, index.wrapping_add(1));
     }
 
-    /// An extra info at an index.
-    pub fn extra(&self, index: u32, words: [u32; 2]) {
-        let slot = RING + 3 * (index as usize % 256);
-        (0..).zip(words).for_each(|(word, value)| self.set(TX, slot + word, value));
-    }
-
     /// The id and the status of the tx response at an index.
     pub fn sent(&self, index: u32) -> (u32, i16) {
         let word = self.get(TX, RING + 3 * (index as usize % 256));
@@ -104,6 +103,19 @@ impl Memory {
     pub fn queue(&self, program: &Program, at: Indices) -> Queue {
         Queue::new(program, &setup(at)).unwrap()
     }
+}
+
+/// r0 = `number`; exit.
+pub fn answers(number: u8) -> Program {
+    Program::load(&[0xb7, 0, 0, 0, number, 0, 0, 0, 0x95, 0, 0, 0, 0, 0, 0, 0], &[]).unwrap()
+}
+
+/// A frame of IPv4 with UDP.
+pub fn udp(length: usize) -> Vec<u8> {
+    let mut packet: Vec<u8> = (0..length).map(|byte| byte as u8).collect();
+    packet[12..15].copy_from_slice(&[8, 0, 0x45]);
+    packet[23] = 17;
+    packet
 }
 
 pub fn setup(at: Indices) -> Setup<'static> {

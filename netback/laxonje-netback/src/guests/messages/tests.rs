@@ -12,6 +12,7 @@ fn orders() -> Vec<Order> {
         notifies: false,
         scatters: true,
         offers: Offers { tcpv4: true, tcpv6: false },
+        accepts: Accepts { tcpv4: false, tcpv6: true, checksum: true },
         queues: vec![keys(8), keys(300)],
     };
     vec![
@@ -67,8 +68,8 @@ fn the_largest_messages_fit() {
     let counters = Report::Counters { device, question: 0, queue, from: 0, words: vec![0; WORDS_PART] };
     let keys = QueueKeys { tx: 0, rx: 0, event: 0 };
     let queues = vec![keys; MOST_QUEUES];
-    let connect =
-        Connect { device, connection, ifindex: 0, program: 0, fresh: true, notifies: true, scatters: false, offers: Offers::ALL, queues };
+    let (fresh, notifies, scatters, offers, accepts) = (true, true, false, Offers::ALL, Accepts::default());
+    let connect = Connect { device, connection, ifindex: 0, program: 0, fresh, notifies, scatters, offers, accepts, queues };
     for message in [counters.encode(), Order::Connect(connect).encode(), Order::Text(vec![0; TEXT_PART]).encode()] {
         assert!(message.len() <= MOST_MESSAGE, "{}", message.len());
     }

@@ -23,7 +23,7 @@ pub enum Place<Mapped> {
     Guessed(usize),
     /// In the further page that begins at this place.
     Asked(usize),
-    /// Already in the guest: the page of this number of the packet that is delivered.
+    /// In the guest is already the page of a packet that begins at this place: of the packet that is delivered, or of one before that was refused.
     Delivered(usize),
     Mapped(Mapped),
 }
@@ -98,7 +98,7 @@ impl<Xen: Pages> XenGuest<Xen> {
         };
         match (&self.held[position].place, delivered) {
             (Place::Mapped(page), _) => return Words(page).write(TX_RING, word, from),
-            (Place::Delivered(number), Some((arena, packet))) if is(arena.page(packet, *number), word, from) => {}
+            (Place::Delivered(place), Some((arena, packet))) if is(arena.page_at(packet, *place), word, from) => {}
             _ => self.change(position, &bytes, from),
         }
         self.held[position].bytes = bytes;
@@ -163,8 +163,39 @@ impl<Mapped> Held<Mapped> {
     }
 }
 
-/// Whether the words are those at their place of these bytes.
-fn is(bytes: &[u8], word: usize, words: &[u32]) -> bool {
-    let there = bytes.get(4 * word..4 * (word + words.len()));
-    there.map_or(false, |there| there.chunks_exact(4).zip(words).all(|(four, word)| four == word.to_le_bytes()))
+/// So many words are compared without a jump, several by each instruction: a word at a time takes as long as all else of a long delivery.
+const WORDS_AT_ONCE: usize = 64;
+
+/// Whether the words are those at their place of these bytes, if there are such.
+fn is(bytes: Option<&[u8]>, word: usize, words: &[u32]) -> bool {
+    let there = match bytes.and_then(|bytes| bytes.get(4 * word..4 * (word + words.len()))) {
+        Some(there) => there,
+        None => return false,
+    };
+    let mut blocks = there.chunks(4 * WORDS_AT_ONCE).zip(words.chunks(WORDS_AT_ONCE));
+    blocks.all(|(bytes, words)| differ(bytes, words) == 0)
+}
+
+/// The bits in which bytes differ from words: 0 if they are the same.
+fn differ(bytes: &[u8], words: &[u32]) -> u32 {
+    let word = |four: &[u8]| u32::from_le_bytes([four[0], four[1], four[2], four[3]]);
+    bytes.chunks_exact(4).zip(words).fold(0, |bits, (four, other)| bits | (word(four) ^ other))
+}
+
+#[cfg(test)]
+mod tests {
+    use super::*;
+
+    #[test]
+    fn bytes_are_words_only_if_each_is() {
+        let mut words: Vec<u32> = (0..1024u32).map(|number| number.wrapping_mul(0x0101_0101)).collect();
+        let bytes: Vec<u8> = words.iter().flat_map(|word| word.to_le_bytes()).collect();
+        assert!(is(Some(&bytes), 0, &words) && is(Some(&bytes), 1000, &words[1000..1003]) && is(Some(&bytes[..8]), 2, &[]));
+        assert!(!is(None, 0, &words) && !is(Some(&bytes[..4092]), 0, &words) && !is(Some(&bytes), 1, &words));
+        for changed in [0, 1, 63, 64, 127, 1000, 1023] {
+            words[changed] ^= 0x100;
+            assert!(!is(Some(&bytes), 0, &words), "{changed}");
+            words[changed] ^= 0x100;
+        }
+    }
 }

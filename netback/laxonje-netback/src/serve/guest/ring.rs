@@ -16,7 +16,7 @@ pub const REQUESTS_IN_RING: u32 = 256;
 #[derive(Clone, Debug, PartialEq, Eq)]
 pub struct Guess {
     pub reference: u32,
-    /// Where the copy of a tx slot lies, or the number of the packet's page.
+    /// Where the copy of a tx slot lies, or where the packet's page begins.
     pub place: usize,
     /// Which bytes of the guest's page.
     pub bytes: Range<usize>,
@@ -57,8 +57,14 @@ impl<Mapped: Deref<Target = Page>> Ring<Mapped> {
         (self.done.wrapping_add(number) % REQUESTS_IN_RING) as usize
     }
 
-    pub fn word(&self, slot: usize, number: usize) -> u32 {
-        self.page[SLOTS + self.slot_words * slot + number].load(Ordering::Acquire)
+    /// The first words of a slot, in their order, each read once.
+    pub fn words<const COUNT: usize>(&self, slot: usize) -> [u32; COUNT] {
+        let first = SLOTS + self.slot_words * slot;
+        let mut words = [0; COUNT];
+        for (word, shared) in words.iter_mut().zip(&self.page[first..first + COUNT]) {
+            *word = shared.load(Ordering::Acquire);
+        }
+        words
     }
 
     pub fn note_read(&mut self, word: usize) {

@@ -1,5 +1,6 @@
 //! A fuzz target: guests whose rings, pages and grants come of the bytes that libFuzzer chooses. `netback/fuzz` builds and runs it.
 #![allow(unsafe_code)]
+use super::any::{until_it_halts, Came};
 use super::*;
 use std::env;
 use std::ffi::CString;

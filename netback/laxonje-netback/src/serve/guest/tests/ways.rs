@@ -1,5 +1,6 @@
 //! Whether pages are copied or mapped, a guest gets the same responses and the host the same frames.
 use super::*;
+use crate::os::HEADER_BYTES;
 
 const READ: std::ops::Range<u32> = 20..28;
 const WRITTEN: std::ops::Range<u32> = 28..36;
@@ -41,6 +42,11 @@ impl Both {
 }
 
 impl Any {
+    fn frame(&mut self) -> Vec<u8> {
+        let length = 14 + self.below(6000) as usize;
+        self.bytes(length)
+    }
+
     fn bytes(&mut self, count: usize) -> Vec<u8> {
         let (first, step) = (self.below(256), self.below(256) | 1);
         (0..count as u32).map(|byte| (first + step * byte) as u8).collect()
@@ -107,18 +113,31 @@ fn turns(bench: &mut Bench, _: &mut Any) -> Vec<(Turn, Vec<u8>, String)> {
 
 fn deliveries(bench: &mut Bench, any: &mut Any) -> Vec<Delivery> {
     let mut arena = Arena::new();
-    for _ in 0..any.below(3) {
-        let length = 14 + any.below(6000) as usize;
-        arena.put(&any.bytes(length));
+    for _ in 0..any.below(5) {
+        let (header, frame) = match any.below(2) {
+            0 => any.for_guest(),
+            _ => ([0; HEADER_BYTES], any.frame()),
+        };
+        assert!(arena.put_behind(header, &frame));
     }
     let mut came = Vec::new();
-    while arena.first().is_some() && !matches!(came.last(), Some(Delivery::FewSlots | Delivery::Halted(_))) {
-        bench.guest.put(&arena).unwrap();
-        came.push(bench.deliver(&arena));
-        arena.leave();
+    while goes_on(&arena, &came) {
+        // what was copied for all that fit is there while one of them is refused
+        let fits = bench.guest.put(&arena).unwrap().max(1);
+        for _ in 0..fits {
+            if goes_on(&arena, &came) {
+                came.push(bench.deliver(&arena));
+                arena.leave();
+            }
+        }
     }
     bench.guest.forget();
     came
+}
+
+/// Whether there is a packet, and no delivery before it has ended.
+fn goes_on(arena: &Arena, came: &[Delivery]) -> bool {
+    arena.first().is_some() && !matches!(came.last(), Some(Delivery::FewSlots | Delivery::Halted(_)))
 }
 
 /// A round of both. Returns whether the queues have halted.
