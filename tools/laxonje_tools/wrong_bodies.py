@@ -49,6 +49,7 @@ class Edit:
     functions: list = dataclasses.field(default_factory=list)
     judged: list = dataclasses.field(default_factory=list)
     is_apart: bool = False
+    crate: str = ""
 
     @property
     def files(self):
@@ -108,6 +109,9 @@ IMPL = re.compile(
     r"^(?:unsafe )?impl\b(?:<[^{]*?>)? (?:(?:\w+::)*(\w+)(?:<(?:\w+::)*(\w+))?[^{]*? for )?&?(?:'\w+ )?(?:\w+::)*(\w+)", re.M
 )
 
+# A trait, whose functions may have bodies too.
+TRAIT = re.compile(r"^(?:pub(?:\([a-z]+\))? )?(?:unsafe )?trait (\w+)", re.M)
+
 
 def module_of(file):
     """The module that a file of src/ holds: [] for the root."""
@@ -128,14 +132,17 @@ def modules_of_types(folder):
 
 def function_at(file, text, at, types):
     """The path below the crate of the function that holds this place of a file; None if none does. The prover names a method by
-    the module of its type, and one of a trait by the impl's module and both names."""
+    the module of its type, one of an impl of a trait by the impl's module and both names, and a trait's own by the trait's."""
     before = [it for it in FN.finditer(text) if it.start() <= at]
     if not before:
         return None
     last, module, inside = before[-1], module_of(file), []
-    impls = [it for it in IMPL.finditer(text) if it.start() < last.start()] if last[1] else []
-    if impls:
-        trait, given, name = impls[-1].groups()
+    blocks = [it for it in [*IMPL.finditer(text), *TRAIT.finditer(text)] if it.start() < last.start()] if last[1] else []
+    block = max(blocks, key=re.Match.start, default=None)
+    if block and block.re is TRAIT:
+        inside = [block[1]]
+    elif block:
+        trait, given, name = block.groups()
         inside = [f"{name}{trait or ''}{given or ''}"]
         module = module if trait else types.get(name, module)
     return "::".join([*module, *inside, last[2]])
@@ -166,10 +173,12 @@ ITEM = re.compile(r"(?:pub(?:\([a-z]+\))? )?(?:const|static|type|struct|enum)\b(
 
 
 def is_of_all(text, old):
-    """Whether a text stands outside each function of a file, or begins an item there, and is no import."""
+    """Whether a text stands outside each function of a file, begins an item there, or is in a function that is computed as constants
+    are; and is no import."""
     at = text.find(old)
     line = text[text.rfind("\n", 0, at) + 1 :]
-    return at >= 0 and not line.startswith("use ") and (bool(ITEM.match(line)) or not any(it.start() <= at for it in FN.finditer(text)))
+    heads = [it[0] for it in FN.finditer(text) if it.start() <= at]
+    return at >= 0 and not line.startswith("use ") and (bool(ITEM.match(line)) or not heads or "const fn" in heads[-1])
 
 
 def changed_functions(edit, folder, types):

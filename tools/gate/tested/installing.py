@@ -2,6 +2,7 @@
 import os
 import pathlib
 import re
+import shlex
 import shutil
 import subprocess
 import tempfile
@@ -18,7 +19,8 @@ def fake_build(folder, is_proved):
         (folder / name).chmod(0o755)
     shutil.copy(ROOT / "include/laxonje.h", host)
     number = re.search(r"LAXONJE_VERSION (\d+)", (host / "laxonje.h").read_text())[1]
-    package = ["prefix=${pcfiledir}", "Name: laxonje", "Version: 2", "Cflags: -I${prefix}", "Libs: -L${prefix} -llaxonje"]
+    package = ["prefix=${pcfiledir}", "libdir=${prefix}", "includedir=${prefix}", "Name: laxonje", "Description: Filters", "Version: 2"]
+    package += ["Cflags: -I${includedir}", "Libs: -L${libdir} -llaxonje"]
     (host / "laxonje.pc").write_text("\n".join(package) + "\n")
     for name in ("liblaxonje.a", f"liblaxonje.so.{number}"):
         (host / name).write_text(name)
@@ -52,7 +54,7 @@ def install_tests():
         wanted += ["sbin/laxonje-netback", "share/bash-completion/completions/laxonje-netback"]
         yield "what is wanted is there", all(f"usr/{name}" in files for name in wanted)
         packed = (to / "usr/lib/there/pkgconfig/laxonje.pc").read_text()
-        is_placed = "prefix=/usr\nlibdir=/usr/lib/there\n" in packed and "-L${libdir} -llaxonje" in packed
+        is_placed = packed.startswith("prefix=/usr\nlibdir=/usr/lib/there\n") and '-L"${libdir}" -llaxonje' in packed and "pcfiledir" not in packed
         yield "the package's file", is_placed and str(to) not in packed
         before = files_below(to)
         yield "a second time", said(install, env=env)[0] == 0 and files_below(to) == before
@@ -72,10 +74,39 @@ def install_tests():
         made = said([odd / "bin/laxonje-packets-of-pcap", ROOT / "examples/five-packets.pcap"])[1]
         yield "a tool that is installed there", made == plain
         units = [path.read_text() for path in odd.rglob("*.service")]
-        yield "the service there", bool(units) and all(f"{odd}/" in text for text in units)
+        doubled = str(odd).replace("\\", "\\\\")
+        yield "the service there", bool(units) and all(f'ExecStart="{doubled}/sbin/laxonje-netback" ' in text for text in units)
+        yield from package_tests(odd)
+        yield from stopped_tests(pathlib.Path(room), built)
         yield "nothing to take away", said([TOOLS / "install", "--uninstall", "/usr"], env=env)[0] == 1
         yield "nothing that is built", said([TOOLS / "install", "--from", room, "/usr"], env=env)[0] == 1
         yield "a library that isn't there", said([TOOLS / "install-host", "/usr", room], env=env)[0] == 1
+
+
+def package_tests(prefix):
+    """What pkg-config says of a library that is installed in a folder whose name has signs; and the links between crates, documents and examples."""
+    if shutil.which("pkg-config"):
+        env = {**os.environ, "PKG_CONFIG_PATH": str(prefix / "lib&|/pkgconfig")}
+        status, text, _ = said(["pkg-config", "--cflags", "--libs", "laxonje"], env=env)
+        words = shlex.split(text)
+        yield "its flags are words", status == 0 and words == [f"-I{prefix}/include", f"-L{prefix}/lib&|", "-llaxonje"]
+    named = ["doc/laxonje/examples/host-vm-memory/../../netback/laxonje/Cargo.toml", "laxonje/crates/laxonje/../../docs/HOST.md"]
+    named += ["laxonje/crates/laxonje/../../examples/host-vm-memory/README.md", "doc/laxonje/docs/../netback/laxonje/README.md"]
+    yield "what crates, documents and examples name is there", all((prefix / "share" / name).is_file() for name in named)
+
+
+def stopped_tests(room, built):
+    """An installation that stops midway is taken away by its list."""
+    to = room / "it's in the way"
+    (to / "lib/liblaxonje.a").mkdir(parents=True)
+    install = [TOOLS / "install", "--from", built, to]
+    yield "a folder in a file's place", said(install)[0] == 1 and "bin/xdpbox" in files_below(to)
+    status = said([TOOLS / "install", "--uninstall", to])[0]
+    yield "what was put there is taken away", status == 0 and [str(path.relative_to(to)) for path in to.rglob("*")] == ["lib", "lib/liblaxonje.a"]
+    (to / "lib/liblaxonje.a").rmdir()
+    status = said(install)[0]
+    made, plain = [said([tool, ROOT / "examples/five-packets.pcap"])[1] for tool in (to / "bin/laxonje-packets-of-pcap", TOOLS / "packets-of-pcap")]
+    yield "a tool in a folder with a quote", status == 0 and made == plain
 
 
 def release_tests():

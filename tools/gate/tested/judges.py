@@ -1,5 +1,6 @@
 """Judges of pages: what a proof counts, sentences, and a file that is missing."""
 import pathlib
+import re
 import shutil
 import subprocess
 import tempfile
@@ -14,6 +15,26 @@ def sentence_tests():
     yield "a sentence that is too long", len(list(found(f"Short. {words.strip()}.\n\n- An item.\n"))) == 1
     yield "two sentences, a list and code", not list(found(f"{'word ' * 20}. {'Word ' * 20}.\n- {'word ' * 20}\n- {'word ' * 20}\n\n```text\n{words}\n```\n"))
     yield "a table, and a link's address", not list(found(f"| {words} |\n\nA [page]({words.strip()}) is short.\n"))
+
+
+def outside_tests():
+    """How many rows from outside the pages say that there are."""
+    lines = (ROOT / "crates/outside_rows/stdin").read_text().splitlines()
+    count = sum(bool(line) and not line.startswith("#") for line in lines)
+    said = re.search(r"answers ([\d,]+) questions", (ROOT / "docs/CLAIMS.md").read_text())
+    part = (ROOT / "docs/statements/rows.md").read_text().partition("\n## Numbers from outside\n")[2]
+    listed = [int(it.replace(",", "")) for it in re.findall(r"(?m)^\|[^|]*\| ([\d,]+) \|", part)]
+    yield "the number of rows from outside", said is not None and int(said[1].replace(",", "")) == count == sum(listed)
+
+
+def guide_tests():
+    """The files that crates/README names, each after its crate."""
+    crate = ""
+    for name in re.findall(r"`([\w/]+(?:\.rt)?)`", (ROOT / "crates/README.md").read_text().partition("\n## How to add\n")[2]):
+        if (ROOT / "crates" / name).is_dir():
+            crate = name
+        elif name.endswith(".rt"):
+            yield f"{name} of {crate}, which crates/README names", any((ROOT / "crates" / crate / "src").glob(f"**/{name}"))
 
 
 def missing_tests():
@@ -50,3 +71,8 @@ def assumed_tests():
     yield "no number in the verdict", assumed.finding(readme, [*VERDICTS, "logic=proved functions=3 sum=0"]) != ""
     yield "a program that was kept", assumed.finding(readme, ["rt: xdpbox is kept: an earlier run"]) == ""
     yield "no number in README", assumed.finding("", proved) != ""
+    library = ["== xdp_host", "logic=proved functions=3 axioms=3 sum=0"]
+    yield "the library's number", assumed.finding("10 for it, 3\nfor the library for C", library, "xdp_host") == ""
+    unlinked = ["== xdp_host", "logic=proved functions=3 sum=0"]
+    yield "a library that isn't linked", assumed.finding("3 for the library for C", unlinked, "xdp_host") == ""
+    yield "another number of the library's", assumed.finding("4 for the library for C", library, "xdp_host") != ""

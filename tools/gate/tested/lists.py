@@ -8,6 +8,7 @@ from tested.common import ROOT, said
 # A file, and the map's key, size and rows. The numbers of addresses are those of RFC 5737, RFC 3849 and RFC 7042.
 LISTS = (
     ("192.0.2.1\n\n# those of a test\n 198.51.100.7 # one\n", ("exact", 4, ["c0000201", "c6336407"])),
+    ("192.0.2.1 # one\f 198.51.100.7\u2028 203.0.113.1\n", ("exact", 4, ["c0000201"])),
     ("2001:db8::1\r\n", ("exact", 16, ["20010db8000000000000000000000001"])),
     ("00:00:5E:00:53:01\n", ("exact", 6, ["00005e005301"])),
     ("0x0050\n0x01Bb\n", ("exact", 2, ["0050", "01bb"])),
@@ -24,6 +25,7 @@ REFUSED = (
     ("0x123\n", "line 1: "),
     ("0x" + "00" * 65, "line 1: "),
     ("192.0.2.0/255.255.255.0\n", "line 1: 192.0.2.0/255.255.255.0 is no prefix"),
+    ("fe80::1%eth0\n", "line 1: fe80::1%eth0 names a link"),
     ("192.0.2.1\n2001:db8::1\n", "line 2: 16 bytes, but those before have 4"),
     ("192.0.2.1\n192.0.2.2\n192.0.2.1\n", "line 3: it is that of line 1"),
     ("192.0.2.1/32\n192.0.2.1\n", "line 2: it is that of line 1"),
