@@ -4,9 +4,11 @@
     elf       an object file's sections, symbols and relocations
     btf       its debug information: the sizes of maps, and the line of C of each slot
     calls     functions and helpers whose calls are written out
+    frames    how much of the stack a function uses
     absent    what isn't here, with Linux's answer where there is none of it either
     own_device  redirects to the device that a packet came from
     memory    constants and globals
+    looked_up  globals whose values are looked up in front of a program
     maps      maps, and what is given of them
     lists     files of addresses and prefixes
     beginnings  files with the numbers that counters begin with

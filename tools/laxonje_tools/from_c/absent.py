@@ -53,7 +53,10 @@ class Absent(NamedTuple):
             name = map_in(1)
             return (0, f"the map {name} is empty, and a lookup gives 0") if self.has(name) else None
         if number == REDIRECT and DEVICES in self.left_out:
-            action = ABORTED if constant_in(2) else DROPPED
+            flags = constant_in(2)
+            if flags is None:
+                return None
+            action = ABORTED if flags else DROPPED
             return action, f"bpf_redirect gives {ACTIONS[action]}, and the packet is dropped, as in Linux if there is no such device"
         if number == REDIRECT_MAP:
             name, flags = map_in(1), constant_in(3)

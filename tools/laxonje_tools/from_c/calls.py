@@ -9,10 +9,16 @@ import struct
 from functools import partial
 from typing import TYPE_CHECKING, AbstractSet, Callable, Iterator, NamedTuple, Optional
 
-from .absent import ABORTED, ACTION, ALL_DEVICES, DEVICES, DROPPED, PRINTS, REDIRECT_MAP, SENT_BACK
+from .absent import ABORTED, ACTION, ALL_DEVICES, DEVICES, DROPPED, PRINTS, REDIRECT, REDIRECT_MAP, SENT_BACK
 from .elf import SLOT_BYTES
-from .lines import CALL, EXIT, FAR_JUMP, JUMP, SAVED, WIDE, Fault, Line, lines_of, packed, read_later, writes, written
-from .own_device import sent_back
+from .frames import below_frames, check_frames, frame_of, move_frame, named_by
+from .lines import (
+    CALL, EXIT, JUMP, MOV_CONSTANT, SAVED, STACK_BYTES, Fault, Line, constant_in, lines_of, map_in, packed, read_later, set_in, writes,
+    written,
+)  # fmt: skip
+from .own_device import DEVICE_FIELD, sent_back
+from .repeated import LOOP, NAME, check_flags, repeated
+from .sequences import answered, sequence_of
 
 if TYPE_CHECKING:
     from collections.abc import Mapping
@@ -20,67 +26,113 @@ if TYPE_CHECKING:
     from .absent import Absent
     from .elf import Function
 
-LOCAL, FRAME, STACK_BYTES, MOST_DEPTH, MOST_SLOTS = 1, 10, 512, 8, 4096
-MOV_64, MOV_32, MOV_CONSTANT, ADD_CONSTANT, ADD, SUB, XOR_CONSTANT, AND, AND_CONSTANT, RSH_CONSTANT = (
-    0xBF, 0xBC, 0xB7, 0x07, 0x0F, 0x1F, 0xA7, 0x5F, 0x57, 0x77,
+LOCAL, FRAME, MOST_DEPTH, MOST_SLOTS = 1, 10, 8, 4096
+MOV_64, MOV_32, ADD_CONSTANT, ADD, SUB, XOR_CONSTANT, AND, AND_CONSTANT, LSH_CONSTANT, RSH_CONSTANT, ARSH_CONSTANT = (
+    0xBF, 0xBC, 0x07, 0x0F, 0x1F, 0xA7, 0x5F, 0x57, 0x67, 0x77, 0xC7,
 )  # fmt: skip
 LOAD_BYTE, LOAD_HALF, LOAD_WORD, LOAD_DOUBLE = 0x71, 0x69, 0x61, 0x79
 STORE_BYTE, STORE_HALF, STORE_WORD, STORE_DOUBLE = 0x73, 0x6B, 0x63, 0x7B
 DOUBLE = 8  # bytes
 COPIES = {1: (LOAD_BYTE, STORE_BYTE), 2: (LOAD_HALF, STORE_HALF), 4: (LOAD_WORD, STORE_WORD), 8: (LOAD_DOUBLE, STORE_DOUBLE)}  # by size
-IF_ABOVE, IF_ABOVE_CONSTANT, IF_NOT_CONSTANT = 0x2D, 0x25, 0x55
+IF_ABOVE, IF_ABOVE_CONSTANT, IF_NOT_CONSTANT, IF_EQUAL, IF_EQUAL_CONSTANT, IF_AT_MOST_SIGNED, IF_AT_LEAST = 0x2D, 0x25, 0x55, 0x1D, 0x15, 0xD5, 0x3D
 LOOKUP, UPDATE, ANY, THERE, TOO_BIG = 1, 2, 0, 2, -7  # the third and fourth are flags: BPF_ANY, BPF_EXIST; the last is E2BIG
-PRINTK, CPU, CSUM_DIFF, VPRINTK, BUFF_LEN, LOAD_BYTES, STORE_BYTES = 6, 8, 28, 177, 188, 189, 190
+PRINTK, CPU, CSUM_DIFF, CHECK_MTU, VPRINTK, BUFF_LEN, LOAD_BYTES, STORE_BYTES = 6, 8, 28, 163, 177, 188, 189, 190
 TOO_FAR, TOO_LONG, MOST_OFFSET = -14, -22, 0xFFFF  # of Linux: EFAULT, EINVAL, and the offset from which on it is the former
+NO_FLAGS, NO_DEVICE, TOO_LARGE, HEADER_BYTES = -22, -19, 1, 14  # of Linux: EINVAL, ENODEV, BPF_MTU_CHK_RET_FRAG_NEEDED; of Ethernet
 MOST_COPIED, MOST_SUMMED = 128, 512  # bytes
 START_FIELD, END_FIELD = 0, 4  # of the context
+WORD = 4  # bytes
+# of a sum: what is carried out of 32 bits is added to them, and out of 16; and each bit of 32 is turned over
+TO_32_BITS = [(MOV_64, 2, 0), (RSH_CONSTANT, 2, 0, 0, 32), (MOV_32, 0, 0), (ADD, 0, 2)] * 2
+TO_16_BITS = [(MOV_64, 2, 0), (RSH_CONSTANT, 2, 0, 0, 16), (AND_CONSTANT, 0, 0, 0, 0xFFFF), (ADD, 0, 2)] * 3
+TURNED = [(XOR_CONSTANT, 0, 0, 0, -1), (MOV_32, 0, 0)]
+TAKEN_OFF = [*TO_32_BITS, *TURNED]
 TO_ITS_DEVICE = "bpf_redirect to the device that the packet came from gives XDP_TX"
+OF_ODD_SIZES = "bpf_csum_diff of a size that is no multiple of 4 gives -EINVAL, as in Linux before 6.13"
+OF_ITS_DEVICE = "bpf_check_mtu answers for the packet's own device, with an MTU of {}; any other device isn't there (-ENODEV)"
 
 
 class Replaced(NamedTuple):
-    """A function without such calls. `origins`: of each slot the one of the function as it was. `notes`: (slot, words)."""
+    """A function without such calls. `origins`: of each slot the one of the function as it was. `notes`: (slot, words). `maps`: the
+    names of those that were added, each of one counter. `stack`: how many bytes of it are used, None if that isn't shown."""
 
     code: bytes
     relocations: list
     origins: list
     notes: list
+    maps: list
+    stack: Optional[int]
+
+
+class Inlined(NamedTuple):
+    """A function's lines without calls, and how much of the stack is used in all."""
+
+    lines: list[Line]
+    used: int
 
 
 class Calls:
     """The functions of a file, and of a call the one that it leads to. `absent`: what is left out. `arrays`: by name the numbers
-    of a value of each array, as (place, size)."""
+    of a value of each array, as (place, size). `frames`: by name how much of the stack a function uses, None of an object file. `mtu`:
+    that of the device that packets come from, None if it isn't said; `clock`: the nanoseconds between two calls for the time, the same."""
 
-    def __init__(self, functions: list[Function], relocations: Callable, absent: Absent, arrays: Mapping[str, list[tuple[int, int]]]) -> None:
-        self.functions, self.relocations, self.absent, self.arrays, self.notes = functions, relocations, absent, arrays, []
-        self.sent_back = set()
+    def __init__(
+        self,
+        functions: list[Function],
+        relocations: Callable,
+        absent: Absent,
+        arrays: Mapping[str, list[tuple[int, int]]],
+        frames: Optional[Mapping[str, int]],
+        mtu: Optional[int] = None,
+        clock: Optional[int] = None,
+    ) -> None:
+        self.functions, self.relocations, self.absent, self.arrays, self.frames = functions, relocations, absent, arrays, frames
+        self.mtu, self.clock, self.notes, self.sent_back, self.maps = mtu, clock, [], set(), {}
 
     def replaced(self, function: Function) -> Replaced:
-        lines = self.inlined(function, 0, 0)
+        own, (lines, used) = self.frame(function), self.inlined(function, 0, 0)
+        is_shown = self.frames is not None or below_frames(lines) is None
+        if not is_shown and used > own:
+            check_frames(lines)
         for line in lines:
             if line.row is not None and self.absent.has(line.row.name):
                 line.put(MOV_CONSTANT, line.destination, 0, 0, self.absent.flags_of(line.row.name))
-        return Replaced(*written(lines), sorted(set(self.notes)))
+        return Replaced(*written(lines), sorted(set(self.notes)), list(self.maps), used if is_shown else None)
 
-    def inlined(self, function: Function, depth: int, above: int, origin: Optional[int] = None) -> list[Line]:
+    def frame(self, function: Function) -> int:
+        """How many bytes of the stack a function uses by itself."""
+        return frame_of(lines_of(function.code, []), function.name, self.frames or {})
+
+    def inlined(self, function: Function, depth: int, above: int, origin: Optional[int] = None) -> Inlined:
         """A function's lines without calls. `depth`: how many calls lead to it; `above`: the stack that they use."""
         lines = lines_of(function.code, list(self.relocations(function)))
-        own, needed = frame_of(lines), read_later(lines)
+        used, needed = above + self.frame(function), read_later(lines)
+        deepest = [used]
         if depth:
             move_frame(lines, above)
         else:
             self.sent_back = set(sent_back(lines))
         out = []
         for line in lines:
-            line.origin = line.origin if origin is None else origin
+            line.origin, line.bottom = line.origin if origin is None else origin, -used
             try:
-                called = self.called(function, line)
-                out += self.helped(line, lines, above + own) if called is None else self.call(line, called, depth, above + own, needed[line])
+                called, again = self.called(function, line), self.repeats(line, lines)
+                if called is not None:
+                    inner = self.call(line, called, depth, used, needed[line])
+                elif again is not None:
+                    call = partial(self.call, function=again, depth=depth, needed=needed[line])
+                    times = constant_in(lines, line, 1)
+                    inner = Inlined(*repeated(line, times, used, lambda row, above, call=call: call(row, above=above)))
+                else:
+                    inner = Inlined(self.helped(line, lines, used), used)
+                out += inner.lines
+                deepest.append(inner.used)
             except Fault as fault:
                 fault.slot = line.origin
                 raise
         if len(out) > MOST_SLOTS:
             raise Fault(f"calls functions so often that it would have more than {MOST_SLOTS} slots")
-        return out
+        return Inlined(out, max(*deepest, named_by(out)))
 
     def called(self, function: Function, line: Line) -> Optional[Function]:
         """The function of the file that a line of another one calls; None if it calls none."""
@@ -92,15 +144,28 @@ class Calls:
             section, place = line.row.section, line.row.place + SLOT_BYTES * (line.immediate + 1)
         return next((other for other in self.functions if (other.section, other.place) == (section, place)), None)
 
-    def call(self, line: Line, function: Function, depth: int, above: int, needed: AbstractSet[int]) -> list[Line]:
+    def repeats(self, line: Line, lines: list[Line]) -> Optional[Function]:
+        """The function that bpf_loop calls at a line, whose address is no more needed then; None if it is no such call."""
+        if (line.opcode, line.source, line.immediate) != (CALL, 0, LOOP):
+            return None
+        address = set_in(lines, line, 2)
+        place = (address.row.section, address.row.place) if address is not None and address.row is not None else None
+        found = next((other for other in self.functions if (other.section, other.place) == place), None)
+        if found is None:
+            raise Fault(f"calls {NAME} of a function that the lines in front of it don't say")
+        check_flags(constant_in(lines, line, 4))
+        address.put(MOV_CONSTANT, 2)
+        return found
+
+    def call(self, line: Line, function: Function, depth: int, above: int, needed: AbstractSet[int]) -> Inlined:
         """A function in the place of its call. `needed`: the registers that its caller reads later."""
         if depth == MOST_DEPTH:
             raise Fault(f"calls functions more than {MOST_DEPTH} deep")
-        inner = self.inlined(function, depth + 1, above, line.origin)
+        inner, used = self.inlined(function, depth + 1, above, line.origin)
         kept = [register for register in SAVED if register in needed and any(writes(row, register) for row in inner)]
-        used = above + frame_of_moved(inner, above)
         places = {register: -(used + 8 * (number + 1)) for number, register in enumerate(kept)}
-        if used + 8 * len(kept) > STACK_BYTES:
+        whole = used + 8 * len(kept)
+        if whole > STACK_BYTES:
             raise Fault(f"calls functions that would need more than {STACK_BYTES} bytes of the stack")
         end = Line(packed(JUMP), line.origin)  # where each way out leads: a jump to the line below
         out = []
@@ -114,7 +179,7 @@ class Calls:
                 out += rest
         begin = [Line(packed(STORE_DOUBLE, FRAME, register, at), line.origin) for register, at in places.items()]
         line.put(JUMP)  # jumps to the call stay right
-        return [line, *begin, *out, end]
+        return Inlined([line, *begin, *out, end], whole)
 
     # --- helpers
 
@@ -126,17 +191,28 @@ class Calls:
         if number == CPU:
             self.notes.append((line.origin, "bpf_get_smp_processor_id gives 0 here, as Linux may"))
             return put_all(line, [(MOV_CONSTANT, 0)])
+        sequence = sequence_of(number, self.clock)
+        if sequence is not None:
+            self.notes.append((line.origin, sequence.note))
+            self.maps[sequence.map] = None
+            return answered(line, sequence, above)
         constant, named = (partial(of, lines, line) for of in (constant_in, map_in))
         answer = (SENT_BACK, TO_ITS_DEVICE) if line in self.sent_back else self.absent.answer(number, constant, named)
         if answer is not None:
             self.notes.append((line.origin, answer[1]))
             return put_all(line, [(MOV_CONSTANT, 0, 0, 0, answer[0])])
+        if number == REDIRECT and DEVICES in self.absent.left_out:
+            self.notes.append((line.origin, "bpf_redirect drops the packet, as in Linux if there is no such device"))
+            return redirected(line)
         if number == REDIRECT_MAP and DEVICES in self.absent.left_out:
             self.notes.append((line.origin, "bpf_redirect_map gives the action in its flags, as in Linux while the map is empty"))
             return action_in_flags(line)
         if number in (PRINTK, VPRINTK) and PRINTS in self.absent.left_out:
             self.notes.append((line.origin, "what it prints is left out, and the answer is 0"))
             return put_all(line, [(MOV_CONSTANT, 0)])
+        if number == CHECK_MTU and self.mtu is not None:
+            self.notes.append((line.origin, OF_ITS_DEVICE.format(self.mtu)))
+            return compared_with_mtu(line, self.mtu)
         if number == BUFF_LEN:
             return put_all(line, [(LOAD_WORD, 0, 1, END_FIELD), (LOAD_WORD, 1, 1, START_FIELD), (SUB, 0, 1)])
         if number in (LOAD_BYTES, STORE_BYTES):
@@ -144,7 +220,9 @@ class Calls:
         if number == UPDATE and map_in(lines, line, 1) in self.arrays and constant_in(lines, line, 4) in (ANY, THERE):
             return updated(line, self.arrays[map_in(lines, line, 1)], above)
         if number == CSUM_DIFF:
-            return summed(line, *(constant_in(lines, line, register) for register in (2, 4)))
+            sizes = constant(2), constant(4)
+            self.notes += [(line.origin, OF_ODD_SIZES)] if None in sizes else []
+            return summed_of(line, *sizes)
         return [line]
 
 
@@ -153,31 +231,6 @@ def put_all(line: Line, rows: list[tuple]) -> list[Line]:
     first, *rest = rows
     line.put(*first)
     return [line, *(Line(packed(*fields), line.origin) for fields in rest)]
-
-
-def set_in(lines: list[Line], line: Line, register: int) -> Optional[Line]:
-    """The line that surely gave a register what it has at a line, of those in front of it; None if there is none."""
-    targets = {row.target for row in lines}
-    for row in reversed(lines[: lines.index(line) + 1]):
-        if row is not line and row.opcode in (JUMP, FAR_JUMP):
-            return None
-        if row is not line and writes(row, register):
-            return row
-        if row in targets:
-            return None
-    return None
-
-
-def constant_in(lines: list[Line], line: Line, register: int) -> Optional[int]:
-    """The constant that a register has at a line, from the lines in front of it; None if they don't give it one."""
-    row = set_in(lines, line, register)
-    return row.immediate if row is not None and row.opcode == MOV_CONSTANT else None
-
-
-def map_in(lines: list[Line], line: Line, register: int) -> Optional[str]:
-    """The map whose address a register has at a line; None if the lines in front of it don't say."""
-    row = set_in(lines, line, register)
-    return row.row.name if row is not None and row.opcode == WIDE and row.row is not None else None
 
 
 def copied(line: Line, size: Optional[int], is_store: bool) -> list[Line]:
@@ -206,18 +259,84 @@ def copied(line: Line, size: Optional[int], is_store: bool) -> list[Line]:
     return out
 
 
+def compared_with_mtu(line: Line, mtu: int) -> list[Line]:
+    """bpf_check_mtu: (context, device, address of a length of 32 bits, what is added to it, flags). A length of 0 is the packet's,
+    another one has no link header. The MTU is left in its place."""
+    rows = [
+        (MOV_CONSTANT, 0, 0, 0, NO_FLAGS),
+        (IF_NOT_CONSTANT, 5),
+        (MOV_32, 2, 2),
+        (IF_EQUAL_CONSTANT, 2),
+        (LOAD_WORD, 0, 1, DEVICE_FIELD),
+        (IF_EQUAL, 2, 0),
+        (MOV_CONSTANT, 0, 0, 0, NO_DEVICE),
+        (JUMP,),
+        (LOAD_WORD, 2, 3),  # of its own device
+        (IF_NOT_CONSTANT, 2),
+        (LOAD_WORD, 2, 1, END_FIELD),
+        (LOAD_WORD, 0, 1, START_FIELD),
+        (SUB, 2, 0),
+        (JUMP,),
+        (ADD_CONSTANT, 2, 0, 0, HEADER_BYTES),  # of a length that was given
+        (ADD, 2, 4),
+        (LSH_CONSTANT, 2, 0, 0, 32),
+        (ARSH_CONSTANT, 2, 0, 0, 32),
+        (MOV_CONSTANT, 0, 0, 0, mtu),
+        (STORE_WORD, 3, 0),
+        (MOV_CONSTANT,),
+        (IF_AT_MOST_SIGNED, 2, 0, 0, mtu + HEADER_BYTES),
+        (MOV_CONSTANT, 0, 0, 0, TOO_LARGE),
+        (JUMP,),
+    ]
+    out = put_all(line, rows)
+    for at, to in (1, -1), (3, 8), (5, 8), (7, -1), (9, 14), (13, 15), (21, -1):
+        out[at].target = out[to]
+    return out
+
+
+def summed_of(line: Line, first: Optional[int], second: Optional[int]) -> list[Line]:
+    """bpf_csum_diff of constant sizes, or of one side alone that a register bounds."""
+    if (first, second) == (0, None):
+        return summed_in_loop(line, 3, 4, False)
+    if (first, second) == (None, 0):
+        return summed_in_loop(line, 1, 2, True)
+    return summed(line, first, second)
+
+
+def summed_in_loop(line: Line, address: int, size: int, is_taken_off: bool) -> list[Line]:
+    """bpf_csum_diff of as many bytes as a register says, a multiple of four, at an address in another one: a loop, of which what bounds
+    the size bounds the steps."""
+    at, word = 5, 2 if size == 4 else 4
+    begin = [(MOV_32, 0, 5), *(TURNED if is_taken_off else [])]
+    begin += [(MOV_64, at, size), (AND_CONSTANT, at, 0, 0, WORD - 1), (IF_NOT_CONSTANT, at), (MOV_CONSTANT, at)]
+    loop = [(IF_AT_LEAST, at, size), (LOAD_WORD, word, address), (ADD, 0, word), (ADD_CONSTANT, address, 0, 0, WORD)]
+    loop += [(ADD_CONSTANT, at, 0, 0, WORD), (JUMP,)]
+    end = [*(TAKEN_OFF if is_taken_off else []), *TO_16_BITS, (JUMP,)]
+    out = put_all(line, [*begin, *loop, *end, (MOV_CONSTANT, 0, 0, 0, TOO_LONG), (JUMP,)])
+    first, behind = len(begin), len(begin) + len(loop)
+    targets = (first - 2, -2), (first, behind), (behind - 1, first), (behind + len(end) - 1, -1)
+    for source, target in targets:
+        out[source].target = out[target]
+    return out
+
+
 def summed(line: Line, first: Optional[int], second: Optional[int]) -> list[Line]:
-    """bpf_csum_diff: (from, its size, to, its size, a sum to begin with). The sum has 32 bits."""
-    if None in (first, second) or first % 4 or second % 4 or not 0 <= first + second <= MOST_SUMMED or min(first, second) < 0:
-        raise Fault(f"calls bpf_csum_diff of sizes that aren't constant multiples of four, at most {MOST_SUMMED} in all: use constants")
-    rows = [(MOV_32, 0, 5)]
-    for at in range(0, second, 4):
-        rows += [(LOAD_WORD, 2, 3, at), (ADD, 0, 2)]
-    for at in range(0, first, 4):
-        rows += [(LOAD_WORD, 2, 1, at), (XOR_CONSTANT, 2, 0, 0, -1), (MOV_32, 2, 2), (ADD, 0, 2)]
-    for _ in range(2):  # what is carried out of 32 bits is added to them
-        rows += [(MOV_64, 2, 0), (RSH_CONSTANT, 2, 0, 0, 32), (MOV_32, 0, 0), (ADD, 0, 2)]
-    return put_all(line, rows)
+    """bpf_csum_diff: (from, its size, to, its size, a sum to begin with), as Linux does it from 6.13 on: it is folded to 16 bits. What is
+    taken off alone is so from the whole, and else turned over and added."""
+    if None in (first, second) or first % WORD or second % WORD or not 0 <= first + second <= MOST_SUMMED or min(first, second) < 0:
+        raise Fault(
+            f"calls bpf_csum_diff of sizes that aren't constant multiples of four, at most {MOST_SUMMED} in all: use constants, or one"
+            " size that is bounded, and 0 for the other one"
+        )
+    rows = [(MOV_CONSTANT, 0)] if first and second else [(MOV_32, 0, 5), *(TURNED if first else [])]
+    rows += added_words(1, first) + (TAKEN_OFF if first else [])
+    rows += [(MOV_32, 5, 5), (ADD, 0, 5)] if first and second else []
+    return put_all(line, [*rows, *added_words(3, second), *TO_16_BITS])
+
+
+def added_words(address: int, size: int) -> list[tuple]:
+    """What adds the words at an address to a sum."""
+    return [row for at in range(0, size, WORD) for row in ((LOAD_WORD, 2, address, at), (ADD, 0, 2))]
 
 
 def updated(line: Line, parts: list[tuple[int, int]], above: int) -> list[Line]:
@@ -236,6 +355,13 @@ def updated(line: Line, parts: list[tuple[int, int]], above: int) -> list[Line]:
     return out
 
 
+def redirected(line: Line) -> list[Line]:
+    """bpf_redirect: (device, flags), to a device that there isn't, with flags that are no constant."""
+    out = put_all(line, [(MOV_CONSTANT, 0, 0, 0, ABORTED), (IF_NOT_CONSTANT, 2), (MOV_CONSTANT, 0, 0, 0, DROPPED), (JUMP,)])
+    out[1].target = out[-1]
+    return out
+
+
 def action_in_flags(line: Line) -> list[Line]:
     """bpf_redirect_map: (the flags that the map knows, key, flags), while there is nothing in the map."""
     rows = [(MOV_CONSTANT, 0, 0, 0, ABORTED), (XOR_CONSTANT, 1, 0, 0, -1), (AND, 1, 3), (IF_NOT_CONSTANT, 1)]
@@ -244,56 +370,6 @@ def action_in_flags(line: Line) -> list[Line]:
     for row in out[3], out[7]:
         row.target = out[-1]
     return out
-
-
-# --- frames
-
-
-def frame_of(lines: list[Line]) -> int:
-    """How many bytes of its stack a function names, in whole eights."""
-    lowest = 0
-    for at, line in enumerate(lines):
-        kind = line.opcode & 7
-        if kind in (2, 3) and line.destination == FRAME or kind == 1 and line.source == FRAME:
-            lowest = min(lowest, line.offset)
-        if line.opcode == MOV_64 and line.source == FRAME:
-            lowest = min(lowest, added_to(lines[at + 1 :], line.destination))
-    return -lowest + 7 & -8
-
-
-def added_to(lines: list[Line], register: int) -> int:
-    """The first constant that is added to a register in these lines, up to where it is written otherwise."""
-    for line in lines:
-        if line.opcode == ADD_CONSTANT and line.destination == register:
-            return line.immediate
-        if writes(line, register):
-            break
-    return 0
-
-
-def frame_of_moved(lines: list[Line], above: int) -> int:
-    """The same of a function that was moved below this much of the stack, and of what it calls."""
-    return max(0, frame_of(lines) - above)
-
-
-def move_frame(lines: list[Line], above: int) -> None:
-    """Moves what a function has on its stack below its caller's."""
-    for line in lines:
-        kind = line.opcode & 7
-        is_access = kind in (2, 3) and line.destination == FRAME or kind == 1 and line.source == FRAME
-        if is_access:
-            line.raw = line.raw[:2] + struct.pack("<h", line.offset - above) + line.raw[4:]
-        elif kind in (4, 7) and line.opcode & 8 and line.source == FRAME and line.opcode != MOV_64:
-            raise Fault("calls a function that computes with the frame's address")
-    for at in reversed(range(len(lines))):
-        line = lines[at]
-        if line.opcode == MOV_64 and line.source == FRAME:
-            following = lines[at + 1] if at + 1 < len(lines) else None
-            joined = following is not None and following.opcode == ADD_CONSTANT and following.destination == line.destination
-            if joined and following not in {row.target for row in lines}:
-                following.raw = packed(ADD_CONSTANT, line.destination, 0, 0, following.immediate - above)
-            else:
-                lines.insert(at + 1, Line(packed(ADD_CONSTANT, line.destination, 0, 0, -above), line.origin))
 
 
 def has_calls(code: bytes) -> Iterator[int]:

@@ -28,6 +28,8 @@ MEMCMP = "#define memcmp inlined_memcmp\n"
 # what clang isn't to do: compare distances where C compares addresses, and store once through one of two addresses
 # where C stores twice. Other versions may not know these words
 KEPT_AS_IN_C = ["-indvars-predicate-loops=false", "-sink-common-insts=false"]
+# of what clang says of stacks, a line for each function: where it stands, its name, and how many bytes it uses
+FRAME = re.compile(r":(?P<name>[^:\t\n]+)\t(?P<bytes>[0-9]+)\t", re.M)
 UNKNOWN_WORD = re.compile(rb"Unknown command line argument '([^']+)'")
 
 
@@ -96,10 +98,15 @@ class Compiler:
     def compiled(self) -> bytes:
         """The bytes of the object file that clang makes. What clang says goes to standard error."""
         target = os.path.join(self.folder, "program.o")
-        if compile_with([self.clang, *self.target(), *self.words, "-c", "-o", target]) or not os.path.exists(target):
+        if compile_with([self.clang, *self.target(), *self.words, "-fstack-usage", "-c", "-o", target]) or not os.path.exists(target):
             fail(f"{self.source}: {self.clang} made no program of it")
         with open(target, "rb") as file:
             return file.read()
+
+    def frames(self) -> dict[str, int]:
+        """How many bytes of the stack each function of the object uses, by its symbol's name."""
+        with open(os.path.join(self.folder, "program.su"), encoding="utf-8", errors="backslashreplace") as file:
+            return {row["name"]: int(row["bytes"]) for row in FRAME.finditer(file.read())}
 
     def declared(self) -> dict[str, int]:
         """Where each variable is declared among the others of the file, by the name that its symbol has."""

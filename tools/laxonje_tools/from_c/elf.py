@@ -118,6 +118,7 @@ def relocations_of(sections: dict[str, Part], function: Function) -> Iterator[Re
     symbols, names = symbols_of(sections), {part.number: name for name, part in sections.items()}
     objects = {(symbol.section, symbol.place): symbol.name for symbol in symbols if symbol.kind == OBJECT}
     maps = sections[".maps"].number if ".maps" in sections else None
+    code = {names.get(symbol.section) for symbol in symbols if symbol.kind == FUNCTION}
     rows = sections[".rel" + function.section].data if ".rel" + function.section in sections else b""
     for at, info in struct.iter_unpack("<QQ", rows):
         at -= function.place
@@ -134,5 +135,7 @@ def relocations_of(sections: dict[str, Part], function: Function) -> Iterator[Re
             yield Relocation(slot, kind, name, constant, section, place)
         elif kind == FUNCTION_CALL:
             yield Relocation(slot, kind, symbol.name, constant, section, symbol.place)
+        elif kind == MAP_ADDRESS and section in code:
+            yield Relocation(slot, kind, symbol.name, constant, section, symbol.place + constant)
         else:
             yield Relocation(slot, kind, symbol.name, constant)

@@ -4,7 +4,7 @@ from __future__ import annotations
 import struct
 from typing import TYPE_CHECKING, Iterator, Optional
 
-from .elf import FUNCTION_CALL, MAP_ADDRESS
+from .elf import FUNCTION_CALL, MAP_ADDRESS, MEMORY
 from .lists import EXACT, LENGTH_BYTES, PREFIX, kind_of
 
 if TYPE_CHECKING:
@@ -67,7 +67,10 @@ MAP_TYPES = {
     33: ("ARENA", NO_STATE),
 }
 NO_UPDATE = "a value is changed by adding to its counters alone: __sync_fetch_and_add(value, n), or `*value += n`"
-NO_CLOCK = "there is no clock: count here, and judge rates in the host, which reads the counters"
+NO_CLOCK = (
+    "there is no clock: count here, and judge rates in the host, which reads the counters; or --clock N answers with a"
+    " time that goes on by N nanoseconds at each call"
+)
 NO_PRINTS = "nothing is printed: --without-prints leaves it out, or count it in a map instead"
 NO_RESIZE = "a packet keeps its length: pass it on as it is, or write over its bytes"
 NO_KERNEL = "there is no kernel to ask"
@@ -79,7 +82,6 @@ HELPERS = {
     4: ("bpf_probe_read", NO_KERNEL),
     5: ("bpf_ktime_get_ns", NO_CLOCK),
     6: ("bpf_trace_printk", NO_PRINTS),
-    7: ("bpf_get_prandom_u32", "there are no random numbers: choose by bits of the packet, as of its IPv4 id"),
     12: ("bpf_tail_call", NO_TAIL_CALLS),
     23: ("bpf_redirect", NO_REDIRECT),
     25: ("bpf_perf_event_output", NO_EVENTS),
@@ -108,10 +110,9 @@ HELPERS = {
     132: ("bpf_ringbuf_submit", NO_EVENTS),
     133: ("bpf_ringbuf_discard", NO_EVENTS),
     160: ("bpf_ktime_get_coarse_ns", NO_CLOCK),
-    163: ("bpf_check_mtu", "there is no device to ask: compare the length, data_end - data, with a number of your own"),
+    163: ("bpf_check_mtu", "there is no device to ask: --mtu N answers for the packet's own device with this MTU; or compare data_end - data with a number"),
     164: ("bpf_for_each_map_elem", "count the loop by a constant, in C"),
     177: ("bpf_trace_vprintk", NO_PRINTS),
-    181: ("bpf_loop", "write the loop in C, with a constant bound"),
     195: ("bpf_map_lookup_percpu_elem", "bpf_map_lookup_elem: the counters are shared by all queues"),
     208: ("bpf_ktime_get_tai_ns", NO_CLOCK),
 }
@@ -223,6 +224,8 @@ def fault_of_relocation(row: Relocation, called: Optional[str], maps: list[str])
         return fault_of_call(row.name or "a function of the file")
     if row.kind != MAP_ADDRESS:
         return f"has a relocation of kind {row.kind}, which is none of a map"
+    if row.section and not row.section.startswith(MEMORY):
+        return "takes the address of a function, which no call is known to use"
     if row.section:
         return f"takes the address of a global or a constant: mend the call of {called} first" if called else None
     if not row.name:

@@ -12,7 +12,8 @@ if TYPE_CHECKING:
 
 CALL, EXIT, JUMP, FAR_JUMP, WIDE = 0x85, 0x95, 0x05, 0x06, 0x18
 SAVED = 6, 7, 8, 9  # registers that a function leaves as they were
-MOVE = 0xB  # of an arithmetic opcode's upper four bits
+STACK_BYTES = 512
+MOVE, MOV_CONSTANT, MOV_CONSTANT_32 = 0xB, 0xB7, 0xB4  # the first: of an arithmetic opcode's upper four bits
 
 
 class Fault(Exception):
@@ -23,14 +24,15 @@ class Fault(Exception):
 
 @dataclass(eq=False)
 class Line:
-    """An instruction: its slots' bytes, its relocation, where it jumps to, its slot in its function, and the slot of the
-    whole program's function that it is for."""
+    """An instruction: its slots' bytes, its relocation, where it jumps to, its slot in its function, the slot of the
+    whole program's function that it is for, and the end of its function's frame."""
 
     raw: bytes
     origin: int
     row: Optional[Relocation] = None
     target: Optional[Line] = None
     slot: int = 0
+    bottom: int = -STACK_BYTES
 
     @property
     def opcode(self) -> int:
@@ -92,6 +94,33 @@ def writes(line: Line, register: int) -> bool:
     return kind == 3 and line.opcode >> 5 == 6 and line.source == register
 
 
+def set_in(lines: list[Line], line: Line, register: int) -> Optional[Line]:
+    """The line that surely gave a register what it has at a line, of those in front of it; None if there is none."""
+    targets = {row.target for row in lines}
+    for row in reversed(lines[: lines.index(line) + 1]):
+        if row is not line and row.opcode in (JUMP, FAR_JUMP):
+            return None
+        if row is not line and writes(row, register):
+            return row
+        if row in targets:
+            return None
+    return None
+
+
+def constant_in(lines: list[Line], line: Line, register: int) -> Optional[int]:
+    """The constant that a register has at a line, from the lines in front of it; None if they don't give it one."""
+    row = set_in(lines, line, register)
+    if row is not None and row.opcode == MOV_CONSTANT_32:
+        return row.immediate % (1 << 32)
+    return row.immediate if row is not None and row.opcode == MOV_CONSTANT else None
+
+
+def map_in(lines: list[Line], line: Line, register: int) -> Optional[str]:
+    """The map whose address a register has at a line; None if the lines in front of it don't say."""
+    row = set_in(lines, line, register)
+    return row.row.name if row is not None and row.opcode == WIDE and row.row is not None else None
+
+
 def reads(line: Line, register: int) -> bool:
     """Whether a line may read a register that functions leave as it was."""
     kind, by_register = line.opcode & 7, line.opcode & 8
@@ -105,7 +134,8 @@ def following_in(lines: list[Line]) -> dict[Line, list[Line]]:
     """Of each line those that may come next."""
     following = {line: [line.target] if line.target else [] for line in lines}
     for line, after in zip(lines, lines[1:]):
-        if line.opcode not in (EXIT, JUMP, FAR_JUMP):
+        leads_on = line.opcode == JUMP and line.target is None  # to the next line
+        if leads_on or line.opcode not in (EXIT, JUMP, FAR_JUMP):
             following[line].append(after)
     return following
 

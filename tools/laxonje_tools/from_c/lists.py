@@ -41,6 +41,8 @@ def key_of(word: str) -> Key:
         return Key(bytes.fromhex(word.replace(":", "")))
     if BYTES.fullmatch(word):
         return Key(bytes.fromhex(word[2:]))
+    if "%" in word:
+        raise Fault(f"{word} names a link, which is no part of an address")
     try:
         if "/" not in word:
             return Key(ipaddress.ip_address(word).packed)
@@ -55,7 +57,7 @@ def key_of(word: str) -> Key:
 def keys_in(text: str) -> list[Key]:
     """The keys of a file's lines."""
     lines = {}
-    for number, line in enumerate(text.splitlines(), 1):
+    for number, line in enumerate(text.split("\n"), 1):
         word = line.split("#")[0].strip()
         if word:
             try:

@@ -9,10 +9,10 @@ from .lines import CALL, following_in, reads, writes
 if TYPE_CHECKING:
     from .lines import Line
 
-CONTEXT, DEVICE, FLAGS = "context", "device", "no flags"  # what registers surely hold: of the third the number 0
-MOV_64, MOV_CONSTANT, LOAD_WORD = 0xBF, 0xB7, 0x61
+CONTEXT, DEVICE, ZERO = "context", "device", "0"  # what registers surely hold
+MOV_64, MOV_CONSTANTS, LOAD_WORD = 0xBF, (0xB7, 0xB4), 0x61
 DEVICE_FIELD, ANSWER = 12, 0  # of the context, and the register of a call's answer
-WANTED = {1: DEVICE, 2: FLAGS}  # by a redirect's arguments
+WANTED = {1: DEVICE, 2: ZERO}  # by a redirect's arguments
 Held = dict[int, str]  # by register
 
 
@@ -47,8 +47,8 @@ def held_behind(line: Line, held: Held) -> Held:
         behind[line.destination] = what
     elif line.opcode == LOAD_WORD and what == CONTEXT and line.offset == DEVICE_FIELD:
         behind[line.destination] = DEVICE
-    elif line.opcode == MOV_CONSTANT and line.immediate == 0:
-        behind[line.destination] = FLAGS
+    elif line.opcode in MOV_CONSTANTS and line.immediate == 0:
+        behind[line.destination] = ZERO
     return behind
 
 

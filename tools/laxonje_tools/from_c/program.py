@@ -10,12 +10,17 @@ from laxonje_tools.output import fail, stop_on
 from . import btf, constants, elf, faults
 from .absent import Absent, kinds_of
 from .calls import Calls, Fault, Replaced, has_calls
+from .changed import stored_to
 from .compiler import Compiler
+from .frames import stack_of
 from .maps import SizedMap, maps_of, settings_of
-from .memory import faults_of_memory, memory_of
+from .memory import COUNTER_BYTES, faults_of_memory, memory_of
 from .values import SIZES, Constant, set_values, values_of
+from .zeros import with_additions
 
 if TYPE_CHECKING:
+    from collections.abc import Mapping
+
     from .elf import Function, Part, Relocation
 
 SECTION_NAME = "xdp"
@@ -56,8 +61,9 @@ class Filter(NamedTuple):
 
 class Asked(NamedTuple):
     """What a command asks for: a file, maps whose sizes it gives, which function, if the file has several, numbers of
-    constants, as (name, number), what is left out, in the words of `absent`, entries of declared maps, as (name, number), and
-    files with the rows of maps, and with what their counters begin with, as (name, path)."""
+    constants, as (name, number), what is left out, in the words of `absent`, entries of declared maps, as (name, number),
+    files with the rows of maps, and with what their counters begin with, as (name, path), the MTU of the packets' device, and the
+    nanoseconds between two calls for the time."""
 
     source: str
     maps: Iterable[SizedMap] = ()
@@ -67,6 +73,8 @@ class Asked(NamedTuple):
     entries: Iterable[tuple[str, int]] = ()
     lists: Iterable[tuple[str, str]] = ()
     beginnings: Iterable[tuple[str, str]] = ()
+    mtu: Optional[int] = None
+    clock: Optional[int] = None
 
 
 def read(asked: Asked) -> Filter:
@@ -115,38 +123,46 @@ def filter_of(asked: Asked, sections: dict[str, Part], compiler: Optional[Compil
     source, function = asked.source, chosen(asked, sections)
     stop_on(f"{source}: {fault}" for fault in set_values(sections, asked.values))
     place = place_in_c(btf.lines_of(sections, function, source))
-    made = without_calls(asked, sections, function, place)
+    frames = None if compiler is None else compiler.frames()
+    made = without_calls(asked, sections, function, frames, place)
     notes = [f"{place(slot) or f'slot {slot}'}: {note}" for slot, note in made.notes]
     place, relocations = (lambda slot, before=place: before(made.origins[slot])), made.relocations
-    memory = memory_of(sections, relocations)
+    memory = memory_of(sections, relocations, stored_to(made.code, relocations))
     named = {row.name for row in relocations}
-    maps, declared = maps_of(asked, sections, memory.maps, named, compiler)
+    added = [(name, 1, 1) for name in made.maps]
+    maps, declared = maps_of(asked, sections, [*memory.maps, *added], named, compiler)
+    maps = [row if row.values else row._replace(values=memory.beginnings.get(row.name, ())) for row in maps]
     rows = [
         *faults.faults_of_program(made.code, relocations, [row.name for row in maps]),
         *faults_of_memory(sections, relocations),
     ]
     stop_on(f"{place(slot) or f'{source}: slot {slot}'} {fault}" for slot, fault in sorted(rows))
     relocations = [row for row in relocations if not row.section]
-    code = cleared(made.code, relocations)
+    code = cleared(with_additions(made.code, relocations), relocations)
     settings = {
         "program": [code[at : at + 8].hex() for at in range(0, len(code), 8)],
         **settings_of(maps),
         "reloc": [{"slot": row.slot, "map": row.name} for row in relocations],
         **memory.settings(),
         "numbers": numbers_of(sections, declared, memory.maps),
+        "stack": made.stack,
     }
     per_cpu = {row.name for row in declared if row.type in faults.PER_CPU}
     narrow = {row.name for row in declared if row.has_parts}
-    return Filter(settings, place, per_cpu, narrow, notes, values_of(sections))
+    kept = [row for row in values_of(sections) if row.name not in memory.beginnings]
+    return Filter(settings, place, per_cpu, narrow, notes, kept)
 
 
-def without_calls(asked: Asked, sections: dict[str, Part], function: Function, place: Callable) -> Replaced:
-    """The function with what it calls written out. Ends if that can't be."""
+def without_calls(
+    asked: Asked, sections: dict[str, Part], function: Function, frames: Optional[Mapping[str, int]], place: Callable
+) -> Replaced:
+    """The function with what it calls written out. Ends if that can't be. `frames`: of functions how much of the stack each uses."""
     relocations, found = list(elf.relocations_of(sections, function)), Absent(asked.left_out, kinds_of(btf.maps_in(sections)))
-    if not any(has_calls(function.code)) and not any(found.has(row.name) for row in relocations):
-        return Replaced(function.code, relocations, range(len(function.code) // 8), [])
+    if next(has_calls(function.code), None) is None and not any(found.has(row.name) for row in relocations):
+        return Replaced(function.code, relocations, range(len(function.code) // 8), [], [], stack_of(function.code, function.name, frames))
     arrays = {row.name: parts_of_value(row) for row in btf.maps_in(sections) if row.type in faults.ARRAYS}
-    calls = Calls(list(elf.functions_of(sections)), lambda of: elf.relocations_of(sections, of), found, arrays)
+    functions = list(elf.functions_of(sections))
+    calls = Calls(functions, lambda of: elf.relocations_of(sections, of), found, arrays, frames, asked.mtu, asked.clock)
     try:
         return calls.replaced(function)
     except Fault as fault:
@@ -189,8 +205,14 @@ def numbers_of(sections: dict[str, Part], declared: Iterable[btf.MapOfC], of_glo
     found = {row.name: row.numbers for row in declared}
     if ".BTF" in sections:
         types = btf.Types(sections[".BTF"].data)
-        found.update((name, types.numbers_of(name)) for name, _, _ in of_globals)
+        rows = ((name, types.numbers_of(name), counters) for name, _, counters in of_globals)
+        found.update((name, numbers) for name, numbers, counters in rows if counters_of(numbers) == counters)  # not of a part of one
     return {name: [number._asdict() for number in rows] for name, rows in found.items()}
+
+
+def counters_of(numbers: Iterable[btf.Number]) -> int:
+    """How many counters numbers take up as they lie in a value."""
+    return -(-max((row.place + row.size for row in numbers), default=0) // COUNTER_BYTES)
 
 
 def cleared(program: bytes, relocations: list[Relocation]) -> bytes:

@@ -87,9 +87,11 @@ class Check(Memory):
         first = ZERO if operation == MOV else registers[slot.destination]
         if slot.destination == FRAME:
             raise Differs("r10 is written")
+        least, most = self.forms.span(first, state.facts.ranges)
+        if least == most and operation in (RSH, AND):  # of a sum of which one number alone is left
+            first = number(least)
         result = self.forms.operate(slot, first, second, state.facts.ranges)
         registers[slot.destination] = result
-        least, most = self.forms.span(first, state.facts.ranges)
         if slot.opcode & 7 == ALU64 and not second.terms and result.terms and 0 <= least and most <= MASK_64:
             if operation == RSH:
                 state.facts = compared(self.forms, JLE, result, most >> (second.constant & 63), state.facts)

@@ -3,12 +3,13 @@ from __future__ import annotations
 
 from typing import Callable, NamedTuple, Optional
 
-from .forms import MASK_64, Form, Forms, Range, narrower, number, signed
+from .forms import MASK_32, MASK_64, Form, Forms, Range, narrower, number, signed
 
-JMP = 5
+JMP, JMP32 = 5, 6
 JEQ, JGT, JGE, JSET, JNE, JSGT, JSGE = range(0x10, 0x80, 0x10)
 JLT, JLE, JSLT, JSLE = range(0xA0, 0xE0, 0x10)
 OTHERWISE = {JEQ: JNE, JNE: JEQ, JGT: JLE, JLE: JGT, JGE: JLT, JLT: JGE, JSGT: JSLE, JSLE: JSGT, JSGE: JSLT, JSLT: JSGE}
+WITHOUT_SIGN = {JSGT: JGT, JSGE: JGE, JSLT: JLT, JSLE: JLE}
 TURNED = {JEQ: JEQ, JNE: JNE, JGT: JLT, JLT: JGT, JGE: JLE, JLE: JGE}
 MOST_LENGTH, NEAR, MOST_APART = 65535, 1 << 62, 12
 APART = 1 << 28  # from 0 to the packet's start, and from there to the stack
@@ -69,8 +70,16 @@ def in_range(operation: int, low: int, high: int, value: int) -> Optional[bool]:
 
 def decided(forms: Forms, opcode: int, a: Form, b: Form, facts: Facts) -> Optional[bool]:
     """Whether a jump is taken, if forms and facts say so."""
+    opcode = of_64_bits(forms, opcode, a, b, facts)
     taken = decided_by(forms, opcode, a, b, facts, forms.span)
     return decided_by(forms, opcode, a, b, facts, forms.sharper_span) if taken is None else taken
+
+
+def of_64_bits(forms: Forms, opcode: int, a: Form, b: Form, facts: Facts) -> int:
+    """The jump that compares all bits, in the place of one that compares 32 bits of numbers which have no more."""
+    most = MASK_32 >> 1 if opcode & 0xF0 in WITHOUT_SIGN else MASK_32
+    spans = [forms.span(form, facts.ranges) for form in (a, b)] if opcode & 7 == JMP32 else [(-1, 0)]
+    return opcode & ~7 | JMP if all(0 <= low and high <= most for low, high in spans) else opcode
 
 
 def decided_by(forms: Forms, opcode: int, a: Form, b: Form, facts: Facts, span: Span) -> Optional[bool]:
@@ -83,6 +92,9 @@ def decided_by(forms: Forms, opcode: int, a: Form, b: Form, facts: Facts, span: 
     if forms.end in (a, b) and operation in TURNED:
         address, operation = (a, operation) if b == forms.end else (b, TURNED[operation])
         return beside_end(forms, operation, address, facts, span)
+    if not b.terms and operation in WITHOUT_SIGN:
+        low, high = span(a, facts.ranges)
+        return in_range(WITHOUT_SIGN[operation], low, high, signed(b.constant)) if -(1 << 63) <= low and high < 1 << 63 else None
     if not b.terms:
         low, high = span(a, facts.ranges)
         return in_range(operation, low, high, b.constant) if 0 <= low and high <= MASK_64 else None
@@ -131,7 +143,7 @@ def room_after(forms: Forms, address: Form, facts: Facts, span: Optional[Span] =
 
 def learnt(forms: Forms, opcode: int, taken: int, a: Form, b: Form, facts: Facts) -> Facts:
     """The facts after a jump that was taken or not."""
-    operation = opcode & 0xF0
+    operation, opcode = opcode & 0xF0, of_64_bits(forms, opcode, a, b, facts)
     if opcode & 7 != JMP or operation not in OTHERWISE:
         return facts
     holds = operation if taken else OTHERWISE[operation]

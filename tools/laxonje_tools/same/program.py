@@ -47,7 +47,7 @@ class Shape(NamedTuple):
 
 
 INDEX_BYTES, LENGTH_BYTES = 4, 4  # of an array's key, and of a prefix's length in front of its data
-OF_THE_TOOLS = "constants", "tables", "globals", "numbers"  # keys of their own in settings: what C had in memory
+OF_THE_TOOLS = "constants", "tables", "globals", "numbers", "begin", "stack"  # keys of their own in settings: what C had in memory
 OF_THE_PROGRAM = "program", "reloc", *OF_THE_TOOLS
 
 

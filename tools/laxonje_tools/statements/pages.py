@@ -196,7 +196,8 @@ def premises_page(tree: Tree, it: Statement, page: pathlib.PurePath) -> Iterator
     """What only the invariants of the types rest on, by file."""
     yield "## What the invariants rest on"
     yield ""
-    yield "The contracts hold of values that meet the invariants of their types (`ghost`), which whoever makes one proves. Their words rest on"
+    yield "The contracts hold of values that meet the invariants of their types (`ghost`), which whoever makes one proves, and of whatever meets"
+    yield "the contracts of a trait. Their words rest on"
     yield f"{counts_of(tree, it.premises)} more; `tools/statement` prints all of it."
     yield ""
     yield from named_groups(it.premises, page)
@@ -242,17 +243,7 @@ def theorem_page(tree: Tree, theorem: Theorem) -> str:
             continue
         file, _ = place(tree, node)
         lines.append(f"- {link(file, THEOREM, f'`{node.name}`')}: {theorem.known[node.name]} ({size_below(tree, node)}).")
-    lines += invariants_known(tree, it)
     return "\n".join(lines).rstrip("\n") + "\n"
-
-
-def invariants_known(tree: Tree, it: Statement) -> Iterator[str]:
-    """The words of the types' invariants, each with how much is below it."""
-    nodes = [node for group in it.groups for node in group.nodes if node.kind == "type"]
-    words = dict.fromkeys((word, node.name) for node in nodes for word in tree.named_by_facts(node) if word.kind == "definition")
-    said = [f"{link(place(tree, word)[0], THEOREM, f'`{word.name}`')} of `{name}` ({size_below(tree, word)})" for word, name in words]
-    if said:
-        yield f"- In the invariants of types: {', '.join(said)}."
 
 
 def chapter_page(tree: Tree, chapter: Chapter, groups: list[Group]) -> Iterator[str]:
@@ -287,7 +278,7 @@ def size_below(tree: Tree, node: Node) -> str:
     """How many lines of definitions there are to read of a word that is taken as known."""
     found = [it for it in tree.closure([node]) if it.kind == "definition"]
     lines = sum(len(lines_of(tree, it)) for it in found)
-    return f"{lines} lines"
+    return str(lines)
 
 
 def pages(tree: Tree, claims: list[Claim], theorem: Theorem) -> dict[pathlib.PurePath, str]:

@@ -141,8 +141,12 @@ def statement(tree: Tree, parts: Iterable[Part], known: Iterable[str] = ()) -> S
     missing = known - {it.name for it in borders}
     if missing:
         raise Unknown(f"{sorted(missing)[0]} is taken as known, and isn't below the contracts")
+    named = tuple(borders)
+    twice = [it.name for it in named if [other.name for other in named if other.kind == it.kind].count(it.name) > 1]
+    if twice:
+        raise Unknown(f"{twice[0]} is taken as known, and is the name of two definitions")
     premises = tree.premises(order, below)
-    return Statement(parts, tuple(groups(tree, order, below)), tuple(borders), tuple(groups(tree, premises, below)))
+    return Statement(parts, tuple(groups(tree, order, below)), named, tuple(groups(tree, premises, below)))
 
 
 def place(tree: Tree, node: Node) -> tuple[str, int]:
@@ -193,6 +197,8 @@ def lines_of(tree: Tree, node: Node) -> list[str]:
         flat = " ".join([f"impl Model for {node.name} {{", *views, "}"])
         return [flat] if len(flat) <= WIDEST else [f"impl Model for {node.name} {{", *(f"    {it}" for it in views), "}"]
     it = tree.type_of(node)
+    if re.match(r"(?:pub(?:\([a-z]+\))? )?trait\b", it.text):
+        return trait_lines(it.text)
     facts = [f"    ghost {fact.name}: {{ {fact.text} }}," for fact in tree.facts_of(node)]
     lines = type_lines(without_ghosts(it.text))
     return lines if not facts else [*(lines[:-1] if len(lines) > 1 else [lines[0].removesuffix("}").rstrip() + ","]), *facts, "}"]
@@ -205,6 +211,22 @@ def without_ghosts(text: str) -> str:
         end = rattle.end_of(text, found.end())
         text = text[: found.start()] + text[text.find("\n", end) + 1 :]
     return re.sub(r"(?m)^\s*ghost [^\n]*\n", "", text)
+
+
+def trait_lines(text: str) -> list[str]:
+    """A trait with its ghost members and its methods' contracts, without documentation and the bodies that methods have."""
+    lines: list[str] = []
+    is_body = False
+    for line in text.splitlines():
+        if is_body:
+            is_body = line != "    }"
+        elif line == "    {" or (line.startswith("    fn ") and line.endswith(" {")):
+            is_body = True
+            head = lines.pop() if line == "    {" else line.removesuffix(" {")
+            lines.append(f"{head};")
+        elif line.strip() and not re.match(r"\s*(?:///|#\[)", line):
+            lines.append(line)
+    return lines
 
 
 def type_lines(text: str) -> list[str]:

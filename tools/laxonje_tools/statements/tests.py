@@ -4,7 +4,7 @@ import tempfile
 from collections.abc import Iterator
 
 from . import antt, claims, headlines, pages, proving
-from .statement import Unknown, counts, function, lines_of, outside, part, statement, type_lines
+from .statement import Unknown, counts, function, lines_of, outside, part, statement, trait_lines, type_lines
 from .tree import Node, Tree
 
 FILES = {
@@ -347,6 +347,11 @@ def contract_tests(tree: Tree) -> Iterator[tuple[str, bool]]:
     yield "no comment without its clause", "A remark" not in text
     thing = Node("type", "low", ("inner", "thing"), "Thing")
     yield "what only an invariant reaches", [it.name for it in tree.premises(tree.closure([thing]))] == ["other"]
+    bus = "pub trait Bus {\n    // How many.\n    ghost size: { Self → ℕ };\n\n    /// Reads.\n    fn read(&self) -> u32\n        ensures { a };\n\n"
+    bus += "    fn runs(&self)\n        ensures { b }\n    {\n        0\n    }\n    fn own(&self) {\n        1\n    }\n}"
+    seen = ["pub trait Bus {", "    // How many.", "    ghost size: { Self → ℕ };", "    fn read(&self) -> u32", "        ensures { a };"]
+    seen += ["    fn runs(&self)", "        ensures { b };", "    fn own(&self);", "}"]
+    yield "a trait, without bodies", trait_lines(bus) == seen
     yield "an invariant, on a line", any("ghost invariant = { λ t. other t.size };" in it for it in lines_of(tree, thing))
     loan = "(record { mir = named 1; lft = [] })"
     lent = f"ensures* after {{ sem 𝓛 (follows_so\n    (the_row {loan} {loan})\n    (the_row {loan})\n"

@@ -294,10 +294,13 @@ class Tree:
                 yield found
 
     def facts_of(self, node: Node) -> list[rattle.Clause]:
-        """What each value of a type meets: the invariant of its Model, or its ghost fields."""
+        """What each value of a type meets: the invariant of its Model, or its ghost fields; of a trait the contracts of its methods."""
         model = self.model_of(node)
         if model is not None:
             return [it for it in model.members if it.name == "invariant"]
+        if self.type_of(node).kind == "trait":
+            functions = self.crates[node.crate].sources[node.module].functions
+            return [clause for it in functions if it.owner == node.name and not it.trait for clause in it.clauses]
         return [rattle.Clause("ghost", name, text, 0, 0) for name, text in rattle.ghost_fields(self.type_of(node))]
 
     def named_by_facts(self, node: Node) -> list[Node]:

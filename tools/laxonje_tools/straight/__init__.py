@@ -2,7 +2,7 @@
 
 The verifier follows each slot with few notes: it takes no loop, and loses an address on which more than eight ways
 disagree. What clang makes of C as it is written for Linux has both. Here such a program is given other instructions
-with the same runs. Nothing is changed that the verifier doesn't ask for, and nothing here is trusted: the verifier
+with the same runs. Nothing is changed that the verifier doesn't ask for, and nothing here but `written_out` is trusted: the verifier
 judges the result, and `tools/same-program`, which shares no text with this package, shows that it is the same program.
 
     instructions  an instruction's fields, what it reads and writes, what it computes of constants
@@ -20,6 +20,8 @@ judges the result, and `tools/same-program`, which shares no text with this pack
     verifier      what `xdpbox explain` says of a program
     marks         what a search has found out
     search        from refusal to refusal until the verifier accepts
+    ways          the ways in which that is searched
+    written_out   a program with numbers of fewer than eight bytes, and keys outside of the stack, written out
     shown         how a result is shown to be the same
     printed       settings that are printed: read again, and asked of xdpbox
     command       what the two tools have in common: straightened, shown to be the same, or refused in words

@@ -73,10 +73,16 @@ def write_word_addition(emitter: Emitter, here: Copy, add: Instruction) -> None:
 
 
 def cut(emitter: Emitter, slot: int, register: int, access: Instruction, place: int = 0) -> None:
-    """The bytes of an access out of eight, with zeros or their sign above them."""
+    """The bytes of an access out of eight."""
+    for fields in cut_of(register, access, place):
+        emitter.put_own(slot, *fields)
+
+
+def cut_of(register: int, access: Instruction, place: int = 0) -> list[tuple]:
+    """What leaves the bytes of an access out of eight, with zeros or their sign above them."""
     above = 8 * (COUNTER_BYTES - access.size)
-    emitter.put_own(slot, LSH_CONSTANT, register, 0, 0, above - 8 * place)
-    emitter.put_own(slot, ARSH_CONSTANT if access.with_sign else RSH_CONSTANT, register, 0, 0, above)
+    down = ARSH_CONSTANT if access.with_sign else RSH_CONSTANT
+    return [(LSH_CONSTANT, register, 0, 0, above - 8 * place), (down, register, 0, 0, above)]
 
 
 def write_difference(emitter: Emitter, here: Copy, store: Instruction) -> None:

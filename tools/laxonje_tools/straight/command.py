@@ -5,22 +5,25 @@ from __future__ import annotations
 import os
 import pathlib
 import shutil
-from dataclasses import dataclass, field
+from dataclasses import dataclass, field, replace
 from typing import TYPE_CHECKING, Callable, Iterable, Iterator, NamedTuple, Optional
 
 from laxonje_tools.output import fail, in_one_line
 
 from .graph import INDEX, SIZE, Fail
-from .lowered import may_lower
-from .parts import check_values, places_of, with_counters
-from .search import OF_THE_BYTES, StillRefused, searches
-from .settings import as_text, without_rows
+from .lowered import is_computed, may_lower
+from .parts import COUNTER_BYTES, check_values, places_of, with_counters
+from .search import OF_THE_BYTES
+from .settings import as_text, instructions_of, without_rows
 from .shown import ALONE, BY_COUNTS, COMPARED, PROVED, NoComparison, Rewriting, question, shown
-from .verifier import Verdict, verdict
+from .verifier import StillRefused, Verdict, verdict
+from .ways import by_place, in_rows, searched_again, searches, without_counts
+from .written_out import written_out
 
 if TYPE_CHECKING:
     from .marks import Result
 
+WRITTEN_OUT = "compared with small numbers and keys written out"
 NOTHING_HELPS = "nothing is rewritten that helps"
 FUSED = (
     "a load, an addition and a store are one atomic addition: on a map that isn't per CPU, Linux would lose counts here"
@@ -69,7 +72,8 @@ ATOMIC, WORD_ADDED = ("c3", "db"), "00000000"  # opcodes, and the constant of an
 class Straight:
     """A program that is accepted and the same. `lines`: its map. `notes`: what its author should know. `how`: it was
     shown to be the same. `asked`: what `xdpbox same` was asked of it, or None. `moved`: by map the parts of values that
-    have a counter of their own."""
+    have a counter of their own. `written_out`: settings with the program written out, if it was compared with that; `lines` is
+    of them then."""
 
     words: list
     relocations: list
@@ -78,10 +82,12 @@ class Straight:
     how: str
     asked: Optional[str] = None
     moved: dict = field(default_factory=dict)
+    written_out: Optional[dict] = None
 
     def comment(self, settings: dict) -> str:
         """The lines that settings with this program have."""
         first = f"# straightened: {len(settings['program'])} slots -> {len(self.words)}, {self.how}\n"
+        first += f"# {WRITTEN_OUT}: {len(self.written_out['program'])} slots\n" if self.written_out else ""
         places = "".join(f"# {in_one_line(line)}\n" for line in places_of(settings, self.moved))
         return first + places.encode("ascii", "backslashreplace").decode()
 
@@ -133,11 +139,13 @@ def xdpbox_program() -> Optional[str]:
 
 class Wanted(NamedTuple):
     """`guard`: an access that nothing shows to lie in the packet may become a test that ends the program. `proved`:
-    what is compared alone isn't enough. `per_cpu`: whether a store's slot is to a per-CPU map."""
+    what is compared alone isn't enough. `per_cpu`: whether a store's slot is to a per-CPU map. `writes_out`: whether the program
+    may be written out before it is compared."""
 
     guard: bool = False
     proved: bool = False
     per_cpu: Callable = lambda slot: False
+    writes_out: bool = True
 
 
 def is_accepted(settings: dict, xdpbox: str) -> bool:
@@ -178,7 +186,9 @@ def straightened(settings: dict, xdpbox: str, wanted: Wanted = Wanted()) -> Opti
         answer = Verdict("")
     missing, faults, unguarded, slots = None, [], [], 0
     for result in searches(settings, xdpbox, faults, unguarded):
-        program, missing = taken(xdpbox, settings, result, wanted)
+        program, missing = taken_best(xdpbox, settings, result, wanted)
+        if missing is not None and missing.cause == INDEX:
+            program, missing = taken_by_place(xdpbox, settings, result, wanted, missing)
         if missing is None:
             return program
         if isinstance(missing, NoComparison):
@@ -190,6 +200,51 @@ def straightened(settings: dict, xdpbox: str, wanted: Wanted = Wanted()) -> Opti
     if isinstance(fault, StillRefused) and (fault.slot, fault.cause) == (answer.slot, answer.cause):
         fault = Fail(NOTHING_HELPS, answer.slot, answer.cause)
     raise Refused(answer, fault)
+
+
+def taken_by_place(
+    xdpbox: str, settings: dict, result: Result, wanted: Wanted, missing: Fail
+) -> tuple[Optional[Straight], Optional[Fail]]:
+    """The same of a result that something is missing to, since its indices may be others."""
+    other = by_place(settings, xdpbox, result)
+    return (None, missing) if other is None else taken(xdpbox, settings, other, wanted)
+
+
+def taken_best(xdpbox: str, settings: dict, result: Result, wanted: Wanted) -> tuple[Optional[Straight], Optional[Fail]]:
+    """A result that is shown to be the same, or what is missing to that; without its counts, or with numbers told apart in rows, if
+    it is proved so alone."""
+
+    def proved(other: Optional[Result]) -> Optional[Straight]:
+        return None if other is None else taken(xdpbox, settings, other, wanted._replace(proved=True))[0]
+
+    program = proved(without_counts(settings, xdpbox, result)) or taken_written_out(xdpbox, settings, result, wanted)
+    if program is not None:
+        return program, None
+    simple = taken(xdpbox, settings, result, wanted)
+    if simple[0] is not None and simple[0].how != COMPARED:
+        return simple
+    programs = (proved(other) for other in in_rows(settings, xdpbox, result))
+    program = next((program for program in programs if program is not None), None)
+    return simple if program is None else (program, None)
+
+
+def taken_written_out(xdpbox: str, settings: dict, result: Result, wanted: Wanted) -> Optional[Straight]:
+    """A result of the program written out that is proved to be the same as that; None if there is none. A number that is stored is
+    read first: so nothing is said of several queues then. A count isn't written out: what is added is the difference from what was
+    loaded, so that no count of another queue is lost."""
+    code = instructions_of(settings)
+    small = {slot: row for slot, row in result.differences.items() if code[slot].size < COUNTER_BYTES}
+    is_count = any(is_computed(code, slot, row) for slot, row in small.items())
+    other = written_out(settings, code, result) if wanted.writes_out and not is_count else None
+    if other is None or any(row.get("values") and result.moved.get(row["name"]) for row in settings["map"]):
+        return None
+    for found in searched_again(other.settings, xdpbox, result):
+        program, _ = taken(xdpbox, other.settings, found, wanted._replace(proved=True))
+        if program is None or found.moved:
+            continue
+        how, notes = ALONE if other.has_stores else program.how, list(notes_of(result, (), wanted.per_cpu))
+        return replace(program, how=how, notes=notes, moved=result.moved, written_out=other.settings)
+    return None
 
 
 def taken(xdpbox: str, settings: dict, result: Result, wanted: Wanted) -> tuple[Optional[Straight], Optional[Fail]]:

@@ -104,20 +104,19 @@ class Constants:
     def times(self, name: object) -> int:
         return dict(self.passed).get(name, 0)
 
-    def forgetting(self, names: AbstractSet) -> Constants:
-        """The same without the names that no longer matter."""
-        passed = tuple(row for row in self.passed if row[0] in names)
-        return Constants(self.registers, self.stack, self.values, passed)
-
-    def kept(self, wanted: AbstractSet[int], registers: Container[int], places: Optional[Container[int]]) -> Constants:
+    def kept(self, wanted: AbstractSet[int], registers: Container[int], places: Optional[Container[int]], names: Container) -> Constants:
         """Those of the wanted registers, of which numbers only of these, and those of the stack, numbers only in these
-        places, in all if they are None."""
-        kept = {r: v for r, v in self.registers.items() if r in wanted and (r in registers or not is_number(v))}
-        stack = {at: v for at, v in self.stack.items() if places is None or at in places or not is_number(v)}
-        return Constants(kept, stack, self.values, self.passed)
+        places, in all if they are None; and what was passed of these names."""
+        kept = {r: v for r, v in self.registers.items() if r in wanted and (r in registers or not isinstance(v, int))}
+        stack = self.stack
+        if places is not None and stack:
+            stack = {at: v for at, v in stack.items() if at in places or not isinstance(v, int)}
+        passed = tuple(row for row in self.passed if row[0] in names) if self.passed else ()
+        return Constants(kept, stack, self.values, passed)
 
     def key(self) -> tuple:
-        return tuple(sorted(self.registers.items())), tuple(sorted(self.stack.items())), self.passed
+        """What tells constants apart. Sets keep their hashes."""
+        return frozenset(self.registers.items()), frozenset(self.stack.items()), self.passed
 
     def operands(self, instruction: Instruction) -> tuple[Optional[Constant], Optional[Constant]]:
         """The two operands of arithmetic or of a jump, None if they aren't constant."""

@@ -22,7 +22,7 @@ if TYPE_CHECKING:
     from .instructions import Code
     from .marks import MarksOfCopies
 
-MOST_COPIES = 8000
+MOST_COPIES = 6000
 MOST_DISTANCE = 65535  # of an address in a packet from its start
 # which numbers are told apart: those that steer a loop or make an address, in slots from which a loop can be reached;
 # those that count a loop's steps; all in slots from which a loop can be reached; all
@@ -50,10 +50,12 @@ class Wide(NamedTuple):
 
 
 class Cases(NamedTuple):
-    """A mark of an addition: the register of the number, and what it can be."""
+    """A mark of an addition, or of a slot in front of it: the register of the number, what it can be there, and the last slot before
+    which it is told apart."""
 
     register: int
     numbers: tuple
+    last: int = -1
 
 
 class Trips(NamedTuple):
@@ -85,10 +87,13 @@ class Telling(NamedTuple):
     stack: object = ()
 
 
+ALL_TOLD = Telling(range(REGISTERS), None)
+
+
 def telling_numbers(code: Code, numbers: str) -> dict[int, Telling]:
     """What is told apart before each slot."""
     if numbers == EVERYWHERE:
-        return {slot: Telling(range(REGISTERS), None) for slot in code}
+        return dict.fromkeys(code, ALL_TOLD)
     if numbers == COUNTERS:
         rows = counters(code).items()
         return {slot: Telling(told, {row[1] for row in told if row not in range(REGISTERS)}) for slot, told in rows}
@@ -107,6 +112,7 @@ class Copies:
         self.code, self.numbers, self.marks = code, numbers, marks
         self.wide, self.cases, self.trips, self.nones = marks.wide, marks.cases, marks.trips, marks.nones
         self.live, self.elsewhere = live_registers(code), stores_elsewhere(code)
+        self.needed = {slot: live | {FRAME_POINTER} for slot, live in self.live.items()}
         self.named = {slot: row.counter for row in marks.differences.values() if row.told for slot in row.known}
         self.mattering = {slot: slots_that_reach(code, {slot}) for slot in marks.trips}
         for store, row in marks.differences.items():
@@ -124,11 +130,11 @@ class Copies:
 
     def copy(self, slot: int, phase: Phase, constants: Constants) -> Copy:
         """The copy with these constants, of which those that can't matter are forgotten."""
-        told = self.telling[slot] if phase == TESTS else Telling(range(REGISTERS), None)
+        told = self.told_by_cases(slot) if phase == TESTS else ALL_TOLD
         if slot in self.trips:
             told = Telling(set(told.registers) - self.trips[slot].registers, None)
-        constants = constants.kept(self.live[slot] | {FRAME_POINTER}, *told)
-        constants = constants.forgetting({name for name, slots in self.mattering.items() if slot in slots})
+        names = [name for name, slots in self.mattering.items() if slot in slots] if constants.passed else ()
+        constants = constants.kept(self.needed[slot], *told, names)
         if phase == TESTS and slot not in self.wide and slot not in self.cases:
             phase = PLAIN
         if phase == OUTSIDE:
@@ -142,6 +148,12 @@ class Copies:
         fresh = self.by_key[key] = Copy(slot, phase, constants, key)
         self.todo.append(fresh)
         return fresh
+
+    def told_by_cases(self, slot: int) -> Telling:
+        """What is told apart before a slot, and the numbers whose cases reach it."""
+        told = self.telling[slot]
+        reaching = {cases.register for first, cases in self.cases.items() if first < slot <= cases.last}
+        return Telling({*told.registers, *reaching}, told.stack) if reaching else told
 
     def ways(self, here: Copy) -> list[tuple[int, Copy]]:
         """The copies to which control may go from a copy."""
@@ -163,7 +175,7 @@ class Copies:
         return ways
 
     def ways_of_case(self, here: Copy) -> list[tuple[int, Copy]]:
-        register, numbers = self.cases[here.slot]
+        register, numbers, _ = self.cases[here.slot]
         chosen = here.constants.with_register(register, numbers[here.phase.number])
         following = here.phase.number + 1
         other = Phase(CASE, following) if following < len(numbers) else OUTSIDE

@@ -34,7 +34,7 @@ from .instructions import (
     Instruction,
 )
 from .own_stack import OwnStack, shared_slots
-from .parts import Access, Part, place_of
+from .parts import COUNTER_BYTES, Access, Lying, Part, place_of
 
 if TYPE_CHECKING:
     from .addresses import Addresses
@@ -85,11 +85,12 @@ class Emitter:
     keys     slots of lookups whose key is copied to the stack
     moved    by map the parts of its values that have a counter of their own
 
-    `reached`: by map the accesses in its values; those of None may be in any. `key_sizes`: by map how many bytes a lookup reads."""
+    `reached`: by map the accesses in its values; those of None may be in any. `key_sizes`: by map how many bytes a lookup reads. `lies`:
+    of the original's slots where accesses in values lie; `keys`: which keys are copied."""
 
     def __init__(self, copies: Copies, addresses: Addresses, marks: Marks, key_sizes: dict[str, int]) -> None:
         self.copies, self.addresses, self.end, self.context, self.key_sizes = copies, addresses, THE_END, CONTEXT_SLOT, key_sizes
-        self.marks, self.reached = marks, {}
+        self.marks, self.reached, self.lies, self.keys = marks, {}, {}, {}
         self.known = {slot: row.counter for row in marks.differences.values() for slot in row.known}
         self.own = OwnStack(copies, shared_slots(copies, addresses))
         self.out, self.labels, self.jumps, self.places = [], [], [], {}
@@ -243,7 +244,7 @@ class Emitter:
             wide = self.copies.wide[slot]
             return self.put_own(slot, IF_ABOVE_CONSTANT, wide.register, 0, 0, wide.most, copy=here)
         if here.phase.name == CASE:
-            register, numbers = self.copies.cases[slot]
+            register, numbers, _ = self.copies.cases[slot]
             return self.put_own(slot, IF_EQUAL_CONSTANT, register, 0, 0, numbers[here.phase.number], copy=here)
         return self.write_instruction(here, self.copies.code[slot])
 
@@ -323,7 +324,9 @@ class Emitter:
         else:
             name, part = None, Part(insn.offset, insn.size)
         self.reached.setdefault(name, set()).add(Access(part, here.slot, is_set))
-        return place_of(self.marks.moved, name, part)
+        place = place_of(self.marks.moved, name, part)
+        self.lies.setdefault(here.slot, set()).add(Lying(place - part.place, place % COUNTER_BYTES))
+        return place
 
     def is_elsewhere(self, here: Copy, register: int) -> bool:
         """Whether a register surely has no address of a value."""

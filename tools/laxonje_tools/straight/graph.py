@@ -171,6 +171,10 @@ class Steering(NamedTuple):
         """Whether something is loaded in the loop that steers it."""
         return any(code[slot].is_load for slot in self.sources & loop)
 
+    def folds(self, code: Code, loop: set[int]) -> bool:
+        """Whether what is compared is shifted in the loop, as a sum whose carries are added to it."""
+        return any(code[slot].is_arithmetic and code[slot].operation == RSH for slot in self.sources & loop)
+
     def step(self, code: Code, loop: set[int]) -> int:
         """The least number that is added to what is compared in one step of the loop."""
         added = [code[slot] for slot in self.sources & loop if code[slot].opcode == ADD_CONSTANT]
@@ -222,7 +226,7 @@ def is_upper_bound(code: Code, slot: int, ahead: set[int]) -> bool:
 
 def made_of(code: Code, before: dict[int, list[int]], jump: int, loop: set[int]) -> tuple[list[int], set[int]]:
     """The masks by a constant in front of the loop of which the numbers that a jump compares are made, and all the
-    instructions from there on."""
+    instructions from there on, also through the stack."""
     seen, masks, sources = set(), [], set()
     todo = [(at, register) for register in reads(code[jump]) for at in before[jump]]
     while todo:
@@ -236,9 +240,16 @@ def made_of(code: Code, before: dict[int, list[int]], jump: int, loop: set[int])
             if at not in loop and is_mask(instruction):
                 masks.append(at)
                 continue
-            wanted = reads(instruction) if instruction.is_arithmetic else set()
+            wanted = reads(instruction) if instruction.is_arithmetic else kept_at(instruction)
+        elif register < 0 and instruction.kind == STX and instruction.destination == FRAME_POINTER and instruction.offset == register:
+            wanted = {instruction.source}
         todo += [(further, more) for more in wanted for further in before[at]]
     return masks, sources
+
+
+def kept_at(load: Instruction) -> set[int]:
+    """The place of the stack from which a load takes a number, below 0 as registers aren't."""
+    return {load.offset} if load.is_load and load.source == FRAME_POINTER else set()
 
 
 def is_mask(instruction: Instruction) -> bool:

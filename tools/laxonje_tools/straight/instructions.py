@@ -100,6 +100,11 @@ class Instruction:
         return self.kind in (JMP, JMP32) and self.opcode not in (EXIT, CALL, JUMP)
 
     @property
+    def is_atomic(self) -> bool:
+        """Whether it is an atomic operation."""
+        return self.opcode in (ATOMIC_WORD, ATOMIC_DOUBLE)
+
+    @property
     def fetches(self) -> bool:
         """Whether it is an atomic operation that loads what was there."""
         return self.opcode == ATOMIC_DOUBLE and bool(self.immediate & FETCH)

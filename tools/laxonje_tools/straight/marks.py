@@ -2,10 +2,12 @@
 from __future__ import annotations
 
 from dataclasses import dataclass, field
-from typing import TYPE_CHECKING, NamedTuple
+from typing import TYPE_CHECKING, NamedTuple, Optional
 
 if TYPE_CHECKING:
     from .instructions import Code
+    from .memory import Key
+    from .parts import Lying
 
 
 class MarksOfCopies(NamedTuple):
@@ -44,10 +46,22 @@ class Marks:
         return MarksOfCopies(dict(self.wide), dict(self.cases), dict(self.trips), dict(self.differences), self.nones, self.values)
 
 
+class Found(NamedTuple):
+    """What a search has found out of a program: by the slot of an access in a value where it lies; the slots of those that are to a
+    part of a counter; by that of a lookup whose key isn't on the stack its keys; and below which place of the stack it has nothing."""
+
+    accesses: dict[int, set[Lying]]
+    parts: set[int]
+    keys: dict[int, set[Key]]
+    top: int
+
+
 @dataclass
 class Result:
     """A program that the verifier accepts. `labels`: of its slots. `code`, `counts`, `differences`: of the original.
-    `moved`: by map the parts of values that have a counter of their own."""
+    `moved`: by map the parts of values that have a counter of their own. `way`: of the search, which numbers it tells apart and
+    what it marks. `has_rows`: whether a masked number can be told apart where it is one of a row. `found`: where its
+    accesses in values lie."""
 
     words: list
     relocations: list
@@ -56,3 +70,6 @@ class Result:
     counts: list
     differences: dict
     moved: dict
+    way: tuple
+    has_rows: bool = False
+    found: Optional[Found] = None

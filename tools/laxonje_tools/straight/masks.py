@@ -1,7 +1,7 @@
 """What a masked number can be."""
 from __future__ import annotations
 
-from typing import TYPE_CHECKING, Sequence
+from typing import TYPE_CHECKING, NamedTuple, Optional, Sequence
 
 from .instructions import ALU64, AND, JMP, JMP32, LSH, RSH, compute, writes
 
@@ -11,22 +11,67 @@ if TYPE_CHECKING:
 MOST_CASE_BITS = 6
 
 
-def masked(code: Code, slot: int, register: int) -> Sequence[int]:
-    """What a number can be that was masked by a constant, and maybe shifted, just before a slot; else nothing."""
+class Row(NamedTuple):
+    """Numbers in a row from 0 on, one of which a register has before a slot."""
+
+    slot: int
+    numbers: Sequence[int]
+
+
+class Masked(NamedTuple):
+    """What a number can be before a slot, behind its mask and the shifts that follow. `row`: where it can be told apart in a row
+    in front of them, or None."""
+
+    numbers: Sequence[int]
+    row: Optional[Row]
+
+
+def masked(code: Code, slot: int, register: int) -> Optional[Masked]:
+    """What a number can be that was masked by a constant, and maybe shifted, just before a slot; else None."""
     later = []
     while slot - 1 in code or slot - 2 in code:  # the latter in front of a wide load's second half
         slot -= 1 if slot - 1 in code else 2
         instruction = code[slot]
         if register not in writes(instruction):
             if instruction.kind in (JMP, JMP32):
-                return ()
+                return None
         elif instruction.kind != ALU64 or instruction.by_register or instruction.operation not in (AND, LSH, RSH):
-            return ()
+            return None
         elif instruction.operation == AND and instruction.immediate > 0:
-            return [after_shifts(number, later) for number in parts_of(instruction.immediate)]
+            numbers = parts_of(instruction.immediate)
+            return Masked([after_shifts(number, later) for number in numbers], row_of(code, slot, numbers, bool(later)))
         else:
             later.append(instruction)
-    return ()
+    return None
+
+
+def row_before(code: Code, slot: int, register: int, numbers: Sequence[int]) -> Optional[Row]:
+    """Where a number that can be one of these few is one of a row: in front of a shift to the left, behind which there is no other way."""
+    few = numbers[: (1 << MOST_CASE_BITS) + 1]  # of a range there may be 2^64
+    while len(few) <= 1 << MOST_CASE_BITS and (slot - 1 in code or slot - 2 in code):
+        slot -= 1 if slot - 1 in code else 2
+        instruction = code[slot]
+        if instruction.kind in (JMP, JMP32):
+            return None
+        if register in writes(instruction):
+            is_shift = instruction.kind == ALU64 and instruction.operation == LSH and not instruction.by_register
+            before = [number >> instruction.immediate for number in few] if is_shift else []
+            is_row = bool(before) and before == list(range(before[0], before[-1] + 1))
+            return Row(slot, before) if is_row else None
+    return None
+
+
+def row_of(code: Code, mask: int, numbers: Sequence[int], is_shifted: bool) -> Optional[Row]:
+    """Where a number is one of a row: behind a mask of the lowest bits, if it is shifted later; or in front of a mask of higher ones,
+    behind a shift to the right, which may leave no higher number."""
+    many = 1 << code[mask].immediate.bit_length()
+    if len(numbers) == many:
+        return Row(mask + 1, numbers) if is_shifted else None
+    before = code.get(mask - 1)
+    is_behind_shift = before is not None and before.kind == ALU64 and not before.by_register and before.operation == RSH
+    if not numbers or many > 1 << MOST_CASE_BITS or not is_behind_shift or before.destination != code[mask].destination:
+        return None
+    return Row(mask, range(many))
 
 
 def parts_of(mask: int) -> Sequence[int]:

@@ -5,7 +5,7 @@ place is that number; one from another place becomes tests of the place, and in 
 loaded there. A global's value is looked up once, in front of all."""
 from __future__ import annotations
 
-from typing import TYPE_CHECKING, Iterable, NamedTuple
+from typing import TYPE_CHECKING, Iterable, Iterator, NamedTuple
 
 from .addresses import TableAddress
 from .constants import MAP, VALUE, in_table, is_address
@@ -27,6 +27,7 @@ from .instructions import (
     MOVE_CONSTANT,
     MOVE_REGISTER,
     RSH,
+    STORE_DOUBLE,
     WIDE_LOAD,
     signed,
 )
@@ -96,7 +97,7 @@ def check_store(emitter: Emitter, here: Copy, store: Instruction) -> None:
     if isinstance(place, TableAddress):
         raise Fail(
             f"stores to {place.table.name}: a global that changes is a map's counters here: it has 1, 2, 4 or"
-            " whole eight bytes, at most 64, and begins with 0",
+            " whole eight bytes, at most 64",
             here.slot,
         )
 
@@ -154,52 +155,85 @@ def look_up_globals(emitter: Emitter, names: Iterable[str]) -> None:
     emitter.load(CONTEXT_ARGUMENT, emitter.context, 0)
 
 
+class Key(NamedTuple):
+    """A key that isn't on the stack: the map of its lookup, and its size; and if it lies in a map's value, of its parts by counters
+    where they lie in the key, their sizes, and where they lie in the value, from the key's beginning on."""
+
+    of_map: str
+    size: int
+    parts: tuple[tuple[int, int, int], ...] = ()
+    low: int = 0  # the byte of a counter with which it begins
+
+    @property
+    def words(self) -> range:
+        """Where its words begin."""
+        return range(0, self.size, COUNTER_BYTES)
+
+
 def write_key(emitter: Emitter, here: Copy) -> None:
-    """In front of a lookup: its key, which lies in the packet or in a map's value, on our own stack. The registers behind the
-    arguments are free, since a call leaves nothing in them."""
+    """In front of a lookup: its key, which lies in the packet or in a map's value, on our own stack."""
     slot, known = here.slot, here.constants.registers.get(MAP_ARGUMENT)
     if not is_address(known, MAP):
         raise Fail("the map of this lookup isn't known, and its key lies in the packet or in a map's value", slot)
-    size = emitter.key_sizes[known.map]
-    names = [(KEY_SLOT, size, at) for at in range(0, size, COUNTER_BYTES)]
+    key = key_of(emitter, here, known.map)
+    names = [(KEY_SLOT, key.size, at) for at in key.words]
     places = {name: emitter.own[name] for name in reversed(names)}  # one behind the other
-    write_word = write_word_of_value if is_address(here.constants.registers.get(KEY_ARGUMENT), VALUE) else write_word_of_packet
-    for name in names:
-        write_word(emitter, here, name[2], size)
-        emitter.save(name, WORD_REGISTER, slot)
-    emitter.put_own(slot, MOVE_REGISTER, KEY_ARGUMENT, FRAME_POINTER)
-    emitter.put_own(slot, ADD_CONSTANT, KEY_ARGUMENT, 0, 0, places[names[0]])
+    base = here.constants.registers[KEY_ARGUMENT].offset if key.parts else 0
+    emitter.keys.setdefault(slot, set()).add(key)
+    for fields in copied_key(key, [places[name] for name in names], base):
+        emitter.put_own(slot, *fields, copy=here if fields[0] & 7 == LDX else None)
 
 
-def write_word_of_packet(emitter: Emitter, here: Copy, at: int, size: int) -> None:
-    """Eight bytes of a key in the packet, or those that are left."""
-    first, *rest = parts_of_word(at, size)
-    emitter.put_own(here.slot, first.load, WORD_REGISTER, KEY_ARGUMENT, first.place, copy=here)
-    for part in rest:
-        emitter.put_own(here.slot, part.load, PART_REGISTER, KEY_ARGUMENT, part.place, copy=here)
-        add_to_word(emitter, here.slot, part.place - at)
-
-
-def write_word_of_value(emitter: Emitter, here: Copy, at: int, size: int) -> None:
-    """The same of a key in a map's value, of whose counters each is loaded whole."""
-    address = here.constants.registers[KEY_ARGUMENT]
-    for part in parts_by_counter(address.offset + at, min(COUNTER_BYTES, size - at)):
+def key_of(emitter: Emitter, here: Copy, name: str) -> Key:
+    """The key of a lookup in a map."""
+    address, size, parts = here.constants.registers.get(KEY_ARGUMENT), emitter.key_sizes[name], []
+    if not is_address(address, VALUE):
+        return Key(name, size)
+    words = [(address.offset + at, min(COUNTER_BYTES, size - at)) for at in range(0, size, COUNTER_BYTES)]
+    for part in [part for word in words for part in parts_by_counter(*word)]:
         emitter.reached.setdefault(address.map, set()).add(Access(part, here.slot, False))
         place = place_of(emitter.marks.moved, address.map, part)
-        low, is_first = place % COUNTER_BYTES, part.place == address.offset + at
-        register = WORD_REGISTER if is_first else PART_REGISTER
-        emitter.put_own(here.slot, LOAD_DOUBLE, register, KEY_ARGUMENT, place - low, copy=here)
-        if part.size < COUNTER_BYTES:
-            emitter.put_own(here.slot, LSH_CONSTANT, register, 0, 0, 8 * (COUNTER_BYTES - part.size - low))
-            emitter.put_own(here.slot, RSH_CONSTANT, register, 0, 0, 8 * (COUNTER_BYTES - part.size))
-        if not is_first:
-            add_to_word(emitter, here.slot, part.place - address.offset - at)
+        parts.append((part.place - address.offset, part.size, place - address.offset))
+    return Key(name, size, tuple(parts), address.offset % COUNTER_BYTES)
 
 
-def add_to_word(emitter: Emitter, slot: int, place: int) -> None:
+def copied_key(key: Key, places: list[int], base: int = 0) -> Iterator[tuple]:
+    """What leaves a copy of a key on the stack, and its address. The registers behind the arguments are free, since a call leaves
+    nothing in them. `places`: of the stack, of each word; `base`: how far the key is past what its register has."""
+    for at, place in zip(key.words, places):
+        yield from word_of_value(key, at, base) if key.parts else word_of_packet(at, key.size)
+        yield STORE_DOUBLE, FRAME_POINTER, WORD_REGISTER, place
+    yield MOVE_REGISTER, KEY_ARGUMENT, FRAME_POINTER
+    yield ADD_CONSTANT, KEY_ARGUMENT, 0, 0, places[0]
+
+
+def word_of_packet(at: int, size: int) -> Iterator[tuple]:
+    """Eight bytes of a key in the packet, or those that are left."""
+    first, *rest = parts_of_word(at, size)
+    yield first.load, WORD_REGISTER, KEY_ARGUMENT, first.place
+    for part in rest:
+        yield part.load, PART_REGISTER, KEY_ARGUMENT, part.place
+        yield from added_to_word(part.place - at)
+
+
+def word_of_value(key: Key, at: int, base: int) -> Iterator[tuple]:
+    """The same of a key in a map's value, of whose counters each is loaded whole."""
+    for part, size, place in key.parts:
+        if not at <= part < at + COUNTER_BYTES:
+            continue
+        low, register = (place + key.low) % COUNTER_BYTES, WORD_REGISTER if part == at else PART_REGISTER
+        yield LOAD_DOUBLE, register, KEY_ARGUMENT, base + place - low
+        if size < COUNTER_BYTES:
+            yield LSH_CONSTANT, register, 0, 0, 8 * (COUNTER_BYTES - size - low)
+            yield RSH_CONSTANT, register, 0, 0, 8 * (COUNTER_BYTES - size)
+        if part != at:
+            yield from added_to_word(part - at)
+
+
+def added_to_word(place: int) -> Iterator[tuple]:
     """Puts the part that was loaded at a place of the word."""
-    emitter.put_own(slot, LSH_CONSTANT, PART_REGISTER, 0, 0, 8 * place)
-    emitter.put_own(slot, ADD_REGISTER, WORD_REGISTER, PART_REGISTER)
+    yield LSH_CONSTANT, PART_REGISTER, 0, 0, 8 * place
+    yield ADD_REGISTER, WORD_REGISTER, PART_REGISTER
 
 
 class PartOfWord(NamedTuple):

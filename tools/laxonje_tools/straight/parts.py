@@ -68,6 +68,13 @@ class Access(NamedTuple):
     is_set: bool
 
 
+class Lying(NamedTuple):
+    """Where an access in a value lies in the result's: by how much it is moved, and from which byte of its counter on."""
+
+    by: int
+    low: int
+
+
 def place_of(moved: Moved, name: Optional[str], part: Part) -> int:
     """Where a part lies in the result's value."""
     for whole, counter in moved.get(name, {}).items():
@@ -126,10 +133,11 @@ def stored_below(rows: list[dict], store: Access, reached: list[Part]) -> Option
 
 
 def number_of(rows: list[dict], store: Access, whole: Part, reached: list[Part]) -> Part:
-    """The number that a store is to: a counter without bit fields, if its bytes are reached all at once alone. `whole`: what is
-    reached at once with its bytes."""
+    """The number that a store is to: a counter without bit fields, or all of several numbers, if these bytes are reached all at once
+    alone. `whole`: what is reached at once with its bytes."""
     inside = [row for row in rows if whole.meets(part_of(row))]
-    is_at_once = whole.size == COUNTER_BYTES and all(part == whole for part in reached if part.meets(whole))
+    is_whole = whole.size == COUNTER_BYTES or len(inside) > 1 and all(whole.holds(part_of(row)) for row in inside)
+    is_at_once = is_whole and all(part == whole for part in reached if part.meets(whole))
     if is_at_once and not any(row["bits"] for row in inside):
         return whole
     holding = [row for row in inside if part_of(row).holds(whole)]

@@ -13,7 +13,7 @@ first program is that of the copies alone. Then, one mark per refusal:
   V10                what the access reaches is compared with the packet's end anew (`guards`); where it still lies in
                      front of what was compared, its address is made anew first (`rebased`)
   a loop             that nothing bounds but a masked number, or one that was compared with a constant: a copy for each
-                     number (`cases`), or for each step up to it (`trips`)
+                     number (`cases`), or for each step up to it (`trips`); and so of one that adds the carries of a sum
   V17                of a key in the packet or in a map's value: it is copied to the stack (`keys`)
   V17, V9 at a value  of two lookups whose ways met: a copy behind the meeting for each map (`values`)
   V9 at 0             where what a lookup gave is tested twice: a copy for the ways on which it was 0 (`nones`)
@@ -23,36 +23,33 @@ first program is that of the copies alone. Then, one mark per refusal:
                      what was loaded is added, if the load stays (`differences`). A number of fewer than eight bytes
                      that lies below another one of its counter gets a counter of its own (`moved`)
 
-No mark is taken back, so the search ends. It is made in several ways (`WAYS`): as few numbers told apart as loops
-need, their counters alone, all in loops, or all; a meeting marked as one copy or at all copies of its slot, or none, and
-each access rebased."""
+No mark is taken back, so the search ends. It is made in several `ways`."""
 from __future__ import annotations
 
-from typing import TYPE_CHECKING, Iterable, Iterator, Optional
+from typing import TYPE_CHECKING, Iterable, Optional, Sequence
 
-from .addresses import ADDED, KEPT, MET, Addresses, PacketAddress, StackSlot, Thing
+from .addresses import ADDED, KEPT, MET, Addresses, PacketAddress, StackSlot, Thing, multiple_of
 from .constants import MAPS, RESULTS
-from .copies import COUNTERS, EVERYWHERE, IN_LOOPS, STEERING, Cases, Trips, Wide, copies_of
+from .copies import Cases, Wide, copies_of
 from .counts import difference, fused
 from .emit import Emitter, Kind, Needs
-from .graph import SIZE, Fail, NoBound, TooMany, loop_of, steering
+from .graph import SIZE, Fail, NoBound, TooMany
 from .indices import bound_index, places_in_value
 from .instructions import MASK_32
-from .marks import Marks, Result
-from .masks import masked, parts_of
+from .marks import Found, Marks, Result
+from .masks import masked, row_before
 from .memory import KEY_ARGUMENT
 from .parts import COUNTER_BYTES, NeedsCounters, check_parts, has_parts, moved_with, with_counters
 from .settings import instructions_of, key_sizes, text_of, without_rows
-from .verifier import verdict
+from .steps import Steps
+from .verifier import StillRefused, verdict
 
 if TYPE_CHECKING:
     from .addresses import Place
     from .copies import Copy
     from .emit import Label
-    from .graph import Steering
     from .verifier import Verdict
 
-MOST_STEPS = 64  # of a cursor, from its first number to the most that a mask allows
 MOST_TURNS, MOST_CASES = 200, 64
 MOST_ALIKE = 3  # marks at copies of one slot, from which on all its copies are marked
 MOST_JUDGED = 60000  # slots, in all programs of one search
@@ -61,35 +58,32 @@ MOST_POSITIVE = MASK_32  # a number up to here is none that is negative in 64 bi
 OF_THE_BYTES = {"V0", "V1", "V2", "V3", "V4", "V6", "V16", "V19"}
 
 BY_COPY, BY_SLOT, BY_ACCESS = "by copy", "by slot", "by access"
-# the searches, in groups of which the smaller result comes first
-WAYS = [
-    (STEERING, (BY_COPY, BY_SLOT)),
-    (STEERING, (BY_ACCESS,)),
-    (COUNTERS, (BY_COPY, BY_SLOT)),
-    (IN_LOOPS, (BY_COPY, BY_SLOT)),
-    (EVERYWHERE, (BY_COPY, BY_SLOT)),
-]
 
 
-class StillRefused(Fail):
-    """The verifier's answer to a program that nothing more was changed in."""
-
-    def __init__(self, slot: Optional[int], answer: Verdict) -> None:
-        super().__init__(f"straightened, it is refused with {answer.cause}", slot, answer.cause)
-        self.answer = answer
+def are_few(numbers: Sequence[int]) -> bool:
+    """Whether there are numbers, and no more than are told apart. Of a range there may be 2^64."""
+    return 0 < len(numbers[: MOST_CASES + 1]) <= MOST_CASES
 
 
 class Search:
     """One search. `numbers`: which are told apart; `way`: what is marked first if an address was lost: a meeting
-    as one copy (BY_COPY) or at all copies of its slot (BY_SLOT), or the access, to be rebased (BY_ACCESS)."""
+    as one copy (BY_COPY) or at all copies of its slot (BY_SLOT), or the access, to be rebased (BY_ACCESS). `fuses`: whether a
+    load, additions and a store become one atomic addition. `by_place`: whether each index into a value is told apart by all places
+    of the value, and not by the numbers that the verifier names, which are those of one of its notes. `in_rows`: whether a masked
+    number is told apart where it is one of a row, so that tests of all of them leave no other number."""
 
-    def __init__(self, settings: dict, xdpbox: str, numbers: str, way: str) -> None:
+    def __init__(
+        self, settings: dict, xdpbox: str, numbers: str, way: str, fuses: bool = True, by_place: bool = False, in_rows: bool = False
+    ) -> None:
         self.settings, self.xdpbox, self.numbers, self.way = without_rows(settings), xdpbox, numbers, way
+        self.fuses, self.by_place, self.in_rows, self.has_rows = fuses, by_place, in_rows, False
         self.code = instructions_of(settings)
         self.marks = Marks(values=RESULTS if any(insn.counter is not None for insn in self.code.values()) else 0)
         self.copies = self.addresses = self.labels = None
         self.reached = {}  # by map the accesses in its values
+        self.found = None  # where they lie
         self.began = False  # whether there was a program to ask the verifier of
+        self.is_by_way = False  # whether another way might have led elsewhere
 
     def mark(self, here: Copy, place: Place) -> tuple:
         """How a meeting is marked. All its registers are: one of them is often made from another."""
@@ -104,6 +98,7 @@ class Search:
 
     def mark_meetings(self, rows: Iterable[tuple[Copy, Place]]) -> bool:
         """Marks meetings, (copy, place) each: whether one is new. If several copies of a slot are marked, all are."""
+        self.is_by_way = True
         fresh = {self.mark(*row) for row in rows if not self.is_marked(*row)}
         self.marks.meetings |= fresh
         for key, kept in fresh:
@@ -151,7 +146,7 @@ class Search:
         try:
             self.copies = copies_of(self.code, self.numbers, marks.of_copies(), self.copies)
         except (NoBound, TooMany) as loop:
-            if not self.tell_trips_apart(loop.slot, isinstance(loop, NoBound)):
+            if not Steps(self.code, self.marks, loop.slot).told_apart(isinstance(loop, NoBound)):
                 raise
             return None
         self.addresses = Addresses(self.copies, self.is_marked, self.is_restarted)
@@ -160,8 +155,13 @@ class Search:
         except Needs as needs:
             self.mark_meetings(needs.meetings)
             return None
-        self.reached = emitter.reached
+        self.reached, self.found = emitter.reached, Found(emitter.lies, self.parts(), emitter.keys, emitter.own.top)
         return emitter.program()
+
+    def parts(self) -> set[int]:
+        """The slots of accesses to a part of a counter that are written otherwise."""
+        stores = {slot for slot in self.marks.differences if self.code[slot].size < COUNTER_BYTES}
+        return self.marks.narrow | stores | self.marks.adds
 
     def keeps_parts(self) -> bool:
         """Whether no store changes another number of its counter; else parts that need it get counters of their own."""
@@ -174,7 +174,9 @@ class Search:
 
     def result(self, words: list[str], relocations: list[tuple[int, str]]) -> Result:
         marks = self.marks
-        return Result(words, relocations, self.labels, self.code, sorted(marks.counts), marks.differences, marks.moved)
+        way = self.numbers, self.way
+        rows = words, relocations, self.labels, self.code, sorted(marks.counts), marks.differences, marks.moved, way, self.has_rows
+        return Result(*rows, self.found)
 
     # --- what a refusal asks for; each answers whether there is a new mark
 
@@ -185,13 +187,14 @@ class Search:
         instruction = self.code[label.slot]
         register = KEY_ARGUMENT if label.slot in self.marks.keys else instruction.base
         if answer.cause == "V14":
-            return self.narrow(label.slot) if instruction.is_load else self.fuse(label.slot)
+            return self.narrow_all(label.slot) if instruction.is_load else self.fuse_all(label.slot)
         if answer.cause == "V19":
-            return self.add_whole(label.slot)
+            return any([self.add_whole(slot) for slot in sorted(self.code) if self.code[slot].adds_word])
         if answer.cause == "V17":
             return self.copy_key(label.copy) or self.follow(MAPS)
         if not (instruction.is_load or instruction.is_store or label.slot in self.marks.keys):
             return False
+        self.is_by_way |= answer.cause == "V10"
         if answer.cause == "V10" and self.way == BY_ACCESS:
             return self.rebase(label.copy, instruction.base)
         if answer.cause == "V10":
@@ -205,6 +208,7 @@ class Search:
             return True
         if not isinstance(address, PacketAddress):
             return self.tell_apart(answer) or bound_index(self.code, label.slot, self.settings, self.marks)
+        self.is_by_way = True
         if self.way == BY_ACCESS:
             return self.rebase(label.copy, instruction.base)
         meetings = [(atom.copy, atom.place) for atom in address.atoms if atom.name == MET]
@@ -241,6 +245,29 @@ class Search:
         self.follow(RESULTS)
         return fresh
 
+    def in_values(self) -> list[int]:
+        """The slots of accesses that surely are in a map's value, in the order of the program."""
+        places = ((here, self.code[here.slot]) for here in self.copies.order if here.is_instruction)
+        reach = (here for here, insn in places if insn.is_load or insn.is_store)
+        found = {here.slot: None for here in reach if self.addresses.before[here].get(self.code[here.slot].base) == Thing.VALUE}
+        return list(found)
+
+    def narrow_all(self, slot: int) -> bool:
+        """A load of a part of a counter, and all others where no map takes such loads: these would be refused next."""
+        takes_parts = any(row.get("parts") for row in self.settings.get("map", []))
+        others = [] if takes_parts else [other for other in self.in_values() if self.code[other].is_load]
+        return any([self.narrow(other) for other in [slot, *others]])
+
+    def fuse_all(self, slot: int) -> bool:
+        """A store to a counter, and all others, which would be refused next."""
+        stores = [other for other in self.in_values() if self.code[other].is_store and not self.code[other].is_atomic]
+        if not self.fuse(slot):
+            return False
+        for other in stores:
+            if other != slot:
+                self.fuse(other)
+        return True
+
     def narrow(self, slot: int) -> bool:
         """A load of a part of a counter."""
         fresh = slot not in self.marks.narrow and self.code[slot].size < 8
@@ -248,7 +275,9 @@ class Search:
         return fresh
 
     def fuse(self, slot: int) -> bool:
-        mended = fused(self.code, slot)
+        if self.code[slot].is_atomic:
+            return False
+        mended = fused(self.code, slot) if self.fuses else None
         if mended is None:
             row = difference(self.code, slot, self.marks.nones)
             fresh = row is not None and slot not in self.marks.differences
@@ -313,6 +342,9 @@ class Search:
                 todo += stored.get(atom, [])
         fresh = not keys <= self.marks.limited
         self.marks.limited |= keys
+        for slot in {key[0] for key in keys}:
+            if sum(key[0] == slot for key in self.marks.limited) >= MOST_ALIKE:
+                self.marks.limited |= {copy.key for copy in self.copies.order if copy.slot == slot}
         return fresh
 
     def restart(self, here: Copy, register: int) -> bool:
@@ -320,8 +352,11 @@ class Search:
         packet's end, and is made anew from its distance there."""
         if (here.key, register) in self.marks.restarts:
             return False
-        self.marks.restarts.add((here.key, register))
-        self.marks.limited.add(here.key)
+        chosen = [here]
+        if sum(key[0] == here.slot for key, _ in self.marks.restarts) >= MOST_ALIKE:
+            chosen += [copy for copy in self.copies.order[self.copies.order.index(here) :] if copy.slot == here.slot]
+        self.marks.restarts |= {(copy.key, register) for copy in chosen}
+        self.marks.limited |= {copy.key for copy in chosen}
         return True
 
     def tell_apart(self, answer: Verdict) -> bool:
@@ -332,67 +367,23 @@ class Search:
             return False
         if lost.register is None or label.slot in self.marks.cases:
             return False
-        numbers = masked(self.code, label.slot, lost.register) or lost.numbers
-        if lost.was == "map_value" and not 0 < len(numbers) <= MOST_CASES:
+        found = masked(self.code, label.slot, lost.register)
+        stride = multiple_of(self.addresses.before[label.copy].get(lost.register)) or 1
+        if self.in_rows and lost.was == "map_value" and self.follow(MAPS):
+            return True
+        index = label.copy, self.code[label.slot], lost.register
+        places = places_in_value(*index, self.addresses, self.settings) if lost.was == "map_value" else ()
+        row = row_before(self.code, label.slot, lost.register, places or lost.multiples_of(stride)) if found is None else found.row
+        self.has_rows |= row is not None
+        if self.in_rows and row is not None and row.slot not in self.marks.cases:
+            self.marks.cases[row.slot] = Cases(lost.register, tuple(row.numbers), label.slot)
+            return True
+        numbers = found.numbers if found is not None and found.numbers else lost.multiples_of(stride)
+        if lost.was == "map_value" and (self.by_place or not are_few(numbers)):
             if self.follow(MAPS):
                 return True
-            numbers = places_in_value(label.copy, self.code[label.slot], lost.register, self.addresses, self.settings)
-        if not 0 < len(numbers) <= MOST_CASES:
+            numbers = places
+        if not are_few(numbers):
             return False
         self.marks.cases[label.slot] = Cases(lost.register, tuple(numbers))
         return True
-
-    def tell_trips_apart(self, slot: int, by_number: bool) -> bool:
-        """A loop that runs as often as a masked number says, as over the words of a header: a copy for each number.
-        If its cursor grows by what is loaded, as over options: as many copies as the cursor has steps of one.
-        `by_number`: whether the former may help."""
-        loop = loop_of(self.code, slot)
-        rows = list(steering(self.code, loop))
-        return any(self.tell_masked_apart(row, loop, by_number) for row in rows) or any(
-            self.tell_bounded_apart(row, loop) for row in rows
-        )
-
-    def tell_bounded_apart(self, row: Steering, loop: set[int]) -> bool:
-        """The same, of a number that was compared with a constant in front of the loop."""
-        steps = [-(-bound // row.step(self.code, loop)) for bound in row.bounds]
-        steps = [number for number in steps if 1 < number <= MOST_STEPS]
-        if not steps or row.inside in self.marks.trips:
-            return False
-        self.marks.trips[row.inside] = Trips(max(steps), row.cursors(self.code, loop))
-        return True
-
-    def tell_masked_apart(self, row: Steering, loop: set[int], by_number: bool) -> bool:
-        """The same, for a number after a mask."""
-        for mask in row.masks:
-            numbers = parts_of(self.code[mask].immediate)
-            steps = row.most(self.code, loop, mask) - row.first(self.code, loop)
-            if row.is_by_data(self.code, loop) or not by_number:
-                if 0 < steps <= MOST_STEPS and row.inside not in self.marks.trips:
-                    self.marks.trips[row.inside] = Trips(steps, row.cursors(self.code, loop))
-                    return True
-            elif by_number and numbers and mask + 1 not in self.marks.cases:
-                self.marks.cases[mask + 1] = Cases(self.code[mask].destination, tuple(numbers))
-                return True
-        return False
-
-
-def searches(settings: dict, xdpbox: str, faults: list[Fail], unguarded: list[Result]) -> Iterator[Result]:
-    """What the searches find, the smaller of two programs first. The next two begin only if nobody took one of
-    these, and none that would have too many copies again. Why a search found none is added to the faults. If some
-    results of the first ones want a guard that nobody asked for (`unguarded`), others do too, but for those that tell
-    all numbers apart."""
-    hopeless = set()
-    for numbers, ways in WAYS:
-        results = []
-        if numbers in hopeless or unguarded and numbers == IN_LOOPS:
-            continue
-        for way in ways:
-            search = Search(settings, xdpbox, numbers, way)
-            try:
-                results.append(search.run())
-            except Fail as fail:
-                faults.append(fail)
-                if isinstance(fail, TooMany) and not search.began:
-                    hopeless.add(numbers)
-                    break
-        yield from sorted(results, key=lambda result: len(result.words))

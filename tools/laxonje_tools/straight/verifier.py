@@ -8,6 +8,8 @@ from typing import NamedTuple, Optional, Union
 
 from laxonje_tools.output import fail
 
+from .graph import Fail
+
 
 class Lost(NamedTuple):
     """A refused access: where its register was an address last, and what was known of the number added there."""
@@ -17,10 +19,9 @@ class Lost(NamedTuple):
     register: Optional[int]  # that of the number
     span: Optional[tuple]  # of the number, from and to
 
-    @property
-    def numbers(self) -> range:
-        """What the number can be, as far as that is said."""
-        return range(self.span[0], self.span[1] + 1) if self.span else range(0)
+    def multiples_of(self, stride: int) -> range:
+        """What the number can be, as far as that is said, if it is a multiple of another one."""
+        return range(-(-self.span[0] // stride) * stride, self.span[1] + 1, stride) if self.span else range(0)
 
 
 @dataclass
@@ -60,6 +61,14 @@ class Verdict:
         span = re.search(r"umin=(\d+),umax=(\d+)", said[4] or "")
         register = int(said[3]) if said[3] else None
         return Lost(said[1], int(said[2]), register, (int(span[1]), int(span[2])) if span else None)
+
+
+class StillRefused(Fail):
+    """The verifier's answer to a program that nothing more was changed in."""
+
+    def __init__(self, slot: Optional[int], answer: Verdict) -> None:
+        super().__init__(f"straightened, it is refused with {answer.cause}", slot, answer.cause)
+        self.answer = answer
 
 
 def asked(xdpbox: str, command: str, settings: Union[str, bytes]) -> subprocess.CompletedProcess:

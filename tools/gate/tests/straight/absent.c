@@ -42,6 +42,7 @@ SEC("xdp") int f(struct xdp_md *ctx)
 	case 9: went(told(length, data[1]) + 4); break;
 	case 10: return bpf_redirect(7, 0) == XDP_REDIRECT ? XDP_TX : XDP_PASS;
 	case 11: return bpf_redirect(7, 1) == XDP_REDIRECT ? XDP_TX : XDP_PASS;
+	case 12: return bpf_redirect(7, data[1] & 2) == XDP_REDIRECT ? XDP_TX : XDP_PASS;
 	}
 	return XDP_PASS;
 }

@@ -17,10 +17,12 @@ EXAMPLES = TOOLS.parent / "examples/straightened"
 # examples whose result is proved to be the same, and how
 PROVED = {"loop": "proved", "loop-with-break": "proved", "nine-ways": "proved", "plain-count": "proved by counts"}
 PROVED |= {"read-and-count": "proved alone", "syn-share": "proved alone"}
-# programs whose result is proved to be the same by counts, those with a counter that is stored to otherwise, and those with halves of one
+# programs whose result is proved to be the same: the index of a counter is told apart where it is one of a row; the same by counts; those
+# with a counter that is stored to otherwise, and those with halves of one
+SAME = "COUNTER_INDEX", "STACK_INDEX"
 BY_COUNTS = "COUNT", "COUNT_OF_A_NUMBER", "TWO_COUNTS", "COUNT_IN_A_LOOP"
 ALONE = "COUNT_READ", "DOUBLED", "COUNTER_SET", "COUNTER_SET_ON_SOME_WAYS", "COUNTED_TWICE"
-HALVES = "HALF_COUNTER", "UPPER_HALF", "BOTH_HALVES"
+HALVES = {"HALF_COUNTER": "proved alone", "UPPER_HALF": "compared", "BOTH_HALVES": "compared"}  # the last two are counts
 # what stands in place of `xdpbox same`, and which of the ways it leaves
 ANSWERS = {
     "a yes": ("echo 'same, 1 slots for 1'", "proved"),
@@ -89,15 +91,20 @@ def tests(xdpbox):
     for name, wanted in PROVED.items():
         found = how(xdpbox, before(name))
         yield f"{name} is {wanted}", "" if found == wanted else found
+    for name in SAME:
+        found = how(xdpbox, getattr(programs, name), proved=True)
+        yield f"{name} is proved", "" if found == "proved" else found
     for name in BY_COUNTS:
         found = how(xdpbox, getattr(programs, name), proved=True)
         yield f"{name} is proved by counts", "" if found == "proved by counts" else found
     for name in ALONE:
         found = how(xdpbox, getattr(programs, name), proved=True)
         yield f"{name} is proved alone", "" if found == "proved alone" else found
-    for name in HALVES:
+    for name, wanted in HALVES.items():
         found = how(xdpbox, getattr(programs, name))
-        yield f"{name} isn't", "" if found == "compared" else found
+        yield f"{name} is {wanted}", "" if found == wanted else found
+        found = straightened(getattr(programs, name), xdpbox, Wanted(writes_out=False)).how
+        yield f"{name} isn't as it is", "" if found == "compared" else found
     yield "constants in memory aren't asked of", "" if question(programs.TABLE, programs.TABLE, {}) is None else "they are"
     other = {**programs.COUNT, "map": [{"name": "b", "entries": 1}]}
     yield "nor other maps", "" if question(programs.COUNT, other, {}) is None else "they are"

@@ -1,5 +1,8 @@
-"""Constants in memory as maps of their own: their addresses, when there are none, and runs beside those of the tables."""
+"""Constants in memory as maps of their own: their addresses, when there are none, and runs beside those of the tables; and globals that
+are looked up."""
 from laxonje_tools.from_c.constants import CONSTANTS_START, CONSTANTS_STRIDE, with_constants
+from laxonje_tools.from_c.frames import stack_of
+from laxonje_tools.from_c.looked_up import looked_up
 from laxonje_tools.straight.instructions import ADD_REGISTER, ALU64, EXIT, MUL, WIDE_LOAD
 from laxonje_tools.straight.settings import relocations_of
 from tests.straight import programs
@@ -41,6 +44,17 @@ NONE = {
 }
 
 
+# a global of two numbers, to the second of which 1 is added; and a store that leaves eight bytes of the stack
+TWO_NUMBERS = {
+    "program": ["1801000000000000", "0000000000000000", "b702000001000000", "db21000000000000", "b700000002000000", "9500000000000000"],
+    "map": [{**ARRAY, "counters": 2}],
+    "reloc": [],
+    "tables": [],
+    "globals": [{"slot": 0, "map": "a", "place": 8}],
+}
+DEEP = ["7a0a08fe00000000"]
+
+
 def address_of(settings):
     """The number of the first wide load."""
     slot = programs.TABLE["tables"][0]["slot"]
@@ -67,3 +81,28 @@ def tests(xdpbox):
         yield f"{name} runs as with its table", "" if runs(made) == runs(settings) else "it differs"
         said, _ = filtered(xdpbox, made, made["program"], relocations_of(made), PACKETS)
         yield f"{name} is accepted as it is, and runs so", "" if said == runs(settings) else f"{said}"
+    yield from global_tests()
+
+
+def global_tests():
+    """Globals that are looked up: the runs of the program that has their addresses."""
+    for name in ("GLOBAL", "SMALL_GLOBAL"):
+        settings = {"reloc": [], "tables": [], **getattr(programs, name)}
+        made = looked_up(with_stack(settings))
+        yield f"{name} runs as with its address", "" if counted(made) == counted(settings) else f"{counted(made)}"
+    _, counters = counted(looked_up(with_stack(TWO_NUMBERS)))
+    yield "a second number of a global", "" if counters == {("a", 1): len(PACKETS)} else f"{counters}"
+    full = {**TWO_NUMBERS, "program": [*DEEP, *TWO_NUMBERS["program"]]}
+    yield "a global without room on the stack", "" if looked_up(with_stack(full)) is None else "it is looked up"
+    yield "no global", "" if looked_up(with_stack({**TWO_NUMBERS, "globals": []})) is None else "it is looked up"
+
+
+def with_stack(settings):
+    """Settings with how much of the stack their program uses, as what reads C says it."""
+    return {**settings, "stack": stack_of(bytes.fromhex("".join(settings["program"])), "", {})}
+
+
+def counted(settings):
+    """What becomes of packets, by the interpreter, and the counters that aren't 0."""
+    machine = Machine(settings)
+    return [machine.run(packet) for packet in PACKETS], machine.counters()

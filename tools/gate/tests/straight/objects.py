@@ -13,6 +13,7 @@ HEADERS = "#include <linux/bpf.h>\n#include <bpf/bpf_helpers.h>\n"
 IN_FRONT = '__asm__(".section \\"xdp\\",\\"ax\\",@progbits\\n r0 = 1\\n exit\\n.text\\n");\n'
 TWO_IN_ONE = 'SEC("xdp") int f(struct xdp_md *ctx) { return XDP_DROP; }\nSEC("xdp") int g(struct xdp_md *ctx) { return XDP_PASS; }\n'
 PASSES = ["b700000002000000", "9500000000000000"]
+FIRST_CALL = 'SEC("xdp") int f(struct xdp_md *ctx) { return bpf_get_prandom_u32() & 1 ? XDP_PASS : XDP_DROP; }\n'
 # words that make something else than an object for BPF
 # a value of eight bytes whose type has 2^40 parts
 EMPTY_PARTS = """struct no { }; struct many { struct no no[1024][1024][1024][1024]; __u64 n; };
@@ -96,6 +97,9 @@ def tests(clang, xdpbox):
             lines = [line for line in said.splitlines() if "warning" not in line and not line.startswith("clang")]
             right = status == 1 and not made and "Traceback" not in said and len(lines) <= 1
             yield f"CFLAGS {flags}", "" if right else f"{status} {said}"
+        (folder / "first.c").write_text(HEADERS + FIRST_CALL)
+        made, said, _ = settings_from_c(clang, xdpbox, folder / "first.c")
+        yield "a call that is the first instruction", "" if made else said
         for what, text in (("code in front of the function", IN_FRONT + passes.read_text()),):
             (folder / "front.c").write_text(text)
             made, said, _ = settings_from_c(clang, xdpbox, folder / "front.c")

@@ -161,6 +161,8 @@ def packet_tests(clang, xdpbox, folder):
     source, beside = FILTERS / "47-majority.c", FILTERS / "47-majority.packets"
     made, said, status = ran(clang, xdpbox, "filter-test", source, beside)
     yield "filter-test on packets", "" if not status and made.endswith("27 passed, 0 failed\n") and "counter lead 0 7\n" in made else made + said
+    run = subprocess.run([TOOLS / "filter-test", EXAMPLES / "drop-ipv6/settings.toml", "/dev/stdin"], env={**os.environ, "XDPBOX": str(xdpbox)}, input=f"DROP {'00' * 14}\n", capture_output=True, text=True, check=False)
+    yield "packets from a pipe", "" if run.returncode == 1 and run.stdout == "/dev/stdin:1: PASS, and not DROP\n0 passed, 1 failed\n" else run.stdout + run.stderr
     path, lines = folder / "packets", beside.read_text().splitlines()
     at = next(number for number, line in enumerate(lines) if line.startswith("PASS"))
     path.write_text("\n".join(["# one that is wrong", *lines[:at], "DROP " + lines[at].split()[1], *lines[at + 1 :], ""]))
@@ -217,6 +219,7 @@ BESIDE_LINUX = (
     "47-majority", "61-narrow-values", "63-open-ports", "59-replay-window", "16-blocklist", "65-host-list",
     "66-routes", "67-mac-and-port", "68-keys-in-packets", "69-either-trie", "70-listed-ports", "71-name-hashes",
     "46-backend-hash", "48-teid-table", "73-lists-and-ports", "74-last-flow", "75-error-reasons", "76-redirect-back",
+    "79-port-rules", "80-links",
 )
 # here the interface has number 0, and in a test run of Linux's it is the loopback one
 OF_INTERFACE = 'SEC("xdp") int f(struct xdp_md *ctx) { return ctx->ingress_ifindex ? XDP_DROP : XDP_PASS; }\n'

@@ -157,6 +157,10 @@ def settings_from_c(clang, xdpbox, path, *words):
     return run.stdout, run.stderr
 
 
+# How a comment names a number that has no name in C.
+UNNAMED = "the number at byte "
+
+
 def original_of(clang, path):
     """What clang makes of it, with its constants and globals as they are."""
     os.environ["CLANG"] = clang
@@ -164,15 +168,20 @@ def original_of(clang, path):
 
 
 def moved_in(original, made):
-    """The parts that have a counter of their own, as the comments of printed settings say it: by map, by (place, size)."""
+    """The parts that have a counter of their own, as the comments of printed settings say it: by map, by (place, size). Of the numbers
+    in such a counter the one that holds the others is the part, which has no name if they are stored together alone."""
     found = {}
     for row in original.get("map", []):
-        numbers = {number["name"]: number for number in original.get("numbers", {}).get(row["name"], [])}
-        for name, bit, counter in re.findall(rf"^# map {re.escape(row['name'])}: (.*) is bits (\d+) to \d+ of counter (\d+)$", made, re.M):
-            if int(counter) >= row.get("counters", 1):
-                number = numbers[name]
-                assert bit == "0", made
-                found.setdefault(row["name"], {})[number["place"], number["size"]] = int(counter)
+        places = {number["name"]: number["place"] for number in original.get("numbers", {}).get(row["name"], [])}
+        widest = {}
+        for name, *bits in re.findall(rf"^# map {re.escape(row['name'])}: (.*) is bits (\d+) to (\d+) of counter (\d+)$", made, re.M):
+            first, last, counter = map(int, bits)
+            if counter >= row.get("counters", 1):
+                widest[counter] = max(widest.get(counter, (0, 0, "")), (last + 1 - first, first, name))
+        for counter, (bits, first, name) in widest.items():
+            assert first == 0, made
+            place = places[name] if name in places else int(name.removeprefix(UNNAMED))
+            found.setdefault(row["name"], {})[place, bits // 8] = counter
     return found
 
 

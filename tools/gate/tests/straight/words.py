@@ -44,11 +44,11 @@ NOT_HERE = {
     ),
     "nine counters": (MAP.format("ARRAY", 1, "__u32", "struct { __u64 n[9]; }", "m"), LOOKUP, "have 72 bytes: a value has 1 to 64"),
     "a map that is none": ('int m SEC(".maps");', "return m;", 'm stands in section ".maps", and is no struct'),
-    "a clock": ("", "return bpf_ktime_get_ns() & 1 ? XDP_DROP : XDP_PASS;", "calls bpf_ktime_get_ns, which isn't here"),
+    "a clock": ("", "return bpf_ktime_get_ns() & 1 ? XDP_DROP : XDP_PASS;", "or --clock N answers with a time that goes on by N nanoseconds at each call"),
     "a question for a device": (
         "",
         "__u32 most = 0; return bpf_check_mtu(ctx, 0, &most, 0, 0) ? XDP_DROP : XDP_PASS;",
-        "calls bpf_check_mtu, which isn't here: there is no device to ask: compare the length",
+        "calls bpf_check_mtu, which isn't here: there is no device to ask: --mtu N answers for the packet's own device",
     ),
     "a redirect": ("", "return bpf_redirect(1, 0);", "there is no other device here: XDP_PASS gives the packet to the host, which forwards it; XDP_TX sends it back"),
     "a global of 12 bytes": (
@@ -56,7 +56,7 @@ NOT_HERE = {
         "return seen.b++ ? XDP_PASS : XDP_DROP;",
         "stores to seen: a global that changes is a map's counters here: it has 1, 2, 4 or whole eight bytes",
     ),
-    "a global that begins with a number": ("__u64 seen = 5;", "return seen++ ? XDP_PASS : XDP_DROP;", "stores to seen"),
+    "a global that begins with a great number": ("__u64 seen = 1ULL << 63;", "return seen++ ? XDP_PASS : XDP_DROP;", "stores to seen"),
     "a table of functions": (
         "static int a(void) { return 1; } static int b(void) { return 2; } int (*const table[2])(void) = {a, b};",
         "return table[ctx->rx_queue_index & 1]();",

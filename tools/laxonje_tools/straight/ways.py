@@ -1,0 +1,84 @@
+"""The searches: in several ways, until somebody takes what one finds.
+
+As few numbers are told apart as loops need, their counters alone, all in loops, or all; a meeting is marked as one copy or at all
+copies of its slot, or none, and each access is rebased."""
+from __future__ import annotations
+
+import contextlib
+from typing import TYPE_CHECKING, Iterator, Optional
+
+from .copies import COUNTERS, EVERYWHERE, IN_LOOPS, STEERING
+from .graph import Fail, TooMany, loops
+from .search import BY_ACCESS, BY_COPY, BY_SLOT, Search
+from .settings import instructions_of
+
+if TYPE_CHECKING:
+    from .marks import Result
+
+# the searches, in groups of which the smaller result comes first
+WAYS = [
+    (STEERING, (BY_COPY, BY_SLOT)),
+    (STEERING, (BY_ACCESS,)),
+    (COUNTERS, (BY_COPY, BY_SLOT)),
+    (IN_LOOPS, (BY_COPY, BY_SLOT)),
+    (EVERYWHERE, (BY_COPY, BY_SLOT)),
+]
+
+
+def without_counts(settings: dict, xdpbox: str, result: Result) -> Optional[Result]:
+    """What the same search finds if each count is a difference too: counts are proved neither beside differences nor where maps have
+    parts. None if there is nothing of the kind."""
+    have_parts = any(row.get("parts") for row in settings.get("map", []))
+    if not result.counts or not result.differences and not have_parts:
+        return None
+    try:
+        return Search(settings, xdpbox, *result.way, fuses=False).run()
+    except Fail:
+        return None
+
+
+def searched_again(settings: dict, xdpbox: str, result: Result) -> Iterator[Result]:
+    """What the same search finds of the program written out: with counts, and with each count as a difference."""
+    for fuses in (True, False):
+        with contextlib.suppress(Fail):
+            yield Search(settings, xdpbox, *result.way, fuses=fuses).run()
+
+
+def by_place(settings: dict, xdpbox: str, result: Result) -> Optional[Result]:
+    """What the same search finds if indices into values are told apart by all places of these: the verifier names the numbers of one
+    of the ways that meet there. None if it finds nothing."""
+    try:
+        return Search(settings, xdpbox, *result.way, by_place=True).run()
+    except Fail:
+        return None
+
+
+def in_rows(settings: dict, xdpbox: str, result: Result) -> Iterator[Result]:
+    """What the same search finds if masked numbers are told apart where they are of a row: longer, and proved more often; then that with
+    each count as a difference."""
+    for fuses in (True, False) if result.has_rows else ():
+        with contextlib.suppress(Fail):
+            yield Search(settings, xdpbox, *result.way, in_rows=True, fuses=fuses).run()
+
+
+def searches(settings: dict, xdpbox: str, faults: list[Fail], unguarded: list[Result]) -> Iterator[Result]:
+    """What the searches find, the smaller of two programs first. The next two begin only if nobody took one of
+    these, and none that would have too many copies again, or lead to the same again. Why a search found none is added to the
+    faults. If some results of the first ones want a guard that nobody asked for (`unguarded`), others do too, but for those that
+    tell all numbers apart."""
+    done = set() if loops(instructions_of(settings)) else {COUNTERS, IN_LOOPS}
+    for numbers, ways in WAYS:
+        results = []
+        if numbers in done or unguarded and numbers == IN_LOOPS:
+            continue
+        for way in ways:
+            search = Search(settings, xdpbox, numbers, way)
+            try:
+                results.append(search.run())
+            except Fail as fail:
+                faults.append(fail)
+                done |= {numbers} if isinstance(fail, TooMany) and not search.began else set()
+            done |= set() if search.is_by_way else {numbers}
+            if numbers in done:
+                break
+        yield from sorted(results, key=lambda result: len(result.words))
