@@ -1,4 +1,4 @@
-/* laxonje-pcap: runs the program of a settings text on the packets of a capture of any size. docs/PCAP.md says more, and its manual
+/* laxonje-pcap: runs the program of a settings text, or of an object, on the packets of a capture of any size. docs/PCAP.md says more, and its manual
  * page. */
 #define _DEFAULT_SOURCE /* of POSIX's calls */
 #include "captures.h"
@@ -50,6 +50,8 @@ static enum status refusal(struct laxonje_verdict verdict)
 
 	if (verdict.kind == LAXONJE_SETTINGS)
 		return failed(WORDS, "settings refused L%u", verdict.cause);
+	if (verdict.kind == LAXONJE_OBJECT)
+		return failed(WORDS, "object refused O%u at %u", verdict.cause, verdict.at);
 	size_t length = laxonje_advice(verdict.cause, (uint8_t *)advice, sizeof advice);
 
 	if (length > sizeof advice)
@@ -60,7 +62,24 @@ static enum status refusal(struct laxonje_verdict verdict)
 	return REFUSED;
 }
 
-static enum status load(const char *name, struct report *report)
+/* The names of an object's maps. */
+static struct settings settings_of_object(struct laxonje_program *program)
+{
+	struct settings found = {.map_count = laxonje_map_count(program)};
+
+	for (uint32_t map = 0; map < found.map_count; map++)
+		found.maps[map].length = laxonje_map_name(program, map, (uint8_t *)found.maps[map].bytes, MOST_NAME);
+	return found;
+}
+
+static struct laxonje_verdict load_program(const uint8_t *bytes, size_t length, const char *function, struct laxonje_program *program)
+{
+	if (function)
+		return laxonje_load_object(bytes, length, (const uint8_t *)function, strlen(function), program);
+	return laxonje_load_settings(bytes, length, program);
+}
+
+static enum status load(const struct words *words, struct report *report)
 {
 	uint8_t *text = malloc(MOST_SETTINGS + 1);
 	size_t length = 0;
@@ -68,15 +87,15 @@ static enum status load(const char *name, struct report *report)
 	report->program = laxonje_program_new();
 	if (!text || !report->program)
 		return free(text), failed(MEMORY, "memory");
-	enum status status = read_settings(name, text, &length);
+	enum status status = read_settings(words->settings, text, &length);
 
 	if (status == DONE) {
-		struct laxonje_verdict verdict = laxonje_load_settings(text, length, report->program);
+		struct laxonje_verdict verdict = load_program(text, length, words->function, report->program);
 
 		status = verdict.kind == LAXONJE_ACCEPTED ? DONE : refusal(verdict);
 	}
 	if (status == DONE)
-		report->settings = settings_of(text, length);
+		report->settings = words->function ? settings_of_object(report->program) : settings_of(text, length);
 	free(text);
 	if (status != DONE)
 		return status;
@@ -106,7 +125,7 @@ int main(int count, char **given)
 		return printf("%s\n", laxonje_build()), fflush(stdout) ? INPUT : DONE;
 	if (!read_words(count, given, &words))
 		return failed(WORDS, "words refused"), fputs(usage, stderr), WORDS;
-	enum status status = load(words.settings, &report);
+	enum status status = load(&words, &report);
 
 	if (status == DONE)
 		status = filter(&words, &report);

@@ -5,7 +5,7 @@
 #include <stddef.h>
 #include <stdint.h>
 
-enum { MOST_MAPS = 4, MOST_NAME = 32, MOST_SETTINGS = 1 << 20 };
+enum { MOST_MAPS = 16, MOST_NAME = 32, MOST_SETTINGS = 1 << 20 };
 
 /* A name in UTF-8. It may have any characters, and isn't ended by a zero. */
 struct name {

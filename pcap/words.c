@@ -8,7 +8,7 @@
 
 enum { MOST_SECONDS = 86400 };
 
-const char usage[] = "usage: laxonje-pcap [-j] [-t] [-v] [-i SECONDS] [-w FILE] SETTINGS CAPTURE\n";
+const char usage[] = "usage: laxonje-pcap [-j] [-t] [-v] [-i SECONDS] [-o FUNCTION] [-w FILE] SETTINGS CAPTURE\n";
 const char help[] =
 	"Runs the program of SETTINGS on each packet of CAPTURE, and counts what becomes of them.\n"
 	"\n"
@@ -16,6 +16,7 @@ const char help[] =
 	"  -t       print the time that a packet took\n"
 	"  -v       print a line for each packet\n"
 	"  -i SECONDS  print what was counted so far each time that so many seconds are over\n"
+	"  -o FUNCTION  SETTINGS is an object file that clang made for BPF, and its program this function\n"
 	"  -w FILE  write the packets that are passed or sent back, as the program left them\n"
 	"  --help, --version\n"
 	"\n"
@@ -50,7 +51,7 @@ bool read_words(int count, char **given, struct words *words)
 	int option;
 
 	opterr = 0;
-	while ((option = getopt(count, given, "i:jtvw:")) != -1)
+	while ((option = getopt(count, given, "i:jo:tvw:")) != -1)
 		if (option == 'j')
 			words->is_json = true;
 		else if (option == 't')
@@ -59,6 +60,8 @@ bool read_words(int count, char **given, struct words *words)
 			words->is_told = true;
 		else if (option == 'w' && !words->written)
 			words->written = optarg;
+		else if (option == 'o' && !words->function)
+			words->function = optarg;
 		else if (option == 'i' && !words->interval && seconds_of(optarg))
 			words->interval = seconds_of(optarg);
 		else

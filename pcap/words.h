@@ -10,7 +10,7 @@ enum status { DONE, REFUSED, WORDS, MEMORY, INPUT };
 struct words {
 	bool is_json, is_timed, is_told;
 	unsigned interval; /* in seconds; 0 is none */
-	const char *written, *settings, *capture;
+	const char *written, *function, *settings, *capture; /* function: of an object in the place of settings */
 };
 
 extern const char usage[], help[];

@@ -37,3 +37,15 @@ def run(fd, packet):
     given = struct.pack("<IIIIQQII", fd, 0, len(packet), MOST_LEFT, ctypes.addressof(data), ctypes.addressof(left), 1, 0)
     _, after = bpf(PROG_TEST_RUN, given)
     return struct.unpack_from("<I", after, 4)[0], left.raw[: struct.unpack_from("<I", after, 12)[0]]
+
+
+def answered(code, packet):
+    """What a program answers on a packet, as `run` has it; None if Linux refuses the program."""
+    try:
+        program = load(code)
+    except PermissionError:
+        return None
+    try:
+        return run(program, packet)
+    finally:
+        os.close(program)

@@ -9,7 +9,7 @@ import ctypes
 import os
 import struct
 
-from bpf_call import bpf, load, run, slot
+from bpf_call import answered, bpf, slot
 
 START, STRIDE = 0x3800_0000, 0x1_0000
 MAP_CREATE, MAP_UPDATE, MAP_FREEZE, ARRAY, READ_ONLY = 0, 2, 22, 2, 1 << 7
@@ -103,13 +103,8 @@ def for_linux(code, maps):
 
 
 def answer(code, maps, packet):
-    try:
-        program = load(for_linux(code, maps))
-    except PermissionError:
-        return "refused"
-    number, left = run(program, packet)
-    os.close(program)
-    return f"{number} {left.hex()}"
+    found = answered(for_linux(code, maps), packet)
+    return "refused" if found is None else f"{found[0]} {found[1].hex()}"
 
 
 def rows_of_constants():

@@ -8,7 +8,7 @@ import ctypes
 import os
 import struct
 
-from bpf_call import bpf, load, run, slot
+from bpf_call import answered, bpf, slot
 
 MAP_CREATE, MAP_UPDATE, ARRAY, VALUES = 0, 2, 2, 2
 WIDE_LOAD, OF_MAP, LOOKUP = 0x18, 1, 1
@@ -57,13 +57,8 @@ def for_linux(code, fd):
 
 
 def answer(code, fd):
-    try:
-        program = load(for_linux(code, fd))
-    except PermissionError:
-        return "refused"
-    number, _ = run(program, PACKET)
-    os.close(program)
-    return str(number)
+    found = answered(for_linux(code, fd), PACKET)
+    return "refused" if found is None else str(found[0])
 
 
 def rows_of_parts():

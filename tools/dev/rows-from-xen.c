@@ -215,6 +215,28 @@ static void all_segments(void)
 	}
 }
 
+/* An extra of segmentation in the rx entry behind the first, where netif.h has a response, and the flags of the first response. */
+static void rx_extra(uint8_t type, uint16_t size)
+{
+	netif_rx_back_ring_t rx;
+	BACK_RING_INIT(&rx, &page.rx, PAGE);
+	struct netif_extra_info info = { .type = XEN_NETIF_EXTRA_TYPE_GSO, .u.gso = { .size = size, .type = type } };
+	memcpy(RING_GET_RESPONSE(&rx, 1), &info, sizeof info);
+	uint32_t word[2];
+	memcpy(word, RING_GET_RESPONSE(&rx, 1), sizeof word);
+	unsigned bits = NETRXF_data_validated | NETRXF_csum_blank | NETRXF_extra_info;
+	printf("rx-extra %u %u = %u %u, %u %u\n", size, type, word[0], word[1], bits, bits | NETRXF_more_data);
+}
+
+static void rx_extras(void)
+{
+	static const uint16_t sizes[] = { 1, 536, 1448, 0xFFFF };
+	for (size_t i = 0; i < COUNT(sizes); i++) {
+		rx_extra(XEN_NETIF_GSO_TYPE_TCPV4, sizes[i]);
+		rx_extra(XEN_NETIF_GSO_TYPE_TCPV6, sizes[i]);
+	}
+}
+
 static void extras(void)
 {
 	struct netif_extra_info none = { .type = XEN_NETIF_EXTRA_TYPE_NONE };
@@ -247,6 +269,7 @@ int main(void)
 	flags();
 	extras();
 	all_segments();
+	rx_extras();
 	grants();
 	return 0;
 }
