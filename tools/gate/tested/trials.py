@@ -7,6 +7,7 @@ import re
 import tempfile
 
 from laxonje_tools import wrong_bodies
+from laxonje_tools.waits import Waits
 from tested.common import script
 
 # A source with two functions and a method, and what the prover says of them.
@@ -218,6 +219,31 @@ def trial_tests():
         yield "an edit without a text", tried.outcomes(tried.edit("", "")) == (["BAD"], 0)
         tried.source.write_text("fn first()\n    ensures { result ≡ three }\n{\n    one\n}\n")
         yield "an edit of a clause", tried.outcomes(tried.edit("three", "four")) == (["BAD"], 0)
+
+
+def waiting_tests():
+    """Edits of functions that wait for another function that an edit changes."""
+    edits = script("gate/more-edits")
+    with tempfile.TemporaryDirectory() as room, Room(edits, pathlib.Path(room)) as tried:
+        first, wrong, last = tried.edit("one", "waits for second"), tried.edit("two", "wrong"), tried.edit("four", "waits for second")
+        yield "two that wait for a third are tried again together", tried.outcomes(first, wrong, last) == (["CLAUSE"] * 3, 2)
+        behind = tried.edit("four", "waits for first")
+        yield "one that waits for another that waits, apart", tried.outcomes(first, wrong, behind) == (["CLAUSE"] * 3, 3)
+        other, again = tried.edit("four", "wrong"), tried.edit("four", "sum")
+        yield "one that waits, with the next edits", tried.outcomes(first, wrong, other, again) == (["CLAUSE"] * 3 + ["SAFETY"], 2)
+        harmless = tried.edit("four", "right")
+        yield "a harmless one among them", tried.outcomes(first, wrong, harmless) == (["CLAUSE", "CLAUSE", "PROVED"], 3)
+        harmless = tried.edit("one", "right")
+        waits = tried.edit("four", "waits for second")
+        yield "a harmless one beside one that waits", tried.outcomes(harmless, wrong, waits) == (["CLAUSE", "CLAUSE", "PROVED"], 3)
+        each_other = tried.edit("one", "waits for last"), tried.edit("four", "waits for first")
+        yield "two that wait for each other are tried alone", tried.outcomes(*each_other)[1] > 2
+    waits = Waits()
+    waits.add("fn low::a::f: not proved; it calls `low::b::g` and `low::c::h`, which are not proved", "low")
+    waits.add("fn low::b::g: no proof: it passes the block `low::d::Held`, which is not proved", "low")
+    yield "what it waits for", waits.behind("f") == {"b::g", "c::h", "d::Held"}
+    yield "a function of a block that it waits for", waits.are_between(["d::Held::eq"], ["f"])
+    yield "no function that it waits for", not waits.are_between(["a::f"], ["d::Other::eq"]) and not waits.are_between(["c::h"], ["b::g"])
 
 
 def kept_tests():
