@@ -20,18 +20,20 @@ use Rattle.bpf_insn.specs.declared.refusal.Cause.{Cause}
 use Rattle.bpf_insn.specs.declared.refusal.Cause.TheVariants as cause
 use Rattle.bpf_insn.specs.declared.insn.Insn.{Insn}
 use Rattle.bpf_insn.specs.declared.insn.Insn.TheVariants.{Alu}
+use Rattle.bpf_note.specs.declared.op.Op.{Op}
 use Rattle.bpf_note.specs.declared.op.Op.TheVariants as ops
 use Rattle.bpf_note.specs.declared.val.Val.TheVariants.{Num}
 use Rattle.bpf_note.specs.State.{State}
 use Rattle.bpf_note.specs.Facts.{Facts, with_reg}
 use Rattle.bpf_note.specs.Describes.{Describes, Reads, meaning}
-use Rattle.bpf_flow.specs.Edges.{Answer}
+use Rattle.bpf_flow.specs.Edges.{Answer, Edges}
 use Rattle.bpf_flow.specs.Gives.{Fails}
 use Rattle.bpf_flow.specs.Sound.{Accounts, Covers}
 use Rattle.bpf_flow.specs.Step.{Outcome, Next, Loads, Adds, Exited, Fault, exec, operand, LeadsTo}
 use Rattle.bpf_same.specs.LinearForms.{plus}
 use Rattle.bpf_same.specs.Simulated.{IsRefused}
-use Rattle.bpf_same.specs.Ranges.{Lies, IsRead, IsOperandRead, IsAdded, IsUnited, IsMultiplied, IsMasked, IsSummed, IsSharper}
+use Rattle.bpf_same.specs.Ranges.{Lies, IsRead, IsMoved, IsOperandRead, IsAdded, IsUnited, IsMultiplied, IsMasked, IsSummed, AreBounded, IsNarrowed}
+use Rattle.bpf_same.specs.declared.sharper.Bounded.{Bounded}
 use Rattle.bpf_same.proofs.ComputeLemmas.{added, computes_as, mod_word}
 use Rattle.bpf_same.proofs.StepLemmas.{alu_computes}
 use Rattle.bpf_same.proofs.PairLemmas.{operand_is}
@@ -92,6 +94,15 @@ unfolding computed
 and_value x y l m = ap (λ (x : ℕ). bit_and x (y % 2 ^ 64)) (mod_word x l) ∙ ap (bit_and x) (mod_word y m)
 
 -- what a sum, a product, or the bits of one or of both, comes to
+added_one : (from to by low high : ℕ) → IsMoved from to by low high → IsAdded from to by by low high
+added_one from to by low high moved = λ o p here there.
+    let one : there.x ≡ by = omega (arith, there.least, there.most) in
+    subst (λ (q : Option ℕ). Lies (plus o q) low high) (sym (there.is ∙ ap Some one)) (moved o here)
+
+pub added_one_if : (from to first last : ℕ) (r : Option Range) → first ≡ last → IfSome r (λ r. IsMoved from to first r.low r.high) → IfSome r (λ r. IsAdded from to first last r.low r.high)
+added_one_if from to first last None same moved = tt
+added_one_if from to first last (Some r) same moved = subst (λ (l : ℕ). IsAdded from to first l r.low r.high) same (added_one from to first r.low r.high moved)
+
 pub adds_if : (o : AluOp) (from to first last : ℕ) (r : Option Range) → o ≡ op.Add → IfSome r (λ r. IsAdded from to first last r.low r.high) → IfSome r (λ r. IsCombined o from to first last r.low r.high)
 adds_if o from to first last None is sum = tt
 adds_if o from to first last (Some r) is sum = λ a b x k p q. subst (λ (o : Option ℕ). Lies o r.low r.high) (sym (added a b x (computes_as o op.Add true true a b x is refl k))) (sum a b p q)
@@ -165,24 +176,33 @@ described m u k low high l d = record {
     by j false e = d.regs j
 
 -- nothing more is known
-pub as_known : (i : Insn) (n m : Facts) (q r : ℕ) (l : Facts) → r ≡ q → l ≡ m → IsSharper i n q m r l
-as_known i n m q r l same e = record { same = same; describes = λ s u label d h k. subst (λ (m : Facts). Describes m u) (sym e) k }
+pub as_known : (q : ℕ) (m : Facts) (known : Option Bounded) (r : ℕ) (l : Facts) → r ≡ q → l ≡ m → IsNarrowed q m known r l
+as_known q m known r l same e = record { same = same; describes = λ s lies d. subst (λ (m : Facts). Describes m s) (sym e) d }
 
--- what a sum may be is known too
-pub sum_known : (i : Insn) (n m : Facts) (q r : ℕ) (l : Facts) (k low high : ℕ) → r ≡ q → l ≡ with_reg m k (Num low high) → IsSummed i n k low high → IsSharper i n q m r l
-sum_known i n m q r l k low high same e sum = record { same = same; describes = λ s u label d h there. subst (λ (m : Facts). Describes m u) (sym e) (described m u k low high (sum s u label d h) there) }
+-- what a register lies between is known too
+pub range_known : (q : ℕ) (m : Facts) (b : Bounded) (r : ℕ) (l : Facts) → r ≡ q → l ≡ with_reg m b.register (Num b.range.low b.range.high) → IsNarrowed q m (Some b) r l
+range_known q m b r l same e = record { same = same; describes = λ s lies d. subst (λ (m : Facts). Describes m s) (sym e) (described m s b.register b.range.low b.range.high lies d) }
 
-covered : (q r : ℕ) (m l : Facts) (u : State) → r ≡ q → (Describes m u → Describes l u) → Covers ((q, m) ∷ []) u → Covers ((r, l) ∷ []) u
-covered q r m l u same f (inl h) = inl (h.0 ∙ sym same, f h.1)
-covered q r m l u same f (inr h) = absurd h
+-- what an instruction makes lies between these numbers
+pub sum_bounded : (i : Insn) (n : Facts) (known : Option Bounded) → IfSome known (λ r. IsSummed i n r.register r.range.low r.range.high) → (s u : State) (label : Option Op) → Describes n s → LeadsTo (exec i s) label u → AreBounded known u
+sum_bounded i n None sum s u label d h = tt
+sum_bounded i n (Some b) sum s u label d h = sum s u label d h
+
+pub covered_as : (q r : ℕ) (m l : Facts) (u : State) → r ≡ q → (Describes m u → Describes l u) → Covers ((q, m) ∷ []) u → Covers ((r, l) ∷ []) u
+covered_as q r m l u same f (inl h) = inl (h.0 ∙ sym same, f h.1)
+covered_as q r m l u same f (inr h) = absurd h
+
+-- other edges account for an outcome where they cover what these cover
+pub accounted_as : (es fs : Edges) (o : Outcome) → ((label : Option Op) (u : State) → LeadsTo o label u → Covers es u → Covers fs u) → Accounts es o → Accounts fs o
+accounted_as es fs (Next t) f a = f None t refl a
+accounted_as es fs (Loads x y z go) f a = λ v fits. f (Some (ops.Load x y z v)) (go v) (refl, refl, refl, fits, refl) (a v fits)
+accounted_as es fs (Adds x y z delta go) f a = λ v fits. f (Some (ops.Add x y z delta v)) (go v) (refl, refl, refl, refl, fits, refl) (a v fits)
+accounted_as es fs (Exited x) f a = tt
+accounted_as es fs Fault f a = a
 
 -- what follows from what an edge says may stand in its place
-pub accounted : (i : Insn) (n m l : Facts) (q r : ℕ) (s : State) (o : Outcome) → o ≡ exec i s → Describes n s → IsSharper i n q m r l → Accounts ((q, m) ∷ []) o → Accounts ((r, l) ∷ []) o
-accounted i n m l q r s (Next t) e d k a = covered q r m l t k.same (k.describes s t None d (subst (λ (o : Outcome). LeadsTo o None t) e refl)) a
-accounted i n m l q r s (Loads x y z go) e d k a = λ v fits. covered q r m l (go v) k.same (k.describes s (go v) (Some (ops.Load x y z v)) d (subst (λ (o : Outcome). LeadsTo o (Some (ops.Load x y z v)) (go v)) e (refl, refl, refl, fits, refl))) (a v fits)
-accounted i n m l q r s (Adds x y z delta go) e d k a = λ v fits. covered q r m l (go v) k.same (k.describes s (go v) (Some (ops.Add x y z delta v)) d (subst (λ (o : Outcome). LeadsTo o (Some (ops.Add x y z delta v)) (go v)) e (refl, refl, refl, refl, fits, refl))) (a v fits)
-accounted i n m l q r s (Exited x) e d k a = tt
-accounted i n m l q r s Fault e d k a = a
+pub accounted : (i : Insn) (n m l : Facts) (known : Option Bounded) (q r : ℕ) (s : State) → Describes n s → IsNarrowed q m known r l → IfSome known (λ r. IsSummed i n r.register r.range.low r.range.high) → Accounts ((q, m) ∷ []) (exec i s) → Accounts ((r, l) ∷ []) (exec i s)
+accounted i n m l known q r s d k sum = accounted_as ((q, m) ∷ []) ((r, l) ∷ []) (exec i s) (λ label u h. covered_as q r m l u k.same (k.describes u (sum_bounded i n known sum s u label d h)))
 
 -- a cause of refusal that isn't out of memory is the rule's
 pub refused_by_rule : (c : Cause) (a : Answer) → (c ≡ cause.Memory → ⊥) → Fails c a → IsRefused a

@@ -37,6 +37,17 @@ pub record Compared (cond : Condition) (wide : Bool) (o p : Option ℕ) (b : Boo
   pub second : p ≡ Some y
   pub met : is_met cond wide x y ≡ b
 
+-- where this is known, register k holds at least what register j does
+pub record AreOrdered (o p : Option ℕ) : Type 0 where
+  pub x : ℕ
+  pub y : ℕ
+  pub first : o ≡ Some x
+  pub second : p ≡ Some y
+  pub most : y ≤ x
+
+abbrev pub IsAtLeast : Facts → Relation → ℕ → ℕ → Type 0
+IsAtLeast n e k j = (s : State) (g : ℕ → Option ℕ) → Describes n s → Hold e (held s) g → AreOrdered (s.reg k) (s.reg j)
+
 -- a jump that is taken where this one isn't; or one that says nothing
 abbrev pub opposed : Option Condition → Register → Operand → ℤ → Insn
 opposed None dst src off = Ja false (pos 0)

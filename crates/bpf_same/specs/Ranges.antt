@@ -1,7 +1,14 @@
 -- For proofs: no claim rests on this file.
 -- Between which numbers something lies.
-use Rattle.std.specs.Prelude.{ℕ, ◌*◌, ◌^◌, ◌≡◌, ◌<◌, ◌≤◌, length, Option, Some, bit_and, bit_or}
+use Rattle.std.specs.Prelude.{ℕ, ℤ, ◌*◌, ◌^◌, ◌≡◌, ◌<◌, ◌≤◌, ◌⊎◌, length, Bool, true, Option, Some, IfSome, bit_and, bit_or}
+use Rattle.bpf_insn.specs.Conditions.{relation}
+use Rattle.bpf_insn.specs.Arithmetic.{computed}
+use Rattle.bpf_insn.specs.Register.{number}
+use Rattle.bpf_insn.specs.declared.alu_op.AluOp.TheVariants.{Lsh, Arsh}
+use Rattle.bpf_insn.specs.declared.condition.Condition.{Condition}
+use Rattle.bpf_insn.specs.declared.register.Register.{Register}
 use Rattle.bpf_insn.specs.declared.insn.Insn.{Insn}
+use Rattle.bpf_insn.specs.declared.insn.Insn.TheVariants.{Jump}
 use Rattle.bpf_insn.specs.declared.operand.Operand.{Operand}
 use Rattle.bpf_note.specs.declared.val.Val.{Val}
 use Rattle.bpf_note.specs.declared.op.Op.{Op}
@@ -9,7 +16,10 @@ use Rattle.bpf_note.specs.State.{State}
 use Rattle.bpf_note.specs.Facts.{Facts}
 use Rattle.bpf_note.specs.Describes.{Describes, Reads, meaning}
 use Rattle.bpf_flow.specs.Step.{exec, operand, LeadsTo}
+use Rattle.bpf_same.specs.declared.range.Range.{Range}
 use Rattle.bpf_same.specs.declared.relation.Relation.{Relation}
+use Rattle.bpf_same.specs.declared.sharper.Bounded.{Bounded}
+use Rattle.bpf_same.specs.Decided.{Compared}
 use Rattle.bpf_same.specs.LinearForms.{held, plus, Hold}
 
 -- a number that is there, from the least to the greatest
@@ -63,11 +73,35 @@ IsMultiplied from to first last low high = (x y : ℕ) → from ≤ x → x ≤ 
 abbrev pub IsMasked : ℕ → ℕ → ℕ → ℕ → ℕ → Type 0
 IsMasked from to mask low high = (x : ℕ) → from ≤ x → x ≤ to → (low ≤ bit_and x mask) × (bit_and x mask ≤ high)
 
+-- the numbers from one to another, shifted to the left by each number from one to another, lie between these numbers
+abbrev pub IsShiftedLeft : ℕ → ℕ → ℕ → ℕ → ℕ → ℕ → Type 0
+IsShiftedLeft from to first last low high = (x by : ℕ) → from ≤ x → x ≤ to → first ≤ by → by ≤ last → (low ≤ computed Lsh true x by) × (computed Lsh true x by ≤ high)
+
+-- the numbers from one to another, shifted to the right with copies of their sign, lie between these numbers
+abbrev pub IsShiftedRight : ℕ → ℕ → ℕ → ℕ → ℕ → Type 0
+IsShiftedRight from to by low high = (x : ℕ) → from ≤ x → x ≤ to → (low ≤ computed Arsh true x by) × (computed Arsh true x by ≤ high)
+
 -- after the instruction register k lies between these numbers
 abbrev pub IsSummed : Insn → Facts → ℕ → ℕ → ℕ → Type 0
 IsSummed i n k low high = (s u : State) (label : Option Op) → Describes n s → LeadsTo (exec i s) label u → Lies (u.reg k) low high
 
--- what is known at slot q after the instruction, m, is followed by what is known at slot r, l
-pub record IsSharper (i : Insn) (n : Facts) (q : ℕ) (m : Facts) (r : ℕ) (l : Facts) : Type 0 where
+-- of the numbers from one to another, those for which a condition with c holds, or doesn't, lie between these
+abbrev pub IsLeft : Condition → Bool → ℕ → ℕ → ℕ → ℕ → ℕ → Type 0
+IsLeft cond is_met from to c low high = (x : ℕ) → from ≤ x → x ≤ to → relation cond (2 ^ 64) x c ≡ is_met → (low ≤ x) × (x ≤ high)
+
+-- where a conditional jump is taken, or isn't, register k lies between these numbers
+abbrev pub IsLeftOn : Insn → Bool → Facts → ℕ → ℕ → ℕ → Type 0
+IsLeftOn i way n k low high = (cond : Condition) (wide : Bool) (dst : Register) (src : Operand) (off : ℤ) (s : State) → i ≡ Jump cond wide dst src off → Describes n s → Compared cond wide (s.reg (number dst)) (operand s src) way → Lies (s.reg k) low high
+
+-- after the instruction register k lies between the numbers of one range or of another one
+abbrev pub IsParted : Insn → Facts → ℕ → Range → Range → Type 0
+IsParted i n k above below = (s u : State) (label : Option Op) → Describes n s → LeadsTo (exec i s) label u → Lies (u.reg k) above.low above.high ⊎ Lies (u.reg k) below.low below.high
+
+-- a register lies between the numbers of a range, if there is one
+abbrev pub AreBounded : Option Bounded → State → Type 0
+AreBounded known s = IfSome known (λ r. Lies (s.reg r.register) r.range.low r.range.high)
+
+-- what is known at slot q, m, and between which numbers a register lies there, is followed by what is known at slot r, l
+pub record IsNarrowed (q : ℕ) (m : Facts) (known : Option Bounded) (r : ℕ) (l : Facts) : Type 0 where
   pub same : r ≡ q
-  pub describes : (s u : State) (label : Option Op) → Describes n s → LeadsTo (exec i s) label u → Describes m u → Describes l u
+  pub describes : (s : State) → AreBounded known s → Describes m s → Describes l s

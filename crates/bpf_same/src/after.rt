@@ -7,7 +7,7 @@ use crate::relation::Relation;
 use crate::room::{LONGEST, ROOMS, Room};
 use crate::shifted::is_shift;
 use crate::step::{PACKET_START, Step, alters};
-use bpf_insn::{AluOp, Insn, Operand, Register};
+use bpf_insn::{AluOp, Insn, Operand};
 use bpf_note::Val;
 
 /// A linear form before a step, by terms that hold the same after it.
@@ -41,14 +41,32 @@ fn term_of(step: &Step, part: u8) -> Option<u8>
     None
 }
 
-/// The form of a term after a step, by terms that hold the same after it or by one that differs by a constant, unless that is itself.
+/// A sum before a step, by the same terms, which differ by constants after it.
+fn sum_after(step: &Step, sum: LinearForm) -> Option<LinearForm> {
+    let mut total = sum;
+    if sum.terms.count_ones() < 2 {
+        return None;
+    }
+    for part in 0..TERMS {
+        if sum.has(part) {
+            let there = step.new_after(part)?;
+            if there.terms != LinearForm::held(part).terms {
+                return None;
+            }
+            total.constant = total.constant.wrapping_sub(there.constant);
+        }
+    }
+    Some(total)
+}
+
+/// The form of a term after a step, by terms that hold the same after it or by such that differ by a constant, unless that is itself.
 fn form_after(step: &Step, found: &Relation, term: u8) -> Option<LinearForm>
     requires { term < 64 }
 {
     let here = step.new_after(term)?;
     match moved(step, here) {
         Some(form) => (form != LinearForm::held(term)).then_some(form),
-        None => form_beside(step, found, here, term),
+        None => form_beside(step, found, here, term).or(sum_after(step, here)),
     }
 }
 
@@ -72,8 +90,17 @@ pub(crate) fn form_beside(
     None
 }
 
-/// Makes registers that held what another one was subtracted from the sum of that one and the difference.
-fn add_sums(step: &Step, found: &mut Relation, dst: Register, src: Register) {
+/// Makes registers that held what a step subtracts another one from the sum of that one and the difference.
+fn add_differences(step: &Step, found: &mut Relation) {
+    let Insn::Alu {
+        op: AluOp::Sub,
+        wide: true,
+        dst,
+        src: Operand::Register(src),
+    } = step.insn
+    else {
+        return;
+    };
     let difference = dst.number();
     if dst == src || step.new_after(difference).is_some() {
         return;
@@ -87,19 +114,6 @@ fn add_sums(step: &Step, found: &mut Relation, dst: Register, src: Register) {
         if register != difference && register != src.number() && step.new_after(register) == whole {
             found.new[register as usize] = Some(sum);
         }
-    }
-}
-
-/// Makes registers sums after a step that makes a difference.
-fn add_differences(step: &Step, found: &mut Relation) {
-    match step.insn {
-        Insn::Alu {
-            op: AluOp::Sub,
-            wide: true,
-            dst,
-            src: Operand::Register(src),
-        } => add_sums(step, found, dst, src),
-        _ => {}
     }
 }
 
@@ -168,26 +182,22 @@ fn noted_room(step: &Step, found: &Relation, register: u8) -> Option<Room>
     })
 }
 
-/// The room up to an address that a jump compares. A jump leaves what terms hold.
-fn compared_room(step: &Step) -> Option<Room> {
+/// The room up to an address that a jump compares, and the one of numbers. A jump leaves what terms hold.
+fn compared_rooms(step: &Step) -> Option<(Room, Room)> {
     let address = step.compared()?;
     let form = step.before.new_form(address.register);
     let last = form.constant.wrapping_add(address.by);
-    Some(Room {
+    let room = Room {
         first: last.wrapping_sub(address.distance),
         last,
         terms: form.terms,
-    })
-}
-
-/// The room of numbers up to an address that a jump compares.
-fn reached_room(step: &Step) -> Option<Room> {
-    let address = step.compared()?;
-    Some(Room {
+    };
+    let reached = Room {
         first: PACKET_START,
         last: PACKET_START.wrapping_add(address.distance),
         terms: 0,
-    })
+    };
+    Some((room, reached))
 }
 
 /// Adds the rooms before a step, and those that the note after it says.
@@ -204,11 +214,9 @@ fn add_rooms_after(step: &Step, found: &mut Relation) {
             add_room(found, room);
         }
     }
-    if let Some(room) = compared_room(step) {
+    if let Some((room, reached)) = compared_rooms(step) {
         add_room(found, room);
-    }
-    if let Some(room) = reached_room(step) {
-        add_room(found, room);
+        add_room(found, reached);
     }
 }
 

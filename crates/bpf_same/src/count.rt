@@ -11,7 +11,7 @@ use bpf_insn::{AluOp, Insn, Operand, Register, Size};
 
 /// The counter's address, and masks of registers: those that hold the same in both programs, and those that hold what was loaded more
 /// in the old one.
-#[derive(Clone, Copy, Debug, PartialEq, Eq, Drop)]
+#[derive(Clone, Copy, PartialEq, Eq, Drop)]
 pub(crate) struct Count {
     pub(crate) base: Register,
     pub(crate) off: i16,

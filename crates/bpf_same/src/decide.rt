@@ -4,11 +4,13 @@ ghost use Rattle.bpf_insn.specs.declared.insn.Insn.TheVariants as insns;
 ghost use Rattle.bpf_note.specs.Parts.{facts};
 ghost use Rattle.bpf_insn.specs.Conditions.{is_met, relation};
 ghost use Rattle.bpf_insn.specs.Register.{number};
-ghost use Rattle.bpf_same.specs.Decided.{IsBetween, IsDecided, IsOrdered, IsPacketEnd};
+ghost use Rattle.bpf_same.specs.Decided.{IsAtLeast, IsBetween, IsDecided, IsOrdered, IsPacketEnd};
 ghost use Rattle.bpf_same.specs.LinearForms.{Hold, IsAddress};
 
-use crate::range::{operand_span, span};
+use crate::linear_form::REGISTERS;
+use crate::range::{operand_span, range_by, span};
 use crate::relation::Relation;
+use crate::signed::between_signed;
 use bpf_insn::{Condition, Insn, Operand, Register, holds};
 use bpf_note::{Note, Val};
 
@@ -27,7 +29,7 @@ fn between_ranges(cond: Condition, lo: u64, hi: u64, low: u64, high: u64) -> Opt
         Condition::Less if high <= lo => Some(false),
         Condition::LessOrEqual if hi <= low => Some(true),
         Condition::LessOrEqual if high < lo => Some(false),
-        _ => None,
+        _ => between_signed(cond, lo, hi, low, high),
     }
 }
 
@@ -144,6 +146,64 @@ fn decided_by_spans(insn: Insn, relation: &Relation, note: &Note) -> Option<bool
     }
 }
 
+/// Returns whether a register holds at least what another one does: the other one's form less its own, and less 1, is a number below 2 ^ 64
+/// that the other one doesn't come to.
+fn holds_at_least(relation: &Relation, note: &Note, one: u8, other: u8) -> bool
+    requires small { one < 11 }
+    requires other { other < 11 }
+    ensures { IsTrue result → IsAtLeast (facts note.now) relation.now one other }
+{
+    let Some(rest) = relation.new_form(other).minus(relation.new_form(one)) else {
+        return false;
+    };
+    let before = rest.moved(u64::MAX);
+    let register = before.terms.trailing_zeros();
+    if register >= u32::from(REGISTERS) {
+        return false;
+    }
+    let register = register as u8;
+    let Some(there) = span(note, relation, register) else {
+        return false;
+    };
+    let Some(range) = range_by(before, relation.new_form(register), there) else {
+        return false;
+    };
+    let Some(most) = span(note, relation, other) else {
+        return false;
+    };
+    most.high <= range.low
+}
+
+/// Returns whether a jump is taken that compares 64 bits of registers of which one holds as much as the other one and a difference.
+fn decided_by_difference(insn: Insn, relation: &Relation, note: &Note) -> Option<bool>
+    ensures { IfSome result (IsDecided insn relation.now (facts note.now)) }
+{
+    let Insn::Jump {
+        cond,
+        wide,
+        dst,
+        src,
+        ..
+    } = insn
+    else {
+        return None;
+    };
+    let Operand::Register(other) = src else {
+        return None;
+    };
+    if !wide {
+        return None;
+    }
+    if !holds_at_least(relation, note, dst.number(), other.number()) {
+        return None;
+    }
+    match cond {
+        Condition::GreaterOrEqual => Some(true),
+        Condition::Less => Some(false),
+        _ => None,
+    }
+}
+
 /// Returns whether a conditional jump compares a register that can hold no number: then no state is so.
 pub(crate) fn is_never_reached(insn: Insn, relation: &Relation, note: &Note) -> bool
     ensures { IsTrue result → (b : Bool) → IsDecided insn relation.now (facts note.now) b }
@@ -161,8 +221,11 @@ pub(crate) fn is_never_reached(insn: Insn, relation: &Relation, note: &Note) -> 
 pub(crate) fn decided(insn: Insn, relation: &Relation, note: &Note) -> Option<bool>
     ensures { IfSome result (IsDecided insn relation.now (facts note.now)) }
 {
-    match decided_by_room(insn, relation, note) {
+    if let Some(way) = decided_by_room(insn, relation, note) {
+        return Some(way);
+    }
+    match decided_by_spans(insn, relation, note) {
         Some(way) => Some(way),
-        None => decided_by_spans(insn, relation, note),
+        None => decided_by_difference(insn, relation, note),
     }
 }

@@ -73,18 +73,6 @@ impl Fusion {
         Ok(Fusion { code, roles })
     }
 
-    fn put(&mut self, at: usize, insn: Insn) {
-        if at < self.code.len() {
-            self.code[at] = insn;
-        }
-    }
-
-    fn mark(&mut self, at: usize, spot: Role) {
-        if at < self.roles.len() {
-            self.roles[at] = spot;
-        }
-    }
-
     /// The last load from an address before a store, its slot and the register that it writes, if no other count is between.
     fn load_before(&self, store: usize, address: Address) -> Option<(usize, Register)> {
         for back in 1..=MOST_COUNTED as usize {
@@ -109,12 +97,15 @@ impl Fusion {
             dst: register,
             src: Operand::Immediate(0),
         };
-        self.put(load, zero);
-        self.put(store, addition);
-        for at in load..=store {
-            self.mark(at, Role::Inside);
+        if load < self.code.len() && store < self.code.len() {
+            self.code[load] = zero;
+            self.code[store] = addition;
         }
-        self.mark(load, Role::Load);
+        for at in load..=store {
+            if at < self.roles.len() {
+                self.roles[at] = if at == load { Role::Load } else { Role::Inside };
+            }
+        }
         Some(())
     }
 

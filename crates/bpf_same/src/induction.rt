@@ -4,18 +4,29 @@ ghost use Rattle.std.specs.Global.{Box};
 ghost use Rattle.bpf_note.specs.Facts.{entry};
 ghost use Rattle.bpf_note.specs.Parts.{Noted, facts};
 ghost use Rattle.bpf_same.specs.Candidates.{candidate_of};
-ghost use Rattle.bpf_same.specs.Simulated.{IsSimulation, IsInitial, Simulates, SimulatesSlot, SimulatesFrom};
+ghost use Rattle.bpf_same.specs.Simulated.{IsSimulation, IsInitial, Simulates, SimulatesPlain, SimulatesSlot, SimulatesFrom};
 
 use crate::at_slot::{insn_at, relation_at, witness_at};
 use crate::relation::Relation;
 use crate::simulation::{Point, Simulation};
 use crate::start::{holds_at_entry, is_without_contents};
 use crate::witness::Witness;
+use bpf_flow::Successor;
 use bpf_insn::Insn;
 use bpf_note::{MapShape, Note};
 use std::alloc::{AllocError, Global};
 
 impl Simulation<'_> {
+    /// Returns whether the old program simulates an instruction that leads to one slot, or to another one.
+    pub(crate) fn simulates_both(&self, before: &Point, one: &Successor, other: &Successor) -> bool
+        requires { length self.now.old.now ≤ 4096 }
+        ensures { IsTrue result → SimulatesPlain (candidate_of self.now) before.now.witness.stutters before.now.witness.at before.now.insn before.now.relation.now (facts before.now.note.now)
+            (facts one.now.note.value) one.now.pc × SimulatesPlain (candidate_of self.now) before.now.witness.stutters before.now.witness.at before.now.insn before.now.relation.now (facts before.now.note.now)
+            (facts other.now.note.value) other.now.pc }
+    {
+        self.simulates_plain(before, one) && self.simulates_plain(before, other)
+    }
+
     /// Returns whether the old program simulates an instruction, whichever of the notes at its slot describes the state.
     fn simulates_each(
         &self,

@@ -2,11 +2,12 @@
 //!
 //! - `same`: the comparison
 //! - `witness`: the slot of the old program that is claimed to match a slot of the new one
-//! - `find`: notes and a relation for each slot, as instructions leave them (`sharper`); `simulation`: whether the old program
+//! - `find`, `found`: notes and a relation for each slot, as instructions leave them (`sharper`, `shift`, `signed`), or what is preserved
+//!   of it (`prune`); `simulation`: whether the old program
 //!   simulates an instruction (`at_slot`, `jump`); `induction`: whether the relations hold at the start and each instruction is simulated
 //! - `relation`: the old program's registers, as a `linear_form` of the new one's terms: at the `start`, `after` a `step`, where ways
 //!   `meet`; `room`: forms that are addresses in the packet; `bound`: the ranges of registers; `shifted`: what they hold in their upper
-//!   halves; `preserve`: whether a step preserves the relations, `address`: of rooms
+//!   halves; `mask`: what a mask leaves; `preserve`: whether a step preserves the relations, `address`: of rooms
 //! - `caught`: what the old program does alone
 //! - `copied`: whether both programs do the same; `access`: what a copied access may touch
 //! - `fuse`: the old program with its counts (a load, additions and a store of one counter) made additions; `fused`: whether it is the
@@ -30,6 +31,7 @@ mod count;
 mod decide;
 mod equal;
 mod find;
+mod found;
 mod found_content;
 mod fuse;
 mod fused;
@@ -38,16 +40,20 @@ mod jump;
 mod laws;
 mod linear_form;
 mod live;
+mod mask;
 mod meet;
 mod obstacle;
 mod preserve;
+mod prune;
 mod range;
 mod relation;
 mod renumbered;
 mod room;
 mod same;
 mod sharper;
+mod shift;
 mod shifted;
+mod signed;
 mod simulation;
 mod start;
 mod step;

@@ -10,7 +10,7 @@ pub(crate) const TERMS: u8 = 64;
 pub(crate) const REGISTERS: u8 = 11;
 
 /// A constant and what these terms hold, a bit each.
-#[derive(Clone, Copy, Debug, PartialEq, Eq, Drop)]
+#[derive(Clone, Copy, PartialEq, Eq, Drop)]
 pub(crate) struct LinearForm {
     pub(crate) constant: u64,
     pub(crate) terms: u64,

@@ -13,7 +13,7 @@ use bpf_insn::Insn;
 use bpf_note::{MapShape, Note};
 use std::alloc::{AllocError, Global};
 
-/// Why a slot isn't shown to be simulated.
+/// The reason why a slot isn't shown to be simulated.
 #[derive(Clone, Copy, Debug, PartialEq, Eq, Drop)]
 pub enum ObstacleKind {
     /// The next slot has no witness, or the old program doesn't get there.
@@ -34,19 +34,15 @@ pub struct Obstacle {
     pub kind: ObstacleKind,
 }
 
-/// Where the old program is, and why it doesn't go on.
+/// The place of the old program, and the reason why it doesn't go on.
 #[derive(Clone, Copy, Drop)]
 struct Stop {
     old: u32,
     kind: ObstacleKind,
 }
 
-fn stop_at(old: u32, kind: ObstacleKind) -> Option<Stop> {
-    Some(Stop { old, kind })
-}
-
 impl Simulation<'_> {
-    /// Why silent steps from a slot don't reach another one.
+    /// Returns why silent steps from a slot don't reach another one.
     fn silent_stop(&self, relation: &Relation, note: &Note, from: u32, to: u32) -> Option<Stop>
         requires { length self.now.old.now ≤ 4096 }
     {
@@ -61,20 +57,32 @@ impl Simulation<'_> {
             }
         }
         match insn_at(self.old, at) {
-            Some(Insn::Jump { .. }) => stop_at(at, ObstacleKind::Jump),
-            _ => stop_at(at, ObstacleKind::Witness),
+            Some(Insn::Jump { .. }) => Some(Stop {
+                old: at,
+                kind: ObstacleKind::Jump,
+            }),
+            _ => Some(Stop {
+                old: at,
+                kind: ObstacleKind::Witness,
+            }),
         }
     }
 
-    /// Why the old program, from a slot on, doesn't simulate a slot of the new one.
+    /// Returns why the old program, from a slot on, doesn't simulate a slot of the new one.
     fn stop_before(&self, old: u32, slot: u32, note: &Note) -> Option<Stop>
         requires { length self.now.old.now ≤ 4096 }
     {
         let Some(witness) = witness_at(self.witnesses, slot) else {
-            return stop_at(old, ObstacleKind::Witness);
+            return Some(Stop {
+                old,
+                kind: ObstacleKind::Witness,
+            });
         };
         let Some(relation) = relation_at(self.relations, slot) else {
-            return stop_at(old, ObstacleKind::Witness);
+            return Some(Stop {
+                old,
+                kind: ObstacleKind::Witness,
+            });
         };
         if let Some(silent) = self.silent_stop(&relation, note, old, witness.at) {
             return Some(silent);
@@ -82,7 +90,10 @@ impl Simulation<'_> {
         if self.is_entailed(slot, note) {
             None
         } else {
-            stop_at(old, ObstacleKind::Registers)
+            Some(Stop {
+                old,
+                kind: ObstacleKind::Registers,
+            })
         }
     }
 
@@ -101,11 +112,14 @@ impl Simulation<'_> {
         } else if self.preserves(before, stutters, there) {
             self.stop_before(old, there.pc, &there.note)
         } else {
-            stop_at(old, ObstacleKind::Registers)
+            Some(Stop {
+                old,
+                kind: ObstacleKind::Registers,
+            })
         }
     }
 
-    /// Why a step that leads to one slot isn't simulated.
+    /// Returns why a step that leads to one slot isn't simulated.
     fn plain_stop(&self, before: &Point, there: &Successor) -> Option<Stop>
         requires { length self.now.old.now ≤ 4096 }
     {
@@ -122,10 +136,13 @@ impl Simulation<'_> {
         if !before.witness.stutters && old < 4096 && self.is_copied(before) {
             return self.stop_after(before, false, next_slot(insn, old), there);
         }
-        stop_at(old, ObstacleKind::Instruction)
+        Some(Stop {
+            old,
+            kind: ObstacleKind::Instruction,
+        })
     }
 
-    /// Why a way of a conditional jump isn't simulated.
+    /// Returns why a way of a conditional jump isn't simulated.
     fn way_stop(
         &self,
         before: &Point,
@@ -146,7 +163,10 @@ impl Simulation<'_> {
                 };
                 self.stop_after(&taken, true, from, there)
             }
-            None => stop_at(before.witness.at, ObstacleKind::Instruction),
+            None => Some(Stop {
+                old: before.witness.at,
+                kind: ObstacleKind::Instruction,
+            }),
         }
     }
 
@@ -166,12 +186,15 @@ impl Simulation<'_> {
         Some((at + 1, target))
     }
 
-    /// Why a conditional jump isn't simulated.
+    /// Returns why a conditional jump isn't simulated.
     fn branch_stop(&self, before: &Point, next: &Successor, taken: &Successor) -> Option<Stop>
         requires { length self.now.old.now ≤ 4096 }
     {
         let Some((from, target)) = self.ways_of(before) else {
-            return stop_at(before.witness.at, ObstacleKind::Instruction);
+            return Some(Stop {
+                old: before.witness.at,
+                kind: ObstacleKind::Instruction,
+            });
         };
         let left = self.way_stop(before, false, Some(from), next);
         if left.is_some() {
@@ -180,7 +203,7 @@ impl Simulation<'_> {
         self.way_stop(before, true, target, taken)
     }
 
-    /// Why an instruction isn't simulated.
+    /// Returns why an instruction isn't simulated.
     fn insn_stop(
         &self,
         alloc: Global,
@@ -193,18 +216,33 @@ impl Simulation<'_> {
     {
         let old = before.witness.at;
         if !is_ruled(before.insn, pc, shapes.len()) {
-            return Ok(stop_at(old, ObstacleKind::Registers));
+            return Ok(Some(Stop {
+                old,
+                kind: ObstacleKind::Registers,
+            }));
         }
         match known_after(alloc, before.insn, pc, before.note, shapes)? {
             Some(Successors::One(there)) => Ok(self.plain_stop(before, &there)),
-            Some(Successors::Two(next, taken)) => Ok(self.branch_stop(before, &next, &taken)),
+            Some(Successors::Two(next, taken)) => match before.insn {
+                Insn::Jump { .. } => Ok(self.branch_stop(before, &next, &taken)),
+                _ => {
+                    let stop = self.plain_stop(before, &next);
+                    Ok(stop.or(self.plain_stop(before, &taken)))
+                }
+            },
             Some(Successors::None) if self.is_copied(before) => Ok(None),
-            Some(Successors::None) => Ok(stop_at(old, ObstacleKind::Instruction)),
-            None => Ok(stop_at(old, ObstacleKind::Registers)),
+            Some(Successors::None) => Ok(Some(Stop {
+                old,
+                kind: ObstacleKind::Instruction,
+            })),
+            None => Ok(Some(Stop {
+                old,
+                kind: ObstacleKind::Registers,
+            })),
         }
     }
 
-    /// Why a slot isn't simulated.
+    /// Returns why a slot isn't simulated.
     fn slot_stop(
         &self,
         alloc: Global,
@@ -243,7 +281,7 @@ impl Simulation<'_> {
         Ok(None)
     }
 
-    /// Why the first slot isn't where both programs begin.
+    /// Returns why the first slot isn't where both programs begin.
     fn start_stop(&self, alloc: Global) -> Option<Stop>
         requires { length self.now.old.now ≤ 4096 }
     {

@@ -12,17 +12,17 @@ use crate::step::PACKET_START;
 use bpf_insn::Operand;
 use bpf_note::{Note, PACKET_ID, Val};
 
-/// How many bytes a packet has at most.
+/// The most bytes that a packet has.
 pub(crate) const MOST_BYTES: u32 = 65535;
 
 /// The numbers from one to another.
-#[derive(Clone, Copy, Debug, Drop)]
+#[derive(Clone, Copy, Drop)]
 pub(crate) struct Range {
     pub(crate) low: u64,
     pub(crate) high: u64,
 }
 
-/// How far from the packet's start an id's base is at most.
+/// Returns how far from the packet's start an id's base is at most.
 fn farthest(note: &Note, id: u16) -> u32
     ensures { IsFarthest (facts note.now) id result }
 {
@@ -61,7 +61,7 @@ pub(crate) fn range_of(note: &Note, value: Val) -> Option<Range>
 }
 
 /// These numbers with another one added to each, modulo 2^64, if they are numbers in a row too.
-fn moved(range: Range, by: u64) -> Option<Range>
+pub(crate) fn moved(range: Range, by: u64) -> Option<Range>
     ensures { IfSome result (λ r. IsMoved range.low range.high by r.low r.high) }
 {
     let (low, high) = (range.low.wrapping_add(by), range.high.wrapping_add(by));

@@ -10,7 +10,7 @@ use crate::room::Room;
 /// Of each register of the old program the linear form of the new one's terms that it holds, if that is related; of each term of the new
 /// one the same, if it is another form than the term itself; which forms are addresses in the packet; between which
 /// numbers registers lie; which forms registers hold shifted to their upper halves; and what stands in counters.
-#[derive(Clone, Copy, Debug, Drop)]
+#[derive(Clone, Copy, Drop)]
 pub(crate) struct Relation {
     pub(crate) old: [Option<LinearForm>; 11],
     pub(crate) new: [Option<LinearForm>; 64],

@@ -13,7 +13,7 @@ pub(crate) const ROOMS: u8 = 8;
 pub(crate) const LONGEST: u64 = MOST_BYTES as u64;
 
 /// With each constant from the first to the last, the sum with these terms is an address from the packet's start to its end.
-#[derive(Clone, Copy, Debug, PartialEq, Eq, Drop)]
+#[derive(Clone, Copy, PartialEq, Eq, Drop)]
 pub(crate) struct Room {
     pub(crate) first: u64,
     pub(crate) last: u64,

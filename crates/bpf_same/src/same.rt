@@ -8,7 +8,8 @@ ghost use Rattle.bpf_same.specs.Renumbered.{IsRenumbering};
 ghost use Rattle.bpf_same.specs.Same.{IsSame};
 
 use crate::equal::is_same_code;
-use crate::find::{Found, Known, lowest_of, notes_of};
+use crate::find::{Known, lowest_of, notes_of};
+use crate::found::{Found, Pass};
 use crate::fuse::{Fusion, fusion_of};
 use crate::fused::{Draft, same_by_counts};
 use crate::laws::{same_alone, same_both_ways, same_by_counts_both_ways};
@@ -23,7 +24,7 @@ use bpf_verify::Verified;
 use bpf_vm::accepted_programs_end;
 use std::alloc::{AllocError, Global};
 
-/// What a comparison of two programs shows.
+/// The answer of a comparison of two programs.
 #[derive(Clone, Copy, Debug, PartialEq, Eq, Drop)]
 pub enum Comparison {
     /// Each run of one is a run of the other.
@@ -38,7 +39,13 @@ pub enum Comparison {
     NotShown,
 }
 
-/// What is found of the new program.
+/// The passes that find all, though not all of it may hold.
+const FOUND: [Pass; 1] = [Pass::Find];
+
+/// Those that find what is preserved on each way.
+const PRESERVED: [Pass; 2] = [Pass::Find, Pass::Prune];
+
+/// The findings about the new program.
 #[derive(Drop)]
 struct Findings {
     notes: Vec<Vec<Box<Note>>>,
@@ -54,6 +61,7 @@ fn findings_of(
     old: &[Insn],
     witnesses: &[Witness],
     alone: bool,
+    passes: &[Pass],
 ) -> Result<Findings, AllocError>
     requires { length new.now ≤ 4096 }
 {
@@ -68,25 +76,26 @@ fn findings_of(
         low,
         alone,
     };
-    let found = known.found(alloc)?;
+    let found = known.found(alloc, passes)?;
     found.forget(alloc, &mut notes);
     Ok(Findings { notes, found, low })
 }
 
 /// Returns whether a simulation by the witnesses is found, which shows that the new program has the old one's runs.
-fn is_shown(
+fn is_shown_with(
     alloc: Global,
     new: &[Insn],
     shapes: &[MapShape],
     old: &[Insn],
     witnesses: &[Witness],
+    passes: &[Pass],
 ) -> Result<bool, AllocError>
     requires short { length old.now ≤ 4096 }
     requires few { length new.now ≤ 4096 }
     ensures { IfOk result (λ yes. IsTrue yes → IsSame shapes.now old.now new.now) }
 {
     the_entry_describes_every_start();
-    let findings = findings_of(alloc, new, shapes, old, witnesses, false)?;
+    let findings = findings_of(alloc, new, shapes, old, witnesses, false, passes)?;
     let simulation = Simulation {
         old,
         witnesses,
@@ -99,11 +108,12 @@ fn is_shown(
 }
 
 /// Returns whether a simulation by the witnesses is found of programs that alone have the counters.
-fn is_shown_alone(
+fn is_shown_alone_with(
     alloc: Global,
     new: &Verified,
     old: &[Insn],
     witnesses: &[Witness],
+    passes: &[Pass],
 ) -> Result<bool, AllocError>
     requires short { length old.now ≤ 4096 }
     ensures { IfOk result (λ yes. IsTrue yes → IsSameAlone new.now.shapes old.now new.now.code) }
@@ -111,7 +121,7 @@ fn is_shown_alone(
     the_entry_describes_every_start();
     accepted_programs_end();
     let (insns, shapes) = (new.insns(), new.shapes());
-    let findings = findings_of(alloc, insns, shapes, old, witnesses, true)?;
+    let findings = findings_of(alloc, insns, shapes, old, witnesses, true, passes)?;
     let simulation = Simulation {
         old,
         witnesses,
@@ -121,6 +131,40 @@ fn is_shown_alone(
         alone: true,
     };
     simulation.is_simulation(alloc, insns, shapes)
+}
+
+/// Returns whether a simulation is found, by all that is found of the slots or by what is preserved of it.
+fn is_shown(
+    alloc: Global,
+    new: &[Insn],
+    shapes: &[MapShape],
+    old: &[Insn],
+    witnesses: &[Witness],
+) -> Result<bool, AllocError>
+    requires short { length old.now ≤ 4096 }
+    requires few { length new.now ≤ 4096 }
+    ensures { IfOk result (λ yes. IsTrue yes → IsSame shapes.now old.now new.now) }
+{
+    if is_shown_with(alloc, new, shapes, old, witnesses, &FOUND)? {
+        return Ok(true);
+    }
+    is_shown_with(alloc, new, shapes, old, witnesses, &PRESERVED)
+}
+
+/// The same of programs that alone have the counters.
+fn is_shown_alone(
+    alloc: Global,
+    new: &Verified,
+    old: &[Insn],
+    witnesses: &[Witness],
+) -> Result<bool, AllocError>
+    requires short { length old.now ≤ 4096 }
+    ensures { IfOk result (λ yes. IsTrue yes → IsSameAlone new.now.shapes old.now new.now.code) }
+{
+    if is_shown_alone_with(alloc, new, old, witnesses, &FOUND)? {
+        return Ok(true);
+    }
+    is_shown_alone_with(alloc, new, old, witnesses, &PRESERVED)
 }
 
 /// Returns where no simulation by the witnesses is found.
@@ -136,7 +180,7 @@ fn obstacle_to(
     requires few { length new.now ≤ 4096 }
     ensures { IfOk result (λ o. IfSome o (λ b. b.slot < length new.now)) }
 {
-    let findings = findings_of(alloc, new, shapes, old, witnesses, alone)?;
+    let findings = findings_of(alloc, new, shapes, old, witnesses, alone, &PRESERVED)?;
     let simulation = Simulation {
         old,
         witnesses,

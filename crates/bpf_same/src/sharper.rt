@@ -1,16 +1,22 @@
 //! What an instruction leaves known: by the verifier's rule, and where that says less, of a sum, a product, or the bits of one or of
-//! both, by the ranges of both numbers.
-ghost use Rattle.std.specs.Prelude.{◌≡◌, ◌<◌, ◌-◌, ◌*◌, ◌/◌, ◌^◌, length, true, IfOk, IfSome, IsTrue, None};
+//! both, by the ranges of both numbers; and by a signed comparison.
+ghost use Rattle.std.specs.Prelude.{List, ℕ, ◌≡◌, ◌<◌, ◌-◌, ◌*◌, ◌/◌, ◌^◌, length, true, IfOk, IfSome, IsTrue, None};
 ghost use Rattle.bpf_insn.specs.declared.insn.Insn.TheVariants as insns;
 ghost use Rattle.bpf_note.specs.Parts.{facts};
 ghost use Rattle.bpf_flow.specs.Rule.{IsRuled, after_of};
-ghost use Rattle.bpf_same.specs.Ranges.{IsAdded, IsMasked, IsMultiplied, IsOperandRead, IsSharper, IsSummed, IsUnited};
+ghost use Rattle.bpf_same.specs.Ranges.{IsAdded, IsMasked, IsMultiplied, IsNarrowed, IsOperandRead, IsParted, IsSummed, IsUnited};
 ghost use Rattle.bpf_same.specs.Stepped.{IsCombined};
 ghost use Rattle.bpf_same.specs.Simulated.{IsAccounted, IsRefused};
 ghost use Rattle.bpf_flow.specs.Gives.{edges_of};
+ghost use Rattle.bpf_flow.specs.declared.successors.Successors.TheVariants as ways;
+ghost use Rattle.bpf_note.specs.Facts.{Facts};
+ghost use Rattle.bpf_note.specs.Shape.{Shape};
 
+use crate::jump::is_branch;
 use crate::linear_form::extended;
-use crate::range::{Range, range_of};
+use crate::range::{Range, moved, range_of};
+use crate::shift::{shifted_left, shifted_right};
+use crate::signed::{MOST, left_on};
 use bpf_flow::{Successor, Successors, after};
 use bpf_insn::{AluOp, Cause, Insn, Operand, Register};
 use bpf_note::{MapShape, Note, Val};
@@ -18,13 +24,13 @@ use std::alloc::{AllocError, Global};
 
 /// A register, and the numbers that it may hold.
 #[derive(Clone, Copy, Drop)]
-struct Bounded {
-    register: u8,
-    range: Range,
+pub(crate) struct Bounded {
+    pub(crate) register: u8,
+    pub(crate) range: Range,
 }
 
 /// The numbers that an operand may be, by what is known of the state alone.
-fn operand_range(note: &Note, src: Operand) -> Option<Range>
+pub(crate) fn operand_range(note: &Note, src: Operand) -> Option<Range>
     ensures { IfSome result (λ r. IsOperandRead (facts note.now) src r.low r.high) }
 {
     match src {
@@ -36,7 +42,18 @@ fn operand_range(note: &Note, src: Operand) -> Option<Range>
     }
 }
 
-/// The sums of a number of each, if none wraps.
+/// The sums of a number of each, if the other is one number alone, and none wraps or all do.
+fn added_constant(one: Range, other: Range) -> Option<Range>
+    ensures { IfSome result (λ r. IsAdded one.low one.high other.low other.high r.low r.high) }
+{
+    if other.low == other.high {
+        moved(one, other.low)
+    } else {
+        None
+    }
+}
+
+/// The sums of a number of each, if none wraps, or all do by one number.
 pub(crate) fn added(one: Range, other: Range) -> Option<Range>
     ensures { IfSome result (λ r. IsAdded one.low one.high other.low other.high r.low r.high) }
 {
@@ -45,7 +62,7 @@ pub(crate) fn added(one: Range, other: Range) -> Option<Range>
             low: one.low.wrapping_add(other.low),
             high,
         }),
-        None => None,
+        None => added_constant(one, other),
     }
 }
 
@@ -74,9 +91,9 @@ fn multiplied(one: Range, other: Range) -> Option<Range>
 
 /// The bits from one place up to another.
 #[derive(Clone, Copy, Drop)]
-struct Bits {
-    from: u32,
-    to: u32,
+pub(crate) struct Bits {
+    pub(crate) from: u32,
+    pub(crate) to: u32,
 }
 
 /// Returns whether a mask has all bits from one place up to another, and no other.
@@ -88,8 +105,8 @@ fn is_between(mask: u64, bits: Bits) -> bool
     (1_u64 << bits.to).wrapping_sub(1 << bits.from) == mask
 }
 
-/// Which bits a mask has, if these are all from one place up to another.
-fn bits_of(mask: u64) -> Option<Bits>
+/// Returns which bits a mask has, if these are all from one place up to another.
+pub(crate) fn bits_of(mask: u64) -> Option<Bits>
     ensures { IfSome result (λ b. (b.from < b.to) × (b.to < 64) × (mask ≡ 2 ^ b.to - 2 ^ b.from)) }
 {
     let bits = Bits {
@@ -149,6 +166,8 @@ fn combined(op: AluOp, one: Range, other: Range) -> Option<Range>
         AluOp::Or => united(one, other),
         AluOp::Mul => multiplied(one, other),
         AluOp::And => masked(one, other),
+        AluOp::Lsh => shifted_left(one, other),
+        AluOp::Arsh => shifted_right(one, other),
         _ => None,
     }
 }
@@ -196,18 +215,114 @@ fn is_wider(value: Val, range: Range) -> bool {
     }
 }
 
-/// Returns what is known after an instruction, with the numbers that what it makes may be where these are fewer.
-fn sharpened(insn: Insn, note: &Note, there: Successor) -> Successor
-    ensures { IsSharper insn (facts note.now) there.pc (facts there.note.value) result.pc (facts result.note.value) }
+/// Returns what is known with the numbers that a register may hold too, where these are fewer.
+fn with_range(there: Successor, known: Option<Bounded>) -> Successor
+    requires { IfSome known (λ r. r.register < 11) }
+    ensures { IsNarrowed there.pc (facts there.note.value) known result.pc (facts result.note.value) }
 {
     let mut there = there;
-    if let Some(sum) = summed(insn, note) {
-        if is_wider(there.note.register(sum.register), sum.range) {
-            let (lo, hi) = (sum.range.low, sum.range.high);
-            there.note.set_register(sum.register, Val::Num { lo, hi });
+    if let Some(known) = known {
+        if is_wider(there.note.register(known.register), known.range) {
+            let (lo, hi) = (known.range.low, known.range.high);
+            there.note.set_register(known.register, Val::Num { lo, hi });
         }
     }
     there
+}
+
+/// A register, and the numbers that it may hold after a subtraction that doesn't wrap, or does.
+#[derive(Clone, Copy, Drop)]
+struct Difference {
+    register: u8,
+    above: Range,
+    below: Range,
+}
+
+/// The register that gets the difference of two small numbers of which either may be the greater one.
+fn difference_of(insn: Insn, note: &Note) -> Option<Difference>
+    ensures small { IfSome result (λ r. r.register < 11) }
+    ensures lies { IfSome result (λ r. IsParted insn (facts note.now) r.register r.above r.below) }
+{
+    let Insn::Alu { op, wide, dst, src } = insn else {
+        return None;
+    };
+    if !wide {
+        return None;
+    }
+    let register = dst.number();
+    let Some(one) = range_of(note, note.register(register)) else {
+        return None;
+    };
+    let Some(other) = operand_range(note, src) else {
+        return None;
+    };
+    if one.high > MOST || other.high > MOST || one.low >= other.high || one.high < other.low {
+        return None;
+    }
+    let above = Range {
+        low: 0,
+        high: one.high - other.low,
+    };
+    let below = Range {
+        low: one.low.wrapping_sub(other.high),
+        high: u64::MAX,
+    };
+    match op {
+        AluOp::Sub => Some(Difference {
+            register,
+            above,
+            below,
+        }),
+        _ => None,
+    }
+}
+
+/// Returns what is known after an instruction that leads to one slot, with the numbers that what it makes may be.
+fn with_result(
+    alloc: Global,
+    insn: Insn,
+    note: &Note,
+    there: Successor,
+) -> Result<Successors, AllocError>
+    ensures { IfOk result (λ e. (shapes : List Shape) (pc : ℕ) → IsAccounted (edges_of (ways.One there)) shapes insn (facts note.now) pc → IsAccounted (edges_of e) shapes insn (facts note.now) pc) }
+{
+    let Some(difference) = difference_of(insn, note) else {
+        return Ok(Successors::One(with_range(there, summed(insn, note))));
+    };
+    let register = difference.register;
+    let below = Successor {
+        pc: there.pc,
+        note: there.note.boxed(alloc)?,
+    };
+    Ok(Successors::Two(
+        with_range(
+            there,
+            Some(Bounded {
+                register,
+                range: difference.above,
+            }),
+        ),
+        with_range(
+            below,
+            Some(Bounded {
+                register,
+                range: difference.below,
+            }),
+        ),
+    ))
+}
+
+/// Returns what is known on both ways of a conditional jump, with the numbers that a signed comparison leaves.
+fn with_ways(insn: Insn, pc: u32, next: Successor, taken: Successor) -> Successors
+    requires { pc < 4096 }
+    ensures { (shapes : List Shape) (n : Facts) → IsAccounted (edges_of (ways.Two next taken)) shapes insn n pc → IsAccounted (edges_of result) shapes insn n pc }
+{
+    if !is_branch(insn, pc, next.pc, taken.pc) {
+        return Successors::Two(next, taken);
+    }
+    let passed = left_on(insn, false, &next.note);
+    let met = left_on(insn, true, &taken.note);
+    Successors::Two(with_range(next, passed), with_range(taken, met))
 }
 
 /// Returns where an instruction leads from a slot, or nothing where the verifier's rule refuses it. Memory that the rule is refused is
@@ -226,7 +341,8 @@ pub(crate) fn known_after(
     ensures refused { IfOk result (λ known. known ≡ None → IsRefused (after_of insn pc (facts note.now) shapes.now)) }
 {
     match after(alloc, &insn, pc, note, shapes) {
-        Ok(Successors::One(there)) => Ok(Some(Successors::One(sharpened(insn, note, there)))),
+        Ok(Successors::One(there)) => Ok(Some(with_result(alloc, insn, note, there)?)),
+        Ok(Successors::Two(next, taken)) => Ok(Some(with_ways(insn, pc, next, taken))),
         Ok(there) => Ok(Some(there)),
         Err(Cause::Memory) => Err(AllocError),
         Err(_) => Ok(None),

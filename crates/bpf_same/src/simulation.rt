@@ -172,6 +172,7 @@ impl Simulation<'_> {
         let step = Step {
             insn: before.insn,
             stutters,
+            alone: self.alone,
             low: self.low,
             before: before.relation,
             after: &there.note,
@@ -348,7 +349,7 @@ impl Simulation<'_> {
     }
 
     /// Returns whether the old program simulates an instruction that leads to one slot.
-    fn simulates_plain(&self, before: &Point, there: &Successor) -> bool
+    pub(crate) fn simulates_plain(&self, before: &Point, there: &Successor) -> bool
         requires { length self.now.old.now ≤ 4096 }
         ensures { IsTrue result → SimulatesPlain (candidate_of self.now) before.now.witness.stutters before.now.witness.at before.now.insn before.now.relation.now (facts before.now.note.now)
             (facts there.now.note.value) there.now.pc }
@@ -386,7 +387,7 @@ impl Simulation<'_> {
                 if is_branch(before.insn, pc, next.pc, taken.pc) {
                     Ok(self.simulates_branch(before, &next, &taken))
                 } else {
-                    Ok(false)
+                    Ok(self.simulates_both(before, &next, &taken))
                 }
             }
             None => Ok(false),

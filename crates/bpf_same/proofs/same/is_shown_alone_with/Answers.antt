@@ -4,7 +4,7 @@ use Rattle.bpf_insn.specs.declared.insn.Insn.{Insn}
 use Rattle.bpf_note.specs.Shape.{Shape}
 use Rattle.bpf_same.specs.Simulated.{Candidate, IsSimulation}
 use Rattle.bpf_same.proofs.SimulationLemmas.{alone_runs}
-use Rattle.bpf_same.proofs.same.is_shown_alone.Goals as goal
+use Rattle.bpf_same.proofs.same.is_shown_alone_with.Goals as goal
 
 of_these : (b : Candidate) (new new' : List Insn) (shapes shapes' : List Shape) → new ≡ new' → shapes ≡ shapes' → IsSimulation b new shapes → IsSimulation b new' shapes'
 of_these b new new' shapes shapes' n s h = subst (λ (x : List Shape). IsSimulation b new' x) s (subst (λ (x : List Insn). IsSimulation b x shapes) n h)
