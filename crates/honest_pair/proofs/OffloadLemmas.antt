@@ -6,12 +6,12 @@ use Rattle.std.proofs.lemmas.Bool.{lt-ltb}
 use Rattle.std.proofs.lemmas.Bool.Decides.{nat_tests}
 use Rattle.std.proofs.lemmas.List.{get_or-set_other, get_or_past}
 use Rattle.xen_buffers.specs.Grants.{buffer}
-use Rattle.xen_buffers.specs.declared.wiring.Wiring.{Wiring}
+use Rattle.xen_buffers.specs.declared.wiring.FrontWiring.{FrontWiring}
 use Rattle.xen_front.specs.Given.{Ending, Packet}
 use Rattle.xen_front.specs.Slots.{extra_of, extra_taken, fault_of, gave, in_flight, may_have_extra, part_of, pieces_of, posted_at, segments_in}
 use Rattle.xen_front.specs.Tree.{Slot, Extra, Gathered, chained, checked, continues, extra_checked, first_word, grown, nothing_gathered, receive}
-use Rattle.xen_front.specs.declared.state.State.{State}
-use Rattle.xen_front.specs.declared.turn.Halt.{Halt}
+use Rattle.xen_front.specs.declared.state.FrontState.{FrontState}
+use Rattle.xen_front.specs.declared.turn.FrontHalt.{FrontHalt}
 use Rattle.xen_netif.specs.Copy.{bytes_in, covered}
 use Rattle.xen_netif.specs.Offloads.{data_flags, gso_extra_for, has_extra, is_rx_segment_size, is_taken, rx_extra, said_at}
 use Rattle.xen_netif.specs.Segments.{gso_extra_words, gso_type_number, gso_type_of, if_offered, is_offered}
@@ -104,7 +104,7 @@ not_lt : (a b : ℕ) → b ≤ a → nat_lt a b ≡ false
 not_lt a b h = grind (arith, nat_tests)
 
 -- A response to a posted buffer halts nothing, if its extra may come there, and it says that there is more only before the sixteenth.
-no_fault : (s : State) (o : RxOffload) (p : List ℕ) (k id len : ℕ) (more : Bool) → in_flight s.rx id ≡ true → (has_extra o && not (may_have_extra s.accepts k)) ≡ false → ((k == 15) && more) ≡ false →
+no_fault : (s : FrontState) (o : RxOffload) (p : List ℕ) (k id len : ℕ) (more : Bool) → in_flight s.rx id ≡ true → (has_extra o && not (may_have_extra s.accepts k)) ≡ false → ((k == 15) && more) ≡ false →
     size_at p k ≤ 4096 → len + size_at p k ≤ 65535 → fault_of s.accepts s.rx k len (its_response o p k id more) ≡ None
 no_fault s o p k id len more flight extra last size room = rw (flight, extra, not_lt 4096 (0 + size_at p k) (omega arith), last, not_lt 65535 (len + size_at p k) room) refl
 
@@ -116,13 +116,13 @@ abbrev so : List ℕ → RxOffload → ℕ → Gathered
 so p o k = of_pages o k (take (4096 * k) p)
 
 -- a state in which i of the packet's responses were taken
-record Stands (s0 : State) (ids : List ℕ) (i : ℕ) (s : State) : Type 0 where
+record Stands (s0 : FrontState) (ids : List ℕ) (i : ℕ) (s : FrontState) : Type 0 where
   pub cons : s.rx.cons ≡ add32 s0.rx.cons i
   pub flies : (j : ℕ) → i ≤ j → j < length ids → in_flight s.rx (get_or ids j 0) ≡ true
   pub accepts : s.accepts ≡ s0.accepts
   pub posts : s.posts ≡ s0.posts
 
-stands_on : (s0 : State) (ids : List ℕ) (i id : ℕ) (s : State) → ArePosted s0 ids → Stands s0 ids i s → i < length ids → id ≡ get_or ids i 0 → Stands s0 ids (i + 1) (gave s id)
+stands_on : (s0 : FrontState) (ids : List ℕ) (i id : ℕ) (s : FrontState) → ArePosted s0 ids → Stands s0 ids i s → i < length ids → id ≡ get_or ids i 0 → Stands s0 ids (i + 1) (gave s id)
 stands_on s0 ids i id s posted h lt e = record {
   cons = ap (λ x. add32 x 1) h.cons ∙ add_add s0.rx.cons i 1;
   flies = λ j a b. get_or-set_other s.rx.out id (get_or ids j 0) false false (λ q. posted.differ i j (omega arith) b (sym e ∙ sym q)) ∙ h.flies j (omega arith) b;
@@ -134,7 +134,7 @@ stands_on s0 ids i id s posted h lt e = record {
 abbrev is_more : RxOffload → (n k : ℕ) → Bool
 is_more o n k = nat_lt (slots_for o (k + 1)) n
 
-module _ (w : Wiring) (word : Place → ℕ) (p : List ℕ) (most : length p ≤ 65535) (bytes : (i : ℕ) → get_or p i 0 < 256) (n : ℕ) (count : n ≡ pieces_of (length p)) where
+module _ (w : FrontWiring) (word : Place → ℕ) (p : List ℕ) (most : length p ≤ 65535) (bytes : (i : ℕ) → get_or p i 0 < 256) (n : ℕ) (count : n ≡ pieces_of (length p)) where
   abbrev Page : (k id : ℕ) → Type 0
   Page k id = (j : ℕ) → j < 1024 → 1024 * k + j < words p → word (page_word (buffer w.rx.now id).frame j) ≡ word_of p (1024 * k + j)
 
@@ -142,7 +142,7 @@ module _ (w : Wiring) (word : Place → ℕ) (p : List ℕ) (most : length p ≤
   up_to k = take (4096 * k + size_at p k) p
 
   -- a response and its page
-  page_step : (s : State) (o og : RxOffload) (k id : ℕ) (more : Bool) (rest : State → Gathered → Steps Ending) → k < n →
+  page_step : (s : FrontState) (o og : RxOffload) (k id : ℕ) (more : Bool) (rest : FrontState → Gathered → Steps Ending) → k < n →
       rx_rsp_of (word (rx_entry w.rx_frame s.rx.cons 0) ∷ word (rx_entry w.rx_frame s.rx.cons 1) ∷ []) ≡ its_response o p k id more →
       fault_of s.accepts s.rx k (length (take (4096 * k) p)) (its_response o p k id more) ≡ None → Page k id →
       answered word (first_word w s (so p og k) rest) ≡
@@ -162,15 +162,15 @@ module _ (w : Wiring) (word : Place → ℕ) (p : List ℕ) (most : length p ≤
       ∙ copied word fr b.frame p k all 0 (take (4096 * k) p) (λ i u v. at i (omega (arith, v, much, some)) (omega (arith, v, page)))
       ∙ ap (λ (l : List ℕ). Some l) full in
       ap (λ (x : RxRsp). answered word (checked w s (so p og k) x (fault_of s.accepts s.rx k (length (take (4096 * k) p)) x) rest)) is
-      ∙ ap (λ (x : Option Halt). answered word (checked w s (so p og k) r x rest)) none
+      ∙ ap (λ (x : Option FrontHalt). answered word (checked w s (so p og k) r x rest)) none
       ∙ answered_bind word (copy_words fr b.frame 0 (covered fr) (take (4096 * k) p)) (λ x. chained (continues r.flags) (gave s id) (grown (so p og k) r x) rest) (up_to k) read
 
-  module _ (s0 : State) (o : RxOffload) (ids : List ℕ) (posted : ArePosted s0 ids) (written : IsWritten w s0 o p ids word) where
+  module _ (s0 : FrontState) (o : RxOffload) (ids : List ℕ) (posted : ArePosted s0 ids) (written : IsWritten w s0 o p ids word) where
     abbrev At : ℕ → ℕ
     At i = get_or ids i 0
 
     -- the words of the response at a slot
-    at_slot : (i j : ℕ) (s : State) → Stands s0 ids i s → i < length ids → j < 2 → word (rx_entry w.rx_frame s.rx.cons j) ≡ response_word o Passed p (length ids) i (At i) j
+    at_slot : (i j : ℕ) (s : FrontState) → Stands s0 ids i s → i < length ids → j < 2 → word (rx_entry w.rx_frame s.rx.cons j) ≡ response_word o Passed p (length ids) i (At i) j
     at_slot i j s h lt l = ap (λ x. word (rx_entry w.rx_frame x j)) h.cons ∙ written.responses i j lt l
 
     -- a page's buffer
@@ -184,7 +184,7 @@ module _ (w : Wiring) (word : Place → ℕ) (p : List ℕ) (most : length p ≤
         ∙ written.pages (1024 * k + j) below
 
     -- the response to the k-th page, at the i-th slot
-    at_page : (k i : ℕ) (s : State) → Stands s0 ids i s → i < length ids → k < n → extra_at o i ≡ None → page_in o i ≡ k →
+    at_page : (k i : ℕ) (s : FrontState) → Stands s0 ids i s → i < length ids → k < n → extra_at o i ≡ None → page_in o i ≡ k →
         rx_rsp_of (word (rx_entry w.rx_frame s.rx.cons 0) ∷ word (rx_entry w.rx_frame s.rx.cons 1) ∷ []) ≡ its_response (said_at k o) p k (At i) (is_more o (length ids) k)
     at_page k i s h lt l plain page =
         let small = posted.small i lt in
@@ -214,7 +214,7 @@ module _ (w : Wiring) (word : Place → ℕ) (p : List ℕ) (most : length p ≤
       none_left k e = ap (λ x. nat_lt x (length ids)) (before k) ∙ not_lt (k + 1 + d) (length ids) (omega (arith, slots_are, e))
 
       -- such a page
-      later_step : (k : ℕ) (s : State) (rest : State → Gathered → Steps Ending) → 1 ≤ k → k < n → Stands s0 ids (k + d) s →
+      later_step : (k : ℕ) (s : FrontState) (rest : FrontState → Gathered → Steps Ending) → 1 ≤ k → k < n → Stands s0 ids (k + d) s →
           answered word (first_word w s (so p og k) rest) ≡ answered word (chained (is_more o (length ids) k) (gave s (At (k + d))) (of_pages og (k + 1) (up_to k)) rest)
       later_step k s rest some lt h =
           let i = k + d in
@@ -230,7 +230,7 @@ module _ (w : Wiring) (word : Place → ℕ) (p : List ℕ) (most : length p ≤
           goes_on : (k : ℕ) → is_more o (length ids) k ≡ true → k + 1 < n
           goes_on k e = let q : nat_lt (k + 1 + d) (length ids) ≡ true = ap (λ x. nat_lt x (length ids)) (sym (before k)) ∙ e in let l : k + 1 + d < length ids = grind (arith, nat_tests) in omega (arith, l, slots_are)
 
-      later : (r k : ℕ) (s : State) → 1 ≤ k → k + suc r ≡ n → Stands s0 ids (k + d) s → (s' : State) × (answered word (receive w (suc r) s (so p og k)) ≡ Some (s', Packet og p))
+      later : (r k : ℕ) (s : FrontState) → 1 ≤ k → k + suc r ≡ n → Stands s0 ids (k + d) s → (s' : FrontState) × (answered word (receive w (suc r) s (so p og k)) ≡ Some (s', Packet og p))
       later zero k s some e h =
           let lt : k < n = omega (arith, e) in
           let whole : up_to k ≡ p = ap (λ x. take x p) (last_page p k n count (omega (arith, e))) ∙ take_whole p in (
@@ -336,7 +336,7 @@ no_extra o i e = by o e (i == 1)
     by (Segmented x) e true = absurd (let z : true ≡ false = e in cc)
     by o e false = refl
 
-module _ (w : Wiring) (word : Place → ℕ) (p : List ℕ) (most : length p ≤ 65535) (bytes : (i : ℕ) → get_or p i 0 < 256) (n : ℕ) (count : n ≡ pieces_of (length p)) (s0 : State) (ids : List ℕ) (posted : ArePosted s0 ids) where
+module _ (w : FrontWiring) (word : Place → ℕ) (p : List ℕ) (most : length p ≤ 65535) (bytes : (i : ℕ) → get_or p i 0 < 256) (n : ℕ) (count : n ≡ pieces_of (length p)) (s0 : FrontState) (ids : List ℕ) (posted : ArePosted s0 ids) where
   abbrev first_id : ℕ
   first_id = get_or ids 0 0
 
@@ -346,10 +346,10 @@ module _ (w : Wiring) (word : Place → ℕ) (p : List ℕ) (most : length p ≤
   abbrev more : RxOffload → Bool
   more o = is_more o (length ids) 0
 
-  abbrev s1 : State
+  abbrev s1 : FrontState
   s1 = gave s0 first_id
 
-  abbrev s2 : State
+  abbrev s2 : FrontState
   s2 = gave s1 (posted_at s1)
 
   begun : Stands s0 ids 0 s0
@@ -389,7 +389,7 @@ module _ (w : Wiring) (word : Place → ℕ) (p : List ℕ) (most : length p ≤
         ∙ ap (λ b. answered word (chained (b || more o) s1 (record { slots = 1; bad = false; bytes = up; offload = first_says o; next = if b then Extra (more o) else Slot }) (receive w l))) e
         ∙ ap (λ (x : RxOffload). answered word (chained (more o) s1 (of_pages x 1 up) (receive w l))) (says_all o e)
 
-    plainly : (l : ℕ) → n ≡ suc l → (s' : State) × (answered word (receive w (suc l) s0 nothing_gathered) ≡ Some (s', Packet o p))
+    plainly : (l : ℕ) → n ≡ suc l → (s' : FrontState) × (answered word (receive w (suc l) s0 nothing_gathered) ≡ Some (s', Packet o p))
     plainly zero some =
         let whole : up ≡ p = ap (λ x. take x p) (last_page p 0 n count (sym some)) ∙ take_whole p in (
           s1,
@@ -451,7 +451,7 @@ module _ (w : Wiring) (word : Place → ℕ) (p : List ℕ) (most : length p ≤
         first_step (Segmented x) (suc m) written taken (omega (arith, some)) (omega (arith, some, all))
         ∙ ap (λ (q : Option Segments). answered word (extra_checked w (more (Segmented x)) s1 (after_first (Segmented x) (more (Segmented x)) up) q (receive w m))) takes
 
-    segmented_so : (m : ℕ) → n ≡ suc m → (s' : State) × (answered word (receive w (suc (suc m)) s0 nothing_gathered) ≡ Some (s', Packet (Segmented x) p))
+    segmented_so : (m : ℕ) → n ≡ suc m → (s' : FrontState) × (answered word (receive w (suc (suc m)) s0 nothing_gathered) ≡ Some (s', Packet (Segmented x) p))
     segmented_so zero some =
         let whole : up ≡ p = ap (λ x. take x p) (last_page p 0 n count (sym some)) ∙ take_whole p in (
           s2,
@@ -486,12 +486,12 @@ all_bytes p h i = by (nat_lt i (length p)) refl
     by true e = let lt : i < length p = grind (arith, nat_tests) in h i 0 lt
     by false e = let le : length p ≤ i = grind (arith, nat_tests) in subst (λ x. x < 256) (sym (get_or_past p i 0 le)) (omega arith)
 
-module _ (w : Wiring) (s : State) (p ids : List ℕ) (word : Place → ℕ) (size : (14 ≤ length p) × (length p ≤ 65535)) (b : All IsByte p) (posted : ArePosted s ids) where
+module _ (w : FrontWiring) (s : FrontState) (p ids : List ℕ) (word : Place → ℕ) (size : (14 ≤ length p) × (length p ≤ 65535)) (b : All IsByte p) (posted : ArePosted s ids) where
   abbrev n : ℕ
   n = pieces_of (length p)
 
   abbrev Received : RxOffload → ℕ → Type 0
-  Received o k = (s' : State) × (answered word (receive w k s nothing_gathered) ≡ Some (s', Packet o p))
+  Received o k = (s' : FrontState) × (answered word (receive w k s nothing_gathered) ≡ Some (s', Packet o p))
 
   some_pages : (m : ℕ) × (n ≡ suc m)
   some_pages = let least = size.0 in (n - 1, omega arith)

@@ -27,8 +27,8 @@ use Rattle.xen_netif.specs.declared.offload.RxOffload.TheVariants.{Whole}
 use Rattle.xen_rx_fill.specs.Places.{rx_slot, rx_word, tx_slot, tx_word}
 use Rattle.xen_rx_fill.specs.Packets.{pages, words}
 use Rattle.xen_rx_fill.specs.Sending.{AreTargets, IsPosted, IsRxRespond, IsTransmit, all, buffer_writes, is_posted, for_extra, passing, refused, refusing, rx_overflow, rx_writes, sent, too_few}
-use Rattle.xen_rx_fill.specs.declared.by_event.phase.Outcome.{Outcome}
-use Rattle.xen_rx_fill.specs.declared.by_event.phase.Outcome.TheVariants as outcome
+use Rattle.xen_rx_fill.specs.declared.by_event.phase.TransmitOutcome.{TransmitOutcome}
+use Rattle.xen_rx_fill.specs.declared.by_event.phase.TransmitOutcome.TheVariants as outcome
 use Rattle.xen_rx_fill.specs.declared.target.Grants.{Grants}
 use Rattle.xen_rx_fill.specs.declared.target.Grants.TheVariants.{Passed, Refused}
 use Rattle.xen_rx_fill.specs.declared.target.Target.{Target}
@@ -310,7 +310,7 @@ all_passed w x _ _ _ _ _ (refusing i left id p fault none o) e = let no : ⊥ = 
 all_passed w x _ _ _ _ _ (passing i left id frame p q grants ts none o a) e = ap suc (all_passed w x (i + 1) left q grants ts a e)
 all_passed w x _ _ _ _ _ (for_extra i left a g q grants ts some la lg f) e = absurd (let wrong : false ≡ true = some in cc)
 
-abbrev Sent : Wiring → ℕ → List ℕ → List Event → Outcome → Type 0
+abbrev Sent : Wiring → ℕ → List ℕ → List Event → TransmitOutcome → Type 0
 Sent w x packet p outcome.Overflow = places_read p ≡ rx_word w.vif 0 ∷ []
 Sent w x packet p outcome.TooFew = places_read p ≡ rx_word w.vif 0 ∷ []
 Sent w x packet p (outcome.Refused used) = (grefs : List ℕ) × (places_read p ≡ sent_places w x grefs) × ArePosted w x 0 grefs p
@@ -320,7 +320,7 @@ Sent w x packet p (outcome.Sent used) = (grefs : List ℕ) × (length grefs ≡ 
 behind_producer : (a : Event) (p1 p2 : List Event) → Within p1 (a ∷ (p1 ++ p2))
 behind_producer a p1 p2 e h = let c = Contains-append_left p1 p2 e h in let less = c.1 in (suc c.0, omega (arith, less), c.2)
 
-sent_reads : (w : Wiring) (x : ℕ) (packet : List ℕ) (p : List Event) (o : Outcome) → IsTransmit w.vif x Whole packet p o → Sent w x packet p o
+sent_reads : (w : Wiring) (x : ℕ) (packet : List ℕ) (p : List Event) (o : TransmitOutcome) → IsTransmit w.vif x Whole packet p o → Sent w x packet p o
 sent_reads w x packet _ _ (rx_overflow p l e) = refl
 sent_reads w x packet _ _ (too_few p m l e f) = refl
 sent_reads w x packet _ _ (refused p m p1 p2 ts l e f a r) =

@@ -18,12 +18,12 @@ use Rattle.xen_turns.specs.declared.delivery.wait.Awaited.TheVariants as awaited
 use Rattle.xen_turns.specs.declared.delivery.delivering.Delivery.{Delivery}
 use Rattle.xen_turns.specs.declared.delivery.delivering.Delivery.TheVariants as delivery
 use Rattle.xen_turns.specs.declared.state.State.{State as BackState}
-use Rattle.xen_turns.specs.declared.turn.Refusal.TheVariants as refusal
+use Rattle.xen_turns.specs.declared.turn.PacketRefusal.TheVariants as refusal
 use Rattle.xen_turns.specs.declared.wiring.Wiring.{Wiring as BackWiring}
-use Rattle.xen_buffers.specs.declared.wiring.Wiring.{Wiring as FrontWiring}
+use Rattle.xen_buffers.specs.declared.wiring.FrontWiring.{FrontWiring}
 use Rattle.xen_front.specs.Given.{Ending as FrontEnding}
 use Rattle.xen_front.specs.Tree.{poll}
-use Rattle.xen_front.specs.declared.state.State.{State as FrontState}
+use Rattle.xen_front.specs.declared.state.FrontState.{FrontState}
 use Rattle.xen_front.specs.declared.turn.PollRefusal.{PollRefusal}
 use Rattle.xen_front.specs.declared.turn.PostRefusal.{PostRefusal}
 use Rattle.xen_front.specs.declared.turn.SendRefusal.{SendRefusal}

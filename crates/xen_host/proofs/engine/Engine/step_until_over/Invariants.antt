@@ -1,7 +1,7 @@
 use Rattle.std.proofs.Common.{◌≡◌}
 use Rattle.xen_host.specs.EngineAt.{engine_at}
 use Rattle.xen_host.specs.Going.{HasGoneBy}
-use Rattle.xen_host.proofs.engine.Engine.go_on.Given as goal
+use Rattle.xen_host.proofs.engine.Engine.step_until_over.Given as goal
 
 abbrev pub invariant-loop-round : goal.invariant-loop-round
 invariant-loop-round g l =

@@ -5,7 +5,7 @@ use Rattle.xen_host.proofs.HostLedLemmas.{asked_from}
 use Rattle.xen_turns.specs.Deliveries.{unless_halted}
 use Rattle.xen_turns.specs.declared.turn.Halt.{Halt}
 use Rattle.xen_host.specs.EngineAt.{engine_at}
-use Rattle.xen_host.proofs.engine.Engine.set_out.Goals as goal
+use Rattle.xen_host.proofs.engine.Engine.start_delivery.Goals as goal
 
 pub returns-in-Some : goal.returns-in-Some
 returns-in-Some g c =

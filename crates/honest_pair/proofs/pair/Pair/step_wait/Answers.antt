@@ -5,7 +5,7 @@ use Rattle.honest_pair.specs.Shows.{awaits_after, calls_while, is_none}
 use Rattle.honest_pair.specs.declared.calling.Calling.TheVariants as calling
 use Rattle.honest_pair.proofs.BackLemmas.{held_back, some_queue}
 use Rattle.honest_pair.proofs.WaitLemmas.{last_answer, looks_on}
-use Rattle.honest_pair.proofs.pair.Pair.look_on.Goals as goal
+use Rattle.honest_pair.proofs.pair.Pair.step_wait.Goals as goal
 
 pub returns : goal.returns
 returns c =

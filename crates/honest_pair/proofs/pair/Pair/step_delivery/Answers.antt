@@ -5,7 +5,7 @@ use Rattle.honest_pair.specs.Shows.{calls_while}
 use Rattle.honest_pair.specs.declared.calling.Calling.TheVariants as calling
 use Rattle.honest_pair.proofs.BackLemmas.{held_back, some_queue}
 use Rattle.honest_pair.proofs.DeliveryLemmas.{carries_on, same_count}
-use Rattle.honest_pair.proofs.pair.Pair.carry_on.Goals as goal
+use Rattle.honest_pair.proofs.pair.Pair.step_delivery.Goals as goal
 
 pub returns : goal.returns
 returns c =

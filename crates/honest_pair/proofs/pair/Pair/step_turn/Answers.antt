@@ -1,7 +1,7 @@
 use Rattle.std.proofs.Common.{refl, sym, ◌∙◌, ap, ◌++◌}
 use Rattle.xdp_world.specs.Happens.{kept_list}
 use Rattle.honest_pair.proofs.BackLemmas.{goes_on, held_back, idle_kept, some_queue}
-use Rattle.honest_pair.proofs.pair.Pair.go_on.Goals as goal
+use Rattle.honest_pair.proofs.pair.Pair.step_turn.Goals as goal
 
 pub returns : goal.returns
 returns c =

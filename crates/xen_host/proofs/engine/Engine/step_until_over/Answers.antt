@@ -5,7 +5,7 @@ use Rattle.xen_host.specs.EngineAt.{engine_at}
 use Rattle.xen_host.specs.Going.{IsGone}
 use Rattle.xen_host.proofs.GoingLemmas.{gone_on, open_of}
 use Rattle.xen_host.proofs.TaskLemmas.{is_busy}
-use Rattle.xen_host.proofs.engine.Engine.go_on.Goals as goal
+use Rattle.xen_host.proofs.engine.Engine.step_until_over.Goals as goal
 
 pub step_over-requires-clause-stands : goal.step_over-requires-clause-stands
 step_over-requires-clause-stands g c =
