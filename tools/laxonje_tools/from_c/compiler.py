@@ -11,7 +11,8 @@ import sys
 
 from laxonje_tools.output import fail
 
-# clang before 15 calls memcmp for a constant size too: a loop of our own takes its place
+# clang before 15 calls memcmp for a constant size too: a loop of our own takes its place. So it does for bpf_strncmp, and for bpf_for and
+# bpf_repeat, which libbpf defines unless a file did
 INLINED = """
 static inline __attribute__((always_inline)) int inlined_memcmp(const void *a, const void *b, unsigned long n)
 {
@@ -23,6 +24,21 @@ static inline __attribute__((always_inline)) int inlined_memcmp(const void *a, c
 	return 0;
 }
 #define __builtin_memcmp inlined_memcmp
+static inline __attribute__((always_inline)) long inlined_strncmp(const char *a, unsigned int n, const char *b)
+{
+#pragma unroll
+	for (unsigned int i = 0; i < n; i++) {
+		if (a[i] != b[i])
+			return (unsigned char)a[i] < (unsigned char)b[i] ? -1 : 1;
+		if (!a[i])
+			break;
+	}
+	return 0;
+}
+#define bpf_strncmp(a, n, b) inlined_strncmp(a, n, b)
+#define bpf_for(i, start, end) \\
+	for (int bpf_at = (start), bpf_end = (end); bpf_at < bpf_end && ((i) = bpf_at, 1); bpf_at++)
+#define bpf_repeat(n) for (int bpf_at = 0, bpf_end = (n); bpf_at < bpf_end; bpf_at++)
 """
 MEMCMP = "#define memcmp inlined_memcmp\n"
 # what clang isn't to do: compare distances where C compares addresses, and store once through one of two addresses
@@ -30,6 +46,8 @@ MEMCMP = "#define memcmp inlined_memcmp\n"
 KEPT_AS_IN_C = ["-indvars-predicate-loops=false", "-sink-common-insts=false"]
 # of what clang says of stacks, a line for each function: where it stands, its name, and how many bytes it uses
 FRAME = re.compile(r":(?P<name>[^:\t\n]+)\t(?P<bytes>[0-9]+)\t", re.M)
+# a function `memcmp` of a file's own, as there is no library: behind a type or an attribute, and not in the condition of an `if`
+BEFORE_BLOCK, AFTER_TYPE, MOST_BLANKS = re.compile(r"memcmp\s*\([^;{}]*\)\s*\{"), re.compile(r"[\w)]\s+\Z"), 100
 UNKNOWN_WORD = re.compile(rb"Unknown command line argument '([^']+)'")
 
 
@@ -38,12 +56,6 @@ def system_headers() -> list[str]:
     machine = platform.machine()
     folder = f"/usr/include/{machine}-linux-gnu"
     return ["-idirafter", folder, f"-D__{machine}__"] if os.path.isdir(folder) else []
-
-
-def defines_memcmp(source: str) -> bool:
-    """Whether a file has a function `memcmp` of its own, as there is no library."""
-    with open(source, encoding="utf-8", errors="replace") as file:
-        return re.search(r"^[^;{}#/*]*\bmemcmp\s*\([^;{}]*\)\s*\{", file.read(), re.M) is not None
 
 
 def flags() -> list[str]:
@@ -84,16 +96,27 @@ class Compiler:
         if shutil.which(self.clang) is None:
             fail(f"{self.clang} isn't on the PATH: install it (Debian: apt install clang), or name one, as CLANG=clang-19")
         check_source(source)
-        header = os.path.join(folder, "inlined.h")
-        with open(header, "w", encoding="utf-8") as file:
-            file.write(INLINED if defines_memcmp(source) else INLINED + MEMCMP)
+        self.words = [*flags(), "-x", "c", os.path.join(".", source) if source.startswith("-") else source]
+        self.header = os.path.join(folder, "inlined.h")
+        with open(self.header, "w", encoding="utf-8") as file:
+            file.write(INLINED if self.defines_memcmp() else INLINED + MEMCMP)
         # a loop that clang keeps is unwound later, and which ones it keeps is nobody's concern
-        self.words = ["-Wno-pass-failed", "-Wno-macro-redefined", "-include", header, *flags(), "-x", "c"]
-        self.words += [os.path.join(".", source) if source.startswith("-") else source]
+        self.words = ["-Wno-pass-failed", "-Wno-macro-redefined", "-include", self.header, *self.words]
 
     def target(self) -> list[str]:
         """For which machine it compiles, and how well."""
         return ["-O2", "-g", "-target", "bpf", "-mcpu=" + os.environ.get("MCPU", "v2"), *system_headers()]
+
+    def is_own(self, place: str) -> bool:
+        """Whether a line of C, as `file.c:12`, isn't the author's."""
+        return place.rpartition(":")[0] == self.header
+
+    def defines_memcmp(self) -> bool:
+        """Whether the file, or a header of it, has a function `memcmp` of its own. What is wrong with them clang says later."""
+        run = subprocess.run([self.clang, *self.target(), "-E", "-P", *self.words], capture_output=True, check=False)
+        text = run.stdout.decode(errors="replace")
+        places = (found.start() for found in BEFORE_BLOCK.finditer(text))
+        return any(AFTER_TYPE.search(text[max(0, at - MOST_BLANKS) : at]) for at in places)
 
     def compiled(self) -> bytes:
         """The bytes of the object file that clang makes. What clang says goes to standard error."""

@@ -13,6 +13,7 @@ if TYPE_CHECKING:
 CALL, EXIT, JUMP, FAR_JUMP, WIDE = 0x85, 0x95, 0x05, 0x06, 0x18
 SAVED = 6, 7, 8, 9  # registers that a function leaves as they were
 STACK_BYTES = 512
+FRAME, MOVE_REGISTER, ADD_CONSTANT = 10, 0xBF, 0x07
 MOVE, MOV_CONSTANT, MOV_CONSTANT_32 = 0xB, 0xB7, 0xB4  # the first: of an arithmetic opcode's upper four bits
 
 
@@ -115,6 +116,19 @@ def constant_in(lines: list[Line], line: Line, register: int) -> Optional[int]:
     return row.immediate if row is not None and row.opcode == MOV_CONSTANT else None
 
 
+def stack_place_in(lines: list[Line], line: Line, register: int) -> Optional[int]:
+    """Where on the stack the address lies that a register has at a line; None if the lines in front of it don't say."""
+    place, row = 0, set_in(lines, line, register)
+    while row is not None and row.opcode == ADD_CONSTANT:
+        place, row = place + row.immediate, set_in(lines, row, register)
+    if row is None or row.opcode != MOVE_REGISTER:
+        return None
+    if row.source == FRAME:
+        return place
+    from_there = stack_place_in(lines, row, row.source)
+    return None if from_there is None else from_there + place
+
+
 def map_in(lines: list[Line], line: Line, register: int) -> Optional[str]:
     """The map whose address a register has at a line; None if the lines in front of it don't say."""
     row = set_in(lines, line, register)
@@ -179,3 +193,10 @@ def written(lines: list[Line]) -> tuple[bytes, list[Relocation], list[int]]:
         if line.row is not None:
             rows.append(line.row._replace(slot=slots[line]))
     return out, rows, origins
+
+
+def put_all(line: Line, rows: list[tuple]) -> list[Line]:
+    """Instructions in the place of a line, which becomes the first of them."""
+    first, *rest = rows
+    line.put(*first)
+    return [line, *(Line(packed(*fields), line.origin) for fields in rest)]

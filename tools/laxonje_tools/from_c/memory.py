@@ -1,4 +1,4 @@
-"""What a program has in memory: constants, which are maps of their own or written into its code, and globals that count, each a map.
+"""What a program has in memory: constants, which are maps of their own, and globals that count, each a map.
 
 A global of 1, 2, 4 or whole eight bytes that begins with zeros, or that the program stores to, is a map of one entry, named for it.
 Any other global keeps what it begins with: nobody writes to it here, and a program that stores to it is refused."""
@@ -13,19 +13,22 @@ if TYPE_CHECKING:
 
 COUNTER_BYTES, MOST_COUNTERS = 8, 8
 MOST_BEGINNING = (1 << 63) - 1  # of a number in settings
+CHANGES = "a global that changes is a map's counters here: they begin with at most 2^63 - 1"
 PARTS = 1, 2, 4  # sizes of numbers that are kept in the lowest bytes of a counter
 
 
 class Memory(NamedTuple):
     """`constants`: bytes by section. `tables`: of slots, where in a section their address leads, and from where to
     where the variable there lies. `globals`: of slots, the map that a global became, and the place in its value.
-    `maps`: those maps, as (name, entries, counters). `beginnings`: by name what the counters of some of them begin with."""
+    `maps`: those maps, as (name, entries, counters). `beginnings`: by name what the counters of some of them begin with. `faults`: of
+    slots, what there isn't here, as (slot, words)."""
 
     constants: dict
     tables: list
     globals: list
     maps: list
     beginnings: dict
+    faults: list
 
     def settings(self) -> dict:
         """What it adds to settings, for the tools alone."""
@@ -48,7 +51,7 @@ def beginning_of(part: Part, variable: Optional[Symbol]) -> tuple[int, ...]:
 
 def memory_of(sections: dict[str, Part], relocations: list[Relocation], changed: AbstractSet[tuple[str, int]] = frozenset()) -> Memory:
     """The memory that a program's relocations name. `changed`: places of sections that it stores to, as (section, place)."""
-    symbols, memory = symbols_of(sections), Memory({}, [], [], [], {})
+    symbols, memory, counters = symbols_of(sections), Memory({}, [], [], [], {}, []), {}
     places = {(section, variable_at(symbols, sections[section].number, place)) for section, place in changed}
     for row in relocations:
         if row.kind != MAP_ADDRESS or not row.section.startswith(MEMORY):
@@ -57,12 +60,16 @@ def memory_of(sections: dict[str, Part], relocations: list[Relocation], changed:
         variable = variable_at(symbols, part.number, row.place)
         beginning = beginning_of(part, variable)
         if is_counter(row.section, variable, beginning, (row.section, variable) in places):
+            if counters.setdefault(variable.name, (row.section, variable)) != (row.section, variable):
+                memory.faults.append((row.slot, f"takes the address of a second global {variable.name}: give one of them another name"))
             memory.beginnings.update({variable.name: beginning} if any(beginning) else {})
             memory.globals.append({"slot": row.slot, "map": variable.name, "place": row.place - variable.place})
             size = 1, max(1, variable.size // COUNTER_BYTES)
             if (variable.name, *size) not in memory.maps:
                 memory.maps.append((variable.name, *size))
             continue
+        if (row.section, variable) in places and row.section.startswith(VARIABLES):
+            memory.faults.append((row.slot, f"stores to {row.name or variable.name}: {CHANGES}"))
         first, end = extent_of(symbols, part, variable, row.place)
         memory.constants[row.section] = part.data
         place = {"section": row.section, "place": row.place, "first": first, "end": end}

@@ -2,8 +2,8 @@
 
 The verifier follows each slot with few notes: it takes no loop, and loses an address on which more than eight ways
 disagree. What clang makes of C as it is written for Linux has both. Here such a program is given other instructions
-with the same runs. Nothing is changed that the verifier doesn't ask for, and nothing here but `written_out` is trusted: the verifier
-judges the result, and `tools/same-program`, which shares no text with this package, shows that it is the same program.
+with the same runs. Nothing is changed that the verifier doesn't ask for, and nothing here but `written_out` and `guarded` is trusted: the
+verifier judges the result, and `xdpbox same`, which is proved, shows that it is the same program.
 
     instructions  an instruction's fields, what it reads and writes, what it computes of constants
     settings      settings as text, and the program in them
@@ -13,7 +13,7 @@ judges the result, and `tools/same-program`, which shares no text with this pack
     counters      which numbers have to be told apart so that each loop ends
     copies        a slot together with its constants: loops become chains of copies
     addresses     what registers stand for, and where ways with different addresses meet
-    memory        constants and globals, which there aren't in the result
+    keys          keys of lookups that aren't on the stack
     counts        a load, an addition and a store of a counter as one atomic addition
     lowered       which stores to counters may take them below 0
     emit          the copies, and what is put between them, as a program
@@ -22,6 +22,9 @@ judges the result, and `tools/same-program`, which shares no text with this pack
     search        from refusal to refusal until the verifier accepts
     ways          the ways in which that is searched
     written_out   a program with numbers of fewer than eight bytes, and keys outside of the stack, written out
+    lines         a program with other lines in the place of some
+    seen          whether a program shows the number of an address of a map's value
+    guarded       a program with tests in front of accesses to the packet
     shown         how a result is shown to be the same
     printed       settings that are printed: read again, and asked of xdpbox
     command       what the two tools have in common: straightened, shown to be the same, or refused in words

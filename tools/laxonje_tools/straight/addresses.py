@@ -7,7 +7,6 @@ refusal that comes of it names the meeting."""
 from __future__ import annotations
 
 from enum import Enum
-from functools import reduce
 from math import gcd
 from typing import TYPE_CHECKING, AbstractSet, Callable, NamedTuple, Optional, Union
 
@@ -30,7 +29,6 @@ from .instructions import (
     STORE_DOUBLE,
     SUB,
     WIDE_LOAD,
-    Table,
     signed,
 )
 
@@ -59,20 +57,6 @@ class Multiple(NamedTuple):
     """A number of which it is known that it is a multiple of another one."""
 
     of: int
-
-
-class TableAddress(NamedTuple):
-    """An address of constants: a place of their section, and whole strides from it on."""
-
-    table: Table
-    place: int
-    stride: int = 0
-
-    def moved(self, constant: int, stride: int = 0) -> TableAddress:
-        return TableAddress(self.table, self.place + constant, gcd(self.stride, stride))
-
-    def met(self, other: TableAddress) -> TableAddress:
-        return self.moved(0, gcd(other.stride, self.place - other.place))
 
 
 def multiple_of(value: object) -> Optional[int]:
@@ -118,12 +102,10 @@ def in_order(place: Place) -> tuple[int, int]:
     return (1, place.offset) if isinstance(place, StackSlot) else (0, place)
 
 
-def met_without_packet(there: list) -> Union[Multiple, TableAddress, Thing]:
+def met_without_packet(there: list) -> Union[Multiple, Thing]:
     """What stands in a place where ways meet that have different things there."""
     if all(multiple_of(known) is not None for known in there):
         return Multiple(gcd(*map(multiple_of, there)))
-    if all(isinstance(known, TableAddress) for known in there) and len({known.table for known in there}) == 1:
-        return reduce(TableAddress.met, there)
     return Thing.MIXED
 
 
@@ -159,7 +141,7 @@ class Addresses:
                 places = {CONTEXT_ARGUMENT: Thing.CONTEXT, FRAME_POINTER: Thing.FRAME}
             else:
                 ways = [(before, way, after[before]) for before, way in here.before]
-                places = self.meet(here, ways, copies.live[here.slot])
+                places = self.meet(here, ways, copies.wanted[here])
             self.before[here], after[here] = places, dict(places)
             if here.is_instruction:
                 self.step(here, copies.code[here.slot], after[here])
@@ -214,12 +196,8 @@ class Addresses:
                 places.pop(register, None)
             places[0] = Thing.VALUE
 
-    def named(self, wide: Instruction) -> Union[TableAddress, Thing]:
+    def named(self, wide: Instruction) -> Thing:
         """What a wide load gives."""
-        if wide.table is not None:
-            return TableAddress(wide.table, wide.immediate)
-        if wide.counter is not None:
-            return Thing.VALUE
         return Thing.MAP if wide.source or wide.map is not None else Thing.NUMBER
 
     def result(self, here: Copy, instruction: Instruction, places: dict) -> object:
@@ -235,12 +213,8 @@ class Addresses:
             return number_of(operation, multiple_of(a), multiple_of(b), constant)
         if operation not in (ADD, SUB):
             return Thing.NUMBER
-        if isinstance(a, (PacketAddress, TableAddress)) and is_number(constant):
+        if isinstance(a, PacketAddress) and is_number(constant):
             return a.moved(signed(constant & MASK_64) * (1 if operation == ADD else -1))
-        if isinstance(a, TableAddress) and multiple_of(b) is not None:
-            return a.moved(0, multiple_of(b))
-        if isinstance(b, TableAddress) and multiple_of(a) is not None and operation == ADD:
-            return b.moved(0, multiple_of(a))
         if operation == ADD and isinstance(a, PacketAddress) and multiple_of(b) is not None:
             return a.moved(atom=Atom(ADDED, here, instruction.source))
         if operation == ADD and isinstance(b, PacketAddress) and multiple_of(a) is not None:

@@ -6,24 +6,31 @@ import os
 import pathlib
 import shutil
 from dataclasses import dataclass, field, replace
-from typing import TYPE_CHECKING, Callable, Iterable, Iterator, NamedTuple, Optional
+from typing import TYPE_CHECKING, Callable, Iterator, NamedTuple, Optional
 
 from laxonje_tools.output import fail, in_one_line
 
 from .graph import INDEX, SIZE, Fail
-from .lowered import is_computed, may_lower
-from .parts import COUNTER_BYTES, check_values, places_of, with_counters
+from .guarded import GUARDED, MOST_GUARDS, with_guards
+from .lowered import may_lower
+from .parts import check_values, places_of, with_counters
 from .search import OF_THE_BYTES
-from .settings import as_text, instructions_of, without_rows
-from .shown import ALONE, BY_COUNTS, COMPARED, PROVED, NoComparison, Rewriting, question, shown
+from .settings import as_text, instructions_of, relocations_of, without_rows
+from .shown import ALONE, BY_COUNTS, PROVED, UNALIKE, UNDECIDED, NoComparison, Rewriting, question, shown
 from .verifier import StillRefused, Verdict, verdict
-from .ways import by_place, in_rows, searched_again, searches, without_counts
+from .ways import by_copies, by_place, in_rows, reread, searched_again, searches, uncounted, without_counts
 from .written_out import written_out
 
 if TYPE_CHECKING:
     from .marks import Result
 
-WRITTEN_OUT = "compared with small numbers and keys written out"
+WRITTEN_OUT = "beside the program with small numbers and keys written out"
+IN_MEMORY = {
+    "tables": "its constants can't be maps: at most 65536 bytes in each section, and 16 maps in all",
+    "globals": "its globals can't be looked up in front of it: the stack has no room for their addresses, or an object file doesn't say how"
+    " much of it is used",
+}
+NO_XDPBOX = "xdpbox isn't here: XDPBOX names it, and tools/build-unproved xdpbox builds it in minutes"
 NOTHING_HELPS = "nothing is rewritten that helps"
 FUSED = (
     "a load, an addition and a store are one atomic addition: on a map that isn't per CPU, Linux would lose counts here"
@@ -37,9 +44,9 @@ LOWERED = (
     " `({})*value <= 0`"
 )
 SIGNED = {1: "signed char", 2: "short", 4: "int", 8: "long long"}  # by size
-HOW = PROVED, BY_COUNTS, ALONE, COMPARED  # the best way first
+HOW = PROVED, BY_COUNTS, ALONE  # the best way first
 ENOUGH = PROVED, BY_COUNTS  # after which no other settings are tried
-MOST_COMPARED = 10000  # slots, in all results that can't be taken
+MOST_ASKED = 10000  # slots, in all results that can't be taken
 TOP = pathlib.Path(__file__).resolve().parents[3]
 # a refusal's words are those of instructions; these are those of C
 IN_C = {
@@ -55,6 +62,9 @@ IN_C = {
     "V19": "of the atomic operations there is the addition of eight bytes alone, __sync_fetch_and_add",
     SIZE: "fewer steps of the loop, or a smaller body: keep the offset as a number, and add it to data anew in each"
     " step",
+    UNDECIDED: "count the loop's steps in a __u64 from 0 up to a constant, `for (__u64 i = 0; i < 8 && more; i++)`, and compare numbers"
+    " without sign",
+    UNALIKE: "compute what is compared, or added to an address, once, as a __u64, and compare that number itself",
     INDEX: "compare the index with how many elements there are, or mask it, on each way to this line",
 }
 NO_MAP = (
@@ -70,36 +80,32 @@ ATOMIC, WORD_ADDED = ("c3", "db"), "00000000"  # opcodes, and the constant of an
 
 @dataclass
 class Straight:
-    """A program that is accepted and the same. `lines`: its map. `notes`: what its author should know. `how`: it was
-    shown to be the same. `asked`: what `xdpbox same` was asked of it, or None. `moved`: by map the parts of values that
-    have a counter of their own. `written_out`: settings with the program written out, if it was compared with that; `lines` is
-    of them then."""
+    """A program that is accepted and the same. `labels`: of each slot the kind, and a slot of the original. `notes`: what its author
+    should know. `how`: it was shown to be the same. `asked`: what `xdpbox same` was asked of it, None of a program with tests in front of
+    accesses that is accepted as it is. `moved`: by map the parts of values that have a counter of their own. `written_out`: settings
+    with the program written out, if it is the same as that; `labels` are of them then. `guards`: how many such tests there are."""
 
     words: list
     relocations: list
-    lines: list
+    labels: dict
     notes: list
-    how: str
+    how: Optional[str]
     asked: Optional[str] = None
     moved: dict = field(default_factory=dict)
     written_out: Optional[dict] = None
+    guards: int = 0
 
     def comment(self, settings: dict) -> str:
         """The lines that settings with this program have."""
-        first = f"# straightened: {len(settings['program'])} slots -> {len(self.words)}, {self.how}\n"
+        first = f"# straightened: {len(settings['program'])} slots -> {len(self.words)}{f', {self.how}' if self.how else ''}\n"
         first += f"# {WRITTEN_OUT}: {len(self.written_out['program'])} slots\n" if self.written_out else ""
+        first += f"# with tests in front of accesses that --guard put in: {self.guards}\n" if self.guards else ""
         places = "".join(f"# {in_one_line(line)}\n" for line in places_of(settings, self.moved))
         return first + places.encode("ascii", "backslashreplace").decode()
 
     def settings(self, settings: dict) -> dict:
         """Settings with the counters that this program needs."""
         return with_counters(settings, self.moved)
-
-    def map(self, settings: dict) -> str:
-        """What `tools/same-program` reads beside the two programs."""
-        maps = [row["name"] for row in settings.get("map", [])]
-        parts = [f"moved {maps.index(name)} {at} {size} {own}" for name, row in self.moved.items() for (at, size), own in row.items()]
-        return "".join(f"{line}\n" for line in [*self.lines, *parts])
 
 
 class Refused(Exception):
@@ -110,9 +116,14 @@ class Refused(Exception):
         super().__init__(f"{why}")
         self.answer, self.why, self.atomic = answer, why, atomic
 
+    @property
+    def cause(self) -> Optional[str]:
+        """What it is that refuses it: one of the verifier's causes, SIZE or INDEX; None for one that is in words alone."""
+        return self.why.cause or self.answer.cause
+
     def advice(self) -> Optional[str]:
         """What to write instead, or None."""
-        cause = self.why.cause or self.answer.cause
+        cause = self.cause
         answer = self.why.answer if isinstance(self.why, StillRefused) else self.answer
         if cause == "V17" and not answer.has_map:
             return NO_MAP
@@ -138,14 +149,19 @@ def xdpbox_program() -> Optional[str]:
 
 
 class Wanted(NamedTuple):
-    """`guard`: an access that nothing shows to lie in the packet may become a test that ends the program. `proved`:
-    what is compared alone isn't enough. `per_cpu`: whether a store's slot is to a per-CPU map. `writes_out`: whether the program
-    may be written out before it is compared."""
+    """`guard`: an access that nothing shows to lie in the packet may get a test in front of it that ends the program. `per_cpu`: whether
+    a store's slot is to a per-CPU map. `at_once`: whether the first searches alone are made, since another form is shown. `asked`: how
+    many slots the results had that weren't shown to be the same."""
 
     guard: bool = False
-    proved: bool = False
     per_cpu: Callable = lambda slot: False
-    writes_out: bool = True
+    at_once: bool = False
+    asked: Optional[list[int]] = None
+
+    @property
+    def is_enough(self) -> bool:
+        """Whether no more results are asked about."""
+        return sum(self.asked) > MOST_ASKED
 
 
 def is_accepted(settings: dict, xdpbox: str) -> bool:
@@ -162,7 +178,7 @@ def better_of(forms: list[dict], xdpbox: str, wanted: Wanted = Wanted()) -> tupl
     found, refusals = [], []
     for settings in forms:
         try:
-            found.append((settings, straightened(settings, xdpbox, wanted)))
+            found.append((settings, straightened(settings, xdpbox, wanted._replace(at_once=any(row.how == ALONE for _, row in found)))))
         except Refused as refused:
             refusals.append(refused)
         if found and found[-1][1].how in ENOUGH:
@@ -174,18 +190,57 @@ def better_of(forms: list[dict], xdpbox: str, wanted: Wanted = Wanted()) -> tupl
 
 def straightened(settings: dict, xdpbox: str, wanted: Wanted = Wanted()) -> Optional[Straight]:
     """None if the program of the settings is accepted as it is."""
-    answer, in_memory = verdict(xdpbox, as_text(without_rows(settings))), settings.get("tables") or settings.get("globals")
-    if answer.accepted and not in_memory:
+    try:
+        return rewritten(settings, xdpbox, wanted)
+    except Refused as refused:
+        found = guarded(settings, xdpbox, wanted, refused.why) if wanted.guard else None
+        if found is None:
+            raise
+        return found
+
+
+def guarded(settings: dict, xdpbox: str, wanted: Wanted, why: Fail) -> Optional[Straight]:
+    """A program with tests in front of accesses that nothing shows to lie in the packet, as few as are needed; None if there is none.
+    `why`: it was refused without."""
+    slots, origins, top = [], list(range(len(settings["program"]))), None
+    while isinstance(why, NoComparison) and len(slots) < MOST_GUARDS and origins[why.slot] not in slots:
+        slots.append(origins[why.slot])
+        top = why.top if top is None else top
+        given = with_guards(settings, instructions_of(settings), slots, top)
+        if given is None:
+            return None
+        origins = given.origins
+        try:
+            found = rewritten(given.settings, xdpbox, wanted)
+        except Refused as refused:
+            why = refused.why
+            continue
+        notes = [(origins[slot], note) for slot, note in found.notes] if found else []
+        notes += [(slot, GUARDED) for slot in slots]
+        if found is None:
+            return Straight(given.settings["program"], relocations_of(given.settings), {}, notes, None, guards=len(slots))
+        return replace(found, notes=notes, guards=len(slots))
+    return None
+
+
+def rewritten(settings: dict, xdpbox: str, wanted: Wanted) -> Optional[Straight]:
+    """The same without further tests."""
+    missing = next((words for key, words in IN_MEMORY.items() if settings.get(key)), None)
+    if missing is not None:
+        raise Refused(Verdict(""), Fail(missing))
+    answer = verdict(xdpbox, as_text(without_rows(settings)))
+    if answer.accepted:
         return None
-    if answer.cause is None and not answer.accepted:
+    if answer.cause is None:
         raise Refused(answer, Fail(answer.words.strip() or f"{xdpbox} gave no answer"))
-    word = settings["program"][answer.slot] if answer.slot is not None and answer.slot < len(settings["program"]) else ""
+    word = settings["program"][answer.slot] if answer.slot < len(settings["program"]) else ""
     if answer.cause in OF_THE_BYTES and not (answer.cause == "V19" and word.startswith("c3") and word.endswith(WORD_ADDED)):
         raise Refused(answer, Fail(NOTHING_HELPS, answer.slot), word.startswith(ATOMIC))
-    if in_memory:  # it was asked of a program without its constants
-        answer = Verdict("")
-    missing, faults, unguarded, slots = None, [], [], 0
-    for result in searches(settings, xdpbox, faults, unguarded):
+    missing, faults, unguarded, wanted, tried = None, [], [], wanted._replace(asked=[]), set()
+    for result in searches(settings, xdpbox, faults, unguarded, wanted.at_once):
+        if result.text in tried:
+            continue
+        tried.add(result.text)
         program, missing = taken_best(xdpbox, settings, result, wanted)
         if missing is not None and missing.cause == INDEX:
             program, missing = taken_by_place(xdpbox, settings, result, wanted, missing)
@@ -193,8 +248,7 @@ def straightened(settings: dict, xdpbox: str, wanted: Wanted = Wanted()) -> Opti
             return program
         if isinstance(missing, NoComparison):
             unguarded.append(result)
-        slots += len(result.words)
-        if slots > MOST_COMPARED:
+        if wanted.is_enough:
             break
     fault = missing or best_of(faults)
     if isinstance(fault, StillRefused) and (fault.slot, fault.cause) == (answer.slot, answer.cause):
@@ -207,42 +261,53 @@ def taken_by_place(
 ) -> tuple[Optional[Straight], Optional[Fail]]:
     """The same of a result that something is missing to, since its indices may be others."""
     other = by_place(settings, xdpbox, result)
-    return (None, missing) if other is None else taken(xdpbox, settings, other, wanted)
+    program = None if other is None else taken(xdpbox, settings, other, wanted)[0]
+    return program, missing if program is None else None
 
 
 def taken_best(xdpbox: str, settings: dict, result: Result, wanted: Wanted) -> tuple[Optional[Straight], Optional[Fail]]:
-    """A result that is shown to be the same, or what is missing to that; without its counts, or with numbers told apart in rows, if
-    it is proved so alone."""
-
-    def proved(other: Optional[Result]) -> Optional[Straight]:
-        return None if other is None else taken(xdpbox, settings, other, wanted._replace(proved=True))[0]
-
-    program = proved(without_counts(settings, xdpbox, result)) or taken_written_out(xdpbox, settings, result, wanted)
+    """A result that is shown to be the same, in one of its forms, or what is missing to that."""
+    other = without_counts(settings, xdpbox, result)
+    program = None if other is None else taken(xdpbox, settings, other, wanted)[0]
+    program = program or taken_written_out(xdpbox, settings, result, wanted)
     if program is not None:
         return program, None
     simple = taken(xdpbox, settings, result, wanted)
-    if simple[0] is not None and simple[0].how != COMPARED:
+    if simple[0] is not None:
         return simple
-    programs = (proved(other) for other in in_rows(settings, xdpbox, result))
-    program = next((program for program in programs if program is not None), None)
-    return simple if program is None else (program, None)
+    faults = [simple[1]]
+
+    def first_shown(*makers: Callable[..., Iterator[Result]]) -> Optional[Straight]:
+        """The first of other forms that is shown to be the same."""
+        for other in (other for forms in makers if not wanted.is_enough for other in forms(settings, xdpbox, result)):
+            program, fault = taken(xdpbox, settings, other, wanted)
+            if program is not None:
+                return program
+            faults.append(fault)
+        return None
+
+    program = first_shown(in_rows, by_copies, uncounted)
+    program = program or taken_written_out(xdpbox, settings, result, wanted, with_words=True) or first_shown(reread)
+    return (None, plainest_of(faults)) if program is None else (program, None)
 
 
-def taken_written_out(xdpbox: str, settings: dict, result: Result, wanted: Wanted) -> Optional[Straight]:
+def plainest_of(faults: list[Fail]) -> Fail:
+    """Of what is missing to several forms the first that is an access's or a number's, or else the first."""
+    return next((fault for fault in faults if fault.cause in ("V10", INDEX)), faults[0])
+
+
+def taken_written_out(xdpbox: str, settings: dict, result: Result, wanted: Wanted, with_words: bool = False) -> Optional[Straight]:
     """A result of the program written out that is proved to be the same as that; None if there is none. A number that is stored is
-    read first: so nothing is said of several queues then. A count isn't written out: what is added is the difference from what was
-    loaded, so that no count of another queue is lost."""
-    code = instructions_of(settings)
-    small = {slot: row for slot, row in result.differences.items() if code[slot].size < COUNTER_BYTES}
-    is_count = any(is_computed(code, slot, row) for slot, row in small.items())
-    other = written_out(settings, code, result) if wanted.writes_out and not is_count else None
+    read first: so nothing is said of several queues then. What a count adds is the difference from what was loaded, so that no count
+    of another queue is lost. `with_words`: whether numbers on the stack are written out too."""
+    other = written_out(settings, instructions_of(settings), result, with_words)
     if other is None or any(row.get("values") and result.moved.get(row["name"]) for row in settings["map"]):
         return None
     for found in searched_again(other.settings, xdpbox, result):
-        program, _ = taken(xdpbox, other.settings, found, wanted._replace(proved=True))
+        program, _ = taken(xdpbox, other.settings, found, wanted)
         if program is None or found.moved:
             continue
-        how, notes = ALONE if other.has_stores else program.how, list(notes_of(result, (), wanted.per_cpu))
+        how, notes = ALONE if other.has_stores else program.how, list(notes_of(result, wanted.per_cpu))
         return replace(program, how=how, notes=notes, moved=result.moved, written_out=other.settings)
     return None
 
@@ -256,22 +321,23 @@ def taken(xdpbox: str, settings: dict, result: Result, wanted: Wanted) -> tuple[
     labels = {slot: (label.kind.value, label.slot) for slot, label in result.labels.items()}
     relocations = [{"slot": slot, "map": name} for slot, name in result.relocations]
     rebuilt = {**with_counters(settings, result.moved), "program": result.words, "reloc": relocations}
-    judged = shown(xdpbox, Rewriting(settings, rebuilt, labels, result.moved), wanted.guard, wanted.proved)
+    judged = shown(xdpbox, Rewriting(settings, rebuilt, labels), result.found.top)
     if judged.missing is not None:
+        wanted.asked.append(len(result.words))
         return None, judged.missing
-    lines = [f"{slot} {kind} {original}" for slot, (kind, original) in sorted(labels.items())]
-    notes = list(notes_of(result, judged.guards, wanted.per_cpu))
-    asked = question(settings, rebuilt, labels)
-    return Straight(result.words, result.relocations, lines, notes, judged.how, asked, result.moved), None
+    notes, asked = list(notes_of(result, wanted.per_cpu)), question(settings, rebuilt, labels)
+    return Straight(result.words, result.relocations, labels, notes, judged.how, asked, result.moved), None
 
 
 def best_of(faults: list[Fail]) -> Fail:
-    """The first reason of several searches that names a place, or else the first."""
+    """The first reason of several searches if it is the size of a program; else the first that names a place, or else the first."""
+    if faults[0].cause == SIZE:
+        return faults[0]
     placed = [fault for fault in faults if fault.slot is not None]
     return (placed or faults)[0]
 
 
-def notes_of(result: Result, guards: Iterable[int], per_cpu: Callable[[int], bool]) -> Iterator[tuple[int, str]]:
+def notes_of(result: Result, per_cpu: Callable[[int], bool]) -> Iterator[tuple[int, str]]:
     for slot in result.counts:
         if not per_cpu(slot):
             yield slot, FUSED
@@ -281,8 +347,6 @@ def notes_of(result: Result, guards: Iterable[int], per_cpu: Callable[[int], boo
             size = result.code[slot].size
             note += LOWERED.format(8 * size, SIGNED[size])
         yield slot, note
-    for slot in guards:
-        yield slot, "guarded: if this would reach outside the packet, the program ends with ABORTED"
 
 
 def describe(

@@ -30,7 +30,6 @@ from .instructions import (
     STX,
     SUB,
     WIDE_LOAD,
-    Table,
     compute,
     holds,
     signed,
@@ -47,11 +46,10 @@ RESULTS, MAPS = 1, 2
 END_FIELD = 4  # of the context
 MAP_ARGUMENT = 1  # of a lookup: its register
 ORDERED = {JEQ, JGT, JGE, JNE, JLT, JLE}
-FAR_ENOUGH = 1 << 32  # from any place of a section down to 0
 
 
 class Address(NamedTuple):
-    base: object  # one of the names above, or a Table
+    base: str  # one of the names above
     offset: int = 0
     map: Optional[str] = None  # of a map, or of a value if maps are followed
 
@@ -65,11 +63,6 @@ def is_number(value: object) -> bool:
 
 def is_address(value: object, *bases: str) -> bool:
     return isinstance(value, Address) and value.base in bases
-
-
-def in_table(value: object) -> bool:
-    """Whether it is an address of constants, whose base is the table."""
-    return isinstance(value, Address) and isinstance(value.base, Table)
 
 
 class Constants:
@@ -133,10 +126,8 @@ class Constants:
         a, b = self.operands(jump)
         if is_number(a) and is_number(b):
             return holds(jump, a, b)
-        if b == 0 and jump.kind == JMP and jump.operation in (JEQ, JNE) and (in_table(a) or is_address(a, NONE)):
-            return (jump.operation == JEQ) == is_address(a, NONE)
-        if in_table(a) and in_table(b) and a.base == b.base and jump.kind == JMP and jump.operation in ORDERED:
-            return holds(jump, a.offset - b.offset + FAR_ENOUGH, FAR_ENOUGH)
+        if b == 0 and jump.kind == JMP and jump.operation in (JEQ, JNE) and is_address(a, NONE):
+            return jump.operation == JEQ
         if jump.kind == JMP and jump.operation in ORDERED:
             if is_address(a, FAR) and a.offset >= 0 and is_address(b, PACKET_END):
                 return holds(jump, 2, 1)
@@ -191,20 +182,14 @@ class Constants:
             return compute(instruction, a, 0) if is_number(a) else None
         if is_number(a) and is_number(b):
             return compute(instruction, a, b)
-        moves = is_address(a, FRAME, FAR, VALUE) or in_table(a)
-        if wide and instruction.operation in (ADD, SUB) and moves and is_number(b):
+        if wide and instruction.operation in (ADD, SUB) and is_address(a, FRAME, FAR, VALUE) and is_number(b):
             return a._replace(offset=a.offset + signed(b) * (1 if instruction.operation == ADD else -1))
-        if wide and instruction.operation == ADD and is_number(a) and (is_address(b, VALUE) or in_table(b)):
+        if wide and instruction.operation == ADD and is_number(a) and is_address(b, VALUE):
             return b._replace(offset=b.offset + signed(a))
         return None
 
     def _wide(self, instruction: Instruction) -> Optional[Constant]:
-        """What a wide load gives: an address in a table or in a global's value, a number, or None."""
-        if instruction.table is not None:
-            return Address(instruction.table, instruction.immediate)
-        if instruction.counter is not None:
-            name = instruction.counter if self.values == MAPS else None
-            return Address(VALUE, instruction.immediate, name) if self.values else None
+        """What a wide load gives: a map, a number, or None."""
         if instruction.map is not None and self.values == MAPS:
             return Address(MAP, 0, instruction.map)
         if instruction.source or instruction.map is not None:
@@ -215,8 +200,6 @@ class Constants:
         base = self.registers.get(load.source)
         if is_address(base, CONTEXT) and load.opcode == LOAD_WORD and load.offset == END_FIELD:
             return Address(PACKET_END)
-        if in_table(base):
-            return base.base.number(base.offset + load.offset, load)
         if is_address(base, FRAME) and load.opcode == LOAD_DOUBLE:
             return self.stack.get(base.offset + load.offset)
         return None

@@ -10,12 +10,12 @@ Two marks put tests of our own in front of an addition, if the verifier would lo
 from __future__ import annotations
 
 from dataclasses import dataclass, field
-from typing import TYPE_CHECKING, NamedTuple, Optional
+from typing import TYPE_CHECKING, AbstractSet, NamedTuple, Optional
 
 from .constants import FAR, Address, Constants, is_number
 from .counters import counters
 from .graph import Fail, NoBound, TooMany, live_registers, loops, slots_that_reach, steering_registers, successors
-from .instructions import FRAME_POINTER, REGISTERS
+from .instructions import FRAME_POINTER, REGISTERS, reads, writes
 from .kinds import stores_elsewhere
 
 if TYPE_CHECKING:
@@ -127,6 +127,7 @@ class Copies:
                 here.ways.append((way, after))
                 after.before.append((here, way))
         self.order = self.sorted()
+        self.wanted = wanted_registers(self)
 
     def copy(self, slot: int, phase: Phase, constants: Constants) -> Copy:
         """The copy with these constants, of which those that can't matter are forgotten."""
@@ -226,6 +227,26 @@ class Copies:
                 finished[here] = True
                 order.append(here)
         return order[::-1]
+
+
+def wanted_registers(copies: Copies) -> dict[Copy, AbstractSet[int]]:
+    """Of each copy the registers whose numbers matter before it: an access, a jump, a call or the end reads them, or what is made of them."""
+    before = {}
+    for here in reversed(copies.order):
+        after = frozenset().union(*(before[copy] for _, copy in here.ways))
+        before[here] = after if here.phase == OUTSIDE else wanted_before(copies, here, after)
+    return before
+
+
+def wanted_before(copies: Copies, here: Copy, after: AbstractSet[int]) -> AbstractSet[int]:
+    """The same before a copy that isn't the end. `after`: those of the copies behind it."""
+    insn = copies.code[here.slot]
+    if here.phase.name == CASE:
+        return after | {copies.cases[here.slot].register}
+    if here.phase == TESTS:
+        return after | ({copies.wide[here.slot].register} if here.slot in copies.wide else frozenset())
+    is_idle = insn.is_arithmetic and not writes(insn) & after or insn.is_branch and len(here.ways) == 1
+    return after if is_idle else reads(insn) | after - writes(insn)
 
 
 def copies_of(code: Code, numbers: str, marks: MarksOfCopies, last: Optional[Copies]) -> Copies:

@@ -24,7 +24,6 @@ from .kinds import VALUE, kinds_before
 
 if TYPE_CHECKING:
     from .instructions import Code
-    from .kinds import Kinds
 
 
 def fused(code: Code, store: int) -> Optional[Code]:
@@ -110,15 +109,8 @@ def difference(code: Code, store: int, zeros: bool = False) -> Optional[Differen
             loads = instruction.is_load or instruction.opcode == STORE_DOUBLE == code[store].opcode
             if loads and kinds.counter(instruction) == counter:
                 known.add(slot)
-            elif slot in (0, counter[0]) or instruction.is_store and may_be_stored(kinds, instruction, counter):
+            elif slot in (0, counter[0]) or instruction.is_store and kinds.get(instruction.base, ("",))[0] == VALUE:
                 unknown = True
             else:
                 todo.append(slot)
     return Difference(counter, frozenset(known), bool(known) and unknown)
-
-
-def may_be_stored(kinds: Kinds, store: Instruction, counter: tuple) -> bool:
-    """Whether a store may be to this counter. Two globals are two counters."""
-    kind, place = kinds.get(store.base, ("", None))
-    names = {row[0] for row in (place, counter) if isinstance(row, tuple) and isinstance(row[0], str)}
-    return kind == VALUE and len(names) < 2

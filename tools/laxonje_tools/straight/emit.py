@@ -6,12 +6,12 @@ from __future__ import annotations
 from enum import Enum
 from typing import TYPE_CHECKING, AbstractSet, Callable, Container, NamedTuple, Optional
 
-from .addresses import ADDED, KEPT, MET, Atom, PacketAddress, StackSlot, TableAddress, Thing
+from .addresses import ADDED, KEPT, MET, Atom, PacketAddress, StackSlot, Thing
 from .constants import VALUE, is_address
 from .copies import CASE, MOST_DISTANCE, OUTSIDE, TESTS, Copy
 from .graph import SIZE, Fail
 from .accesses import write_difference, write_narrow_load, write_rebased, write_word_addition
-from .memory import check_store, look_up_globals, loads_constant, takes_address, write_key
+from .keys import write_key
 from .instructions import (
     ADD,
     ADD_CONSTANT,
@@ -83,6 +83,10 @@ class Emitter:
              is a constant on some ways: with a constant the sum would be another kind of address
     differences  by the slots of stores to a counter of which the difference is added
     keys     slots of lookups whose key is copied to the stack
+    anew     by the slots of a jump and of what comes behind it a copy of what it compares, which is made anew on this way
+    cuts     slots from which on a number is cut to 32 bits, which is kept
+    lengths  by the slots of additions the register of the number, and one of our own in which it is kept
+    kept     by the slots of loads of counters what is kept of them, and in `again` which loads read that again
     moved    by map the parts of its values that have a counter of their own
 
     `reached`: by map the accesses in its values; those of None may be in any. `key_sizes`: by map how many bytes a lookup reads. `lies`:
@@ -130,7 +134,8 @@ class Emitter:
         self, count: int, slot: int, live: AbstractSet[int], taken: Container[int] = ()
     ) -> tuple[list[int], Callable[[], None]]:
         """Registers for our use: those that aren't live, then live ones, which are saved; and how to put these back."""
-        usable = [register for register in range(FRAME_POINTER - 1, -1, -1) if register not in taken]
+        kept = {register for _, register in self.marks.lengths.values()}
+        usable = [register for register in range(FRAME_POINTER - 1, -1, -1) if register not in taken and register not in kept]
         free = [register for register in usable if register not in live]
         lent = [register for register in usable if register in live][: max(0, count - len(free))]
         for number, register in enumerate(lent):
@@ -185,6 +190,12 @@ class Emitter:
                 self.put_own(slot, STORE_DOUBLE, FRAME_POINTER, target, row.place.offset)
             give_back()
 
+    def move_anew(self, here: Copy, after: Copy) -> None:
+        """On a way behind a jump: a copy of what it compares, made anew. The verifier knows what the jump says of the compared register alone."""
+        row = self.marks.anew.get((here.slot, after.slot))
+        if row is not None:
+            self.put_own(after.slot, MOVE_REGISTER, row.copy, row.compared)
+
     def guard(self, here: Copy) -> None:
         """Before an access: the end of what it reaches is compared with the packet's end."""
         slot, access, live = here.slot, self.copies.code[here.slot], self.copies.live[here.slot]
@@ -221,11 +232,8 @@ class Emitter:
     def write_start(self) -> None:
         """Keeps the context, and a 0 of which the verifier knows only that it is 0 or 1. So a distance is a number on
         every way and a constant on none; else the verifier would keep it apart."""
-        globals_used = sorted({insn.counter for insn in self.copies.code.values() if insn.counter is not None})
-        if self.stored or self.marks.guards or self.marks.rebased or globals_used:
+        if self.stored or self.marks.guards or self.marks.rebased:
             self.save(CONTEXT_SLOT, CONTEXT_ARGUMENT, 0)
-        if globals_used:
-            look_up_globals(self, globals_used)
         if self.marks.blurred or any(not address.atoms for address in self.stored):
             self.put_own(0, LOAD_WORD, 0, CONTEXT_ARGUMENT, INTERFACE_FIELD)
             self.put_own(0, XOR_REGISTER, 0, 0)
@@ -257,6 +265,11 @@ class Emitter:
             give_back()
         for atom in sorted(self.saved.get(here, []), key=lambda atom: atom.place):
             self.save(atom, atom.place, slot)
+        if slot in self.marks.cuts:
+            self.save(("cut", insn.destination), insn.destination, slot)
+        if slot in self.marks.lengths:
+            number, register = self.marks.lengths[slot]
+            self.put_own(slot, MOVE_REGISTER, register, number)
         if self.write_otherwise(here, insn):
             return None
         if insn.is_branch:
@@ -278,12 +291,15 @@ class Emitter:
             self.put(Instruction(*fields), Kind.COPY, slot, here)
             if slot in self.known:
                 self.save(("counted", self.known[slot]), insn.destination, slot + 1)
+            for name in self.marks.kept.get(slot, ()):
+                self.save(name, insn.destination, slot + 1)
+            if slot in self.marks.again:
+                self.load(insn.destination, self.marks.again[slot], slot + 1)
         return None
 
     def write_otherwise(self, here: Copy, insn: Instruction) -> bool:
         """Whether the result has something else in the place of this instruction; it is written then."""
         slot, marks = here.slot, self.marks
-        check_store(self, here, insn)
         if here.key in marks.rebased:
             write_rebased(self, here, insn)
         elif slot in marks.narrow:
@@ -299,7 +315,7 @@ class Emitter:
             write_key(self, here)
             return False
         else:
-            return insn.is_load and loads_constant(self, here, insn) or takes_address(self, here, insn)
+            return False
         return True
 
     def goes_to_accesses(self, here: Copy, insn: Instruction) -> bool:
@@ -331,19 +347,21 @@ class Emitter:
     def is_elsewhere(self, here: Copy, register: int) -> bool:
         """Whether a register surely has no address of a value."""
         place = self.addresses.before[here].get(register)
-        return isinstance(place, (PacketAddress, TableAddress)) or place in (Thing.FRAME, Thing.CONTEXT)
+        return isinstance(place, PacketAddress) or place in (Thing.FRAME, Thing.CONTEXT)
 
     def lead(self, here: Copy, way: int, after: Copy, following: Optional[Copy]) -> None:
         """From a copy to the next one."""
         self.store_distances(here, way, after)
+        self.move_anew(here, after)
         if after is not following:
             self.put_jump(after.slot, after)
 
     def write_ways(self, here: Copy, branch: Instruction, following: Optional[Copy]) -> None:
-        """After a branch: where it isn't taken, and where its distances are stored if it is."""
+        """After a branch: where it isn't taken, and where distances are stored and copies made anew if it is."""
         (way, fallen), (other, jumped) = here.ways
         self.store_distances(here, way, fallen)
-        stub = self.addresses.stored.get((here, other))
+        self.move_anew(here, fallen)
+        stub = self.addresses.stored.get((here, other)) or (here.slot, jumped.slot) in self.marks.anew
         if stub or fallen is not following:
             self.put_jump(fallen.slot, fallen)
         self.jumps.append((branch, (here, other) if stub else jumped))
@@ -351,8 +369,18 @@ class Emitter:
             self.places[here, other] = len(self.out)
             self.lead(here, other, jumped, following)
 
+    def part_ways(self) -> None:
+        """A jump of our own behind each branch whose both ways lead to the next slot, which `xdpbox same` doesn't take."""
+        number = {id(instruction): at for at, instruction in enumerate(self.out)}
+        places = [number[id(jump)] for jump, to in self.jumps if jump.is_branch and self.places[to] == number[id(jump)] + 1]
+        for at in sorted(places, reverse=True):
+            self.out.insert(at + 1, Instruction(JUMP))
+            self.labels.insert(at + 1, Label(Kind.OWN, self.labels[at].slot + (self.labels[at].kind == Kind.COPY)))
+            self.places = {name: place + (place > at) for name, place in self.places.items()}
+
     def program(self) -> tuple[list[str], list[tuple[int, str]], dict[int, Label]]:
         """The program's words, its relocations, and the label of each of its slots."""
+        self.part_ways()
         starts, total = [], 0
         for instruction in self.out:
             starts.append(total)

@@ -49,8 +49,8 @@ class NoBound(Fail):
 class TooMany(Fail):
     """More copies than anybody wants."""
 
-    def __init__(self, words: str, slot: int) -> None:
-        super().__init__(words, slot, "V5")
+    def __init__(self, words: str, slot: int, cause: str = "V5") -> None:
+        super().__init__(words, slot, cause)
 
 
 def successors(code: Code, slot: int) -> list[int]:
@@ -158,13 +158,14 @@ def steering_registers(code: Code) -> dict[int, AbstractSet[int]]:
 
 class Steering(NamedTuple):
     """What decides how often a loop runs: a jump that leaves it, where it leads inside, and the instructions of which
-    the compared numbers are made, from the last mask by a constant outside of the loop on. `bounds`: the constants
-    above which what is made of the same numbers doesn't come to the loop."""
+    the compared numbers are made, from the last mask by a constant outside of the loop on. `bounding`: the jumps that compare what is
+    made of the same numbers with a constant, and from which none above it comes to the loop; `bounds`: these constants."""
 
     jump: int
     inside: int
     masks: list
     sources: set
+    bounding: list
     bounds: list
 
     def is_by_data(self, code: Code, loop: set[int]) -> bool:
@@ -173,7 +174,8 @@ class Steering(NamedTuple):
 
     def folds(self, code: Code, loop: set[int]) -> bool:
         """Whether what is compared is shifted in the loop, as a sum whose carries are added to it."""
-        return any(code[slot].is_arithmetic and code[slot].operation == RSH for slot in self.sources & loop)
+        shifts = (slot for slot in self.sources & loop if code[slot].is_arithmetic and code[slot].operation == RSH)
+        return any(not is_low_half(code, slot) for slot in shifts)
 
     def step(self, code: Code, loop: set[int]) -> int:
         """The least number that is added to what is compared in one step of the loop."""
@@ -190,13 +192,15 @@ class Steering(NamedTuple):
         return max([0, *(insn.immediate for insn in moved if insn.opcode == MOVE_CONSTANT)])
 
     def most(self, code: Code, loop: set[int], mask: int) -> int:
-        """The greatest number that a mask leaves, after the shifts that follow."""
+        """The greatest number that a mask leaves, after the shifts that follow, and without the constants that are taken from it."""
         number = code[mask].immediate
         for slot in sorted(slot for slot in self.sources - loop if slot > mask):
             if code[slot].opcode == LSH_CONSTANT:
                 number <<= min(code[slot].immediate, MOST_SHIFT)
             elif code[slot].opcode == RSH_CONSTANT:
                 number >>= code[slot].immediate
+            elif code[slot].opcode == ADD_CONSTANT and 0 < -code[slot].immediate < number:
+                number += code[slot].immediate
         return number
 
 
@@ -210,8 +214,9 @@ def steering(code: Code, loop: set[int]) -> Iterator[Steering]:
             continue
         masks, sources = made_of(code, before, jump, loop)
         read = {slot for slot in sources - loop if code[slot].is_load or is_mask(code[slot])}
-        bounds = {code[slot].immediate for slot in compared if made_of(code, before, slot, loop)[1] & read}
-        yield Steering(jump, staying[0], sorted(masks, reverse=True), sources, sorted(bounds))
+        bounding = [slot for slot in compared if made_of(code, before, slot, loop)[1] & read]
+        bounds = {code[slot].immediate for slot in bounding}
+        yield Steering(jump, staying[0], sorted(masks, reverse=True), sources, bounding, sorted(bounds))
 
 
 def is_upper_bound(code: Code, slot: int, ahead: set[int]) -> bool:
@@ -250,6 +255,14 @@ def made_of(code: Code, before: dict[int, list[int]], jump: int, loop: set[int])
 def kept_at(load: Instruction) -> set[int]:
     """The place of the stack from which a load takes a number, below 0 as registers aren't."""
     return {load.offset} if load.is_load and load.source == FRAME_POINTER else set()
+
+
+def is_low_half(code: Code, slot: int) -> bool:
+    """Whether a shift to the right comes after one to the left, which both leave the lower 32 bits."""
+    before, here = code.get(slot - 1), code[slot]
+    if before is None or (before.opcode, here.opcode) != (LSH_CONSTANT, RSH_CONSTANT) or before.destination != here.destination:
+        return False
+    return before.immediate == here.immediate == 32
 
 
 def is_mask(instruction: Instruction) -> bool:

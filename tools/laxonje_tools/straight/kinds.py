@@ -30,7 +30,7 @@ START_FIELDS = (0, 8)  # of the context: data and data_meta
 class Kinds(dict):
     """What address registers hold, and the stack's slots by ("stack", offset): its kind; and for one of the
     stack the distance from the frame's end, for a map's value who gave it and the distance, or None. Who gave it is the
-    slot of a lookup, or of an addition of an index, or the name of a global. `zeros`: whether registers that are 0 have a kind."""
+    slot of a lookup, or of an addition of an index. `zeros`: whether registers that are 0 have a kind."""
 
     def __init__(self, rows: dict, zeros: bool) -> None:
         super().__init__(rows)
@@ -63,8 +63,6 @@ class Kinds(dict):
                 following.put(register, None)
             if instruction.opcode == CALL:
                 following.put(0, (VALUE, (slot, 0)))
-            elif instruction.counter is not None:
-                following.put(instruction.destination, (VALUE, (instruction.counter, instruction.immediate)))
         return following
 
     def result(self, slot: int, instruction: Instruction) -> Optional[tuple]:

@@ -6,7 +6,7 @@ from typing import TYPE_CHECKING, NamedTuple, Optional
 
 if TYPE_CHECKING:
     from .instructions import Code
-    from .memory import Key
+    from .keys import Key
     from .parts import Lying
 
 
@@ -19,6 +19,28 @@ class MarksOfCopies(NamedTuple):
     differences: dict
     nones: bool
     values: int
+
+
+class Anew(NamedTuple):
+    """A copy of the register that a jump compares, and that one."""
+
+    copy: int
+    compared: int
+
+
+class Form(NamedTuple):
+    """What the found program is to be like. `fuses`: whether a load, additions and a store become one atomic addition. `by_place`: whether
+    each index into a value is told apart by all places of the value, and not by the numbers that the verifier names, which are those of
+    one of its notes. `in_rows`: whether a masked number is told apart where it is one of a row, so that tests of all of them leave no
+    other number. `by_copies`: whether a register of which a masked copy is compared is made anew of that, and a number that is cut to 32
+    bits is kept in front of it. `rereads`: whether a store of a whole counter that is no count adds the difference from
+    what stands there then."""
+
+    fuses: bool = True
+    by_place: bool = False
+    in_rows: bool = False
+    by_copies: bool = False
+    rereads: bool = False
 
 
 @dataclass
@@ -36,10 +58,15 @@ class Marks:
     differences: dict = field(default_factory=dict)  # by the slot of a store
     adds: set = field(default_factory=set)  # slots of atomic additions of four bytes
     trips: dict = field(default_factory=dict)  # of slots in loops, how often a way comes by
+    lengths: dict = field(default_factory=dict)  # by the slot of an addition the register of the number, and the one in which it is kept
+    cuts: set = field(default_factory=set)  # slots from which on a number is cut to 32 bits
+    anew: dict = field(default_factory=dict)  # by the slots of a jump, and of what comes behind it, the copy that is made anew on this way
     narrow: set = field(default_factory=set)  # slots of loads
     rebased: set = field(default_factory=set)  # keys of copies, or slots
     keys: set = field(default_factory=set)  # slots of lookups
     moved: dict = field(default_factory=dict)  # by map the parts of values that have a counter of their own
+    kept: dict = field(default_factory=dict)  # by the slots of loads of counters the names of what is kept of them
+    again: dict = field(default_factory=dict)  # by the slots of loads that read a counter again the name of what was kept of it
 
     def of_copies(self) -> MarksOfCopies:
         """Those of copies as they are now: later marks don't change these."""
@@ -73,3 +100,9 @@ class Result:
     way: tuple
     has_rows: bool = False
     found: Optional[Found] = None
+
+    @property
+    def text(self) -> tuple:
+        """What two results have in common that are the same program, made in the same way of the original."""
+        labels = tuple((slot, label.kind, label.slot) for slot, label in self.labels.items())
+        return tuple(self.words), tuple(self.relocations), labels, repr(self.moved)

@@ -1,14 +1,16 @@
 """What a masked number can be."""
 from __future__ import annotations
 
-from typing import TYPE_CHECKING, NamedTuple, Optional, Sequence
+from typing import TYPE_CHECKING, Iterator, NamedTuple, Optional, Sequence
 
-from .instructions import ALU64, AND, JMP, JMP32, LSH, RSH, compute, writes
+from .graph import live_registers, successors
+from .instructions import ALU64, AND, AND_CONSTANT, ARSH, JGE, JGT, JLE, JLT, JMP, JMP32, LSH, MOVE_REGISTER, RSH, compute, writes
 
 if TYPE_CHECKING:
     from .instructions import Code, Instruction
 
-MOST_CASE_BITS = 6
+MOST_CASE_BITS, HALF, DOUBLE = 6, 32, 8  # the second: of a register's bits; the third: its bytes
+LSH_CONSTANT, RSH_CONSTANT, ARSH_CONSTANT = ALU64 | LSH, ALU64 | RSH, ALU64 | ARSH
 
 
 class Row(NamedTuple):
@@ -69,9 +71,22 @@ def row_of(code: Code, mask: int, numbers: Sequence[int], is_shifted: bool) -> O
         return Row(mask + 1, numbers) if is_shifted else None
     before = code.get(mask - 1)
     is_behind_shift = before is not None and before.kind == ALU64 and not before.by_register and before.operation == RSH
-    if not numbers or many > 1 << MOST_CASE_BITS or not is_behind_shift or before.destination != code[mask].destination:
+    if not numbers or not is_behind_shift or before.destination != code[mask].destination:
         return None
-    return Row(mask, range(many))
+    many = max(many, 1 + (most_loaded(code, mask - 1, before.destination) >> before.immediate))
+    return Row(mask, range(many)) if many <= 1 << MOST_CASE_BITS else None
+
+
+def most_loaded(code: Code, slot: int, register: int) -> int:
+    """The most that a register can have before a slot, if it was loaded last, from fewer than eight bytes; or 0."""
+    for at in range(slot - 1, -1, -1):
+        insn = code.get(at)
+        if insn is None or register not in writes(insn):
+            continue
+        if insn.opcode != MOVE_REGISTER:
+            return (1 << 8 * insn.size) - 1 if insn.is_load and insn.size < DOUBLE and not insn.with_sign else 0
+        register = insn.source
+    return 0
 
 
 def parts_of(mask: int) -> Sequence[int]:
@@ -82,6 +97,39 @@ def parts_of(mask: int) -> Sequence[int]:
     for bit in range(mask.bit_length()):
         numbers += [number | 1 << bit for number in numbers] if mask >> bit & 1 else []
     return numbers
+
+
+class Bounded(NamedTuple):
+    """A masked copy of a register that a jump compares with a constant: the jump, what comes behind it where it isn't above, and both
+    registers."""
+
+    jump: int
+    after: int
+    register: int
+    copy: int
+
+
+def bounded_copies(code: Code) -> Iterator[Bounded]:
+    """The masked copies that are compared. Each register is needed later: the verifier knows what the jump says of the copy alone."""
+    live = live_registers(code)
+    for slot in code:
+        copy, mask, jump = (code.get(slot + at) for at in range(3))
+        if copy.opcode != MOVE_REGISTER or mask is None or jump is None or (mask.opcode, mask.destination) != (AND_CONSTANT, copy.destination):
+            continue
+        below = {JGT: 0, JGE: 0, JLT: 1, JLE: 1}.get(jump.operation) if jump.is_branch and not jump.by_register else None
+        if below is not None and jump.destination == copy.destination:
+            after = successors(code, slot + 2)[below]
+            if copy.source in live[after]:
+                yield Bounded(slot + 2, after, copy.source, copy.destination)
+
+
+def cuts(code: Code) -> Iterator[int]:
+    """The slots from which on a register is shifted to its upper half, and back."""
+    for slot, left in code.items():
+        right = code.get(slot + 1)
+        if left.opcode == LSH_CONSTANT and left.immediate == HALF and right is not None and right.opcode in (RSH_CONSTANT, ARSH_CONSTANT):
+            if (right.destination, right.immediate) == (left.destination, HALF):
+                yield slot
 
 
 def after_shifts(number: int, shifts: list[Instruction]) -> int:

@@ -36,12 +36,12 @@ from .emit import Emitter, Kind, Needs
 from .graph import SIZE, Fail, NoBound, TooMany
 from .indices import bound_index, places_in_value
 from .instructions import MASK_32
-from .marks import Found, Marks, Result
-from .masks import masked, row_before
-from .memory import KEY_ARGUMENT
+from .marks import Anew, Form, Found, Marks, Result
+from .masks import bounded_copies, cuts, masked, row_before
+from .keys import KEY_ARGUMENT
 from .parts import COUNTER_BYTES, NeedsCounters, check_parts, has_parts, moved_with, with_counters
 from .settings import instructions_of, key_sizes, text_of, without_rows
-from .steps import Steps
+from .steps import Steps, refusal
 from .verifier import StillRefused, verdict
 
 if TYPE_CHECKING:
@@ -67,18 +67,20 @@ def are_few(numbers: Sequence[int]) -> bool:
 
 class Search:
     """One search. `numbers`: which are told apart; `way`: what is marked first if an address was lost: a meeting
-    as one copy (BY_COPY) or at all copies of its slot (BY_SLOT), or the access, to be rebased (BY_ACCESS). `fuses`: whether a
-    load, additions and a store become one atomic addition. `by_place`: whether each index into a value is told apart by all places
-    of the value, and not by the numbers that the verifier names, which are those of one of its notes. `in_rows`: whether a masked
-    number is told apart where it is one of a row, so that tests of all of them leave no other number."""
+    as one copy (BY_COPY) or at all copies of its slot (BY_SLOT), or the access, to be rebased (BY_ACCESS). `form`: of what it finds."""
 
-    def __init__(
-        self, settings: dict, xdpbox: str, numbers: str, way: str, fuses: bool = True, by_place: bool = False, in_rows: bool = False
-    ) -> None:
+    def __init__(self, settings: dict, xdpbox: str, numbers: str, way: str, form: Form = Form()) -> None:
         self.settings, self.xdpbox, self.numbers, self.way = without_rows(settings), xdpbox, numbers, way
-        self.fuses, self.by_place, self.in_rows, self.has_rows = fuses, by_place, in_rows, False
+        self.form, self.has_rows = form, False
         self.code = instructions_of(settings)
-        self.marks = Marks(values=RESULTS if any(insn.counter is not None for insn in self.code.values()) else 0)
+        self.marks = Marks()
+        if form.by_copies:
+            self.marks.anew = {(row.jump, row.after): Anew(row.register, row.copy) for row in bounded_copies(self.code)}
+            self.marks.cuts = set(cuts(self.code))
+        for row in settings.get("again", []):
+            self.marks.again[row["slot"]] = name = "counted", row["slot"]
+            for load in row["loads"]:
+                self.marks.kept.setdefault(load, []).append(name)
         self.copies = self.addresses = self.labels = None
         self.reached = {}  # by map the accesses in its values
         self.found = None  # where they lie
@@ -147,7 +149,7 @@ class Search:
             self.copies = copies_of(self.code, self.numbers, marks.of_copies(), self.copies)
         except (NoBound, TooMany) as loop:
             if not Steps(self.code, self.marks, loop.slot).told_apart(isinstance(loop, NoBound)):
-                raise
+                raise refusal(self.code, loop) from None
             return None
         self.addresses = Addresses(self.copies, self.is_marked, self.is_restarted)
         try:
@@ -277,9 +279,11 @@ class Search:
     def fuse(self, slot: int) -> bool:
         if self.code[slot].is_atomic:
             return False
-        mended = fused(self.code, slot) if self.fuses else None
+        mended = fused(self.code, slot) if self.form.fuses else None
         if mended is None:
             row = difference(self.code, slot, self.marks.nones)
+            if self.form.rereads and row is not None and self.code[slot].size == COUNTER_BYTES and fused(self.code, slot) is None:
+                row = row._replace(known=frozenset(), told=False)
             fresh = row is not None and slot not in self.marks.differences
             self.marks.differences.update({slot: row} if fresh else {})
             if fresh and (self.code[slot].size < COUNTER_BYTES or has_parts(self.settings)):
@@ -369,17 +373,17 @@ class Search:
             return False
         found = masked(self.code, label.slot, lost.register)
         stride = multiple_of(self.addresses.before[label.copy].get(lost.register)) or 1
-        if self.in_rows and lost.was == "map_value" and self.follow(MAPS):
+        if self.form.in_rows and lost.was == "map_value" and self.follow(MAPS):
             return True
         index = label.copy, self.code[label.slot], lost.register
         places = places_in_value(*index, self.addresses, self.settings) if lost.was == "map_value" else ()
         row = row_before(self.code, label.slot, lost.register, places or lost.multiples_of(stride)) if found is None else found.row
         self.has_rows |= row is not None
-        if self.in_rows and row is not None and row.slot not in self.marks.cases:
+        if self.form.in_rows and row is not None and row.slot not in self.marks.cases:
             self.marks.cases[row.slot] = Cases(lost.register, tuple(row.numbers), label.slot)
             return True
         numbers = found.numbers if found is not None and found.numbers else lost.multiples_of(stride)
-        if lost.was == "map_value" and (self.by_place or not are_few(numbers)):
+        if lost.was == "map_value" and (self.form.by_place or not are_few(numbers)):
             if self.follow(MAPS):
                 return True
             numbers = places

@@ -11,7 +11,8 @@ if TYPE_CHECKING:
     from .instructions import Code
 
 INDEX_BYTES, LENGTH_BYTES = 4, 4  # of an array's key, and of a prefix's length
-OF_THE_TOOLS = "constants", "tables", "globals", "numbers", "begin", "stack"  # keys that no printed settings have
+OF_THE_TOOLS = "constants", "tables", "globals", "numbers", "begin", "stack", "again", "laid"  # keys that no printed settings have
+OF_THE_PROGRAM = "program", "reloc", *OF_THE_TOOLS
 CONSTANTS = "constants"  # the key of a map that is read at its address
 
 
@@ -44,6 +45,12 @@ def name_memory(instruction: Instruction, row: dict, settings: dict) -> None:
         instruction.table = Table(row["name"], row["section"], data, row["first"], row["end"])
     else:
         instruction.counter = row["map"]
+
+
+def maps_and_rest(settings: dict) -> dict:
+    """All in settings but their program: the maps, in their order, and what is run."""
+    maps = [{**row, "counters": row.get("counters", 1)} for row in settings.get("map", [])]
+    return {**{key: value for key, value in settings.items() if key not in OF_THE_PROGRAM}, "map": maps}
 
 
 def relocations_of(settings: dict) -> list[tuple[int, str]]:

@@ -95,12 +95,30 @@ def is_of_program(refused: str) -> bool:
     return re.match(r"refused V\d+ ", refused) is not None
 
 
-def called(xdpbox: str, settings: str) -> Optional[str]:
-    """What `xdpbox same` calls the program of settings, as text, beside the other one there: `same`, `same by counts`,
-    `same alone`, or None."""
+class Stop(NamedTuple):
+    """Where `xdpbox same` stops: a slot of the result, the slot of the original there, and why."""
+
+    slot: int
+    original: int
+    words: str
+
+
+class Called(NamedTuple):
+    """`how`: what `xdpbox same` calls a program beside another one: `same`, `same by counts`, `same alone`, or None; and then where it
+    stops, if it says that."""
+
+    how: Optional[str] = None
+    stop: Optional[Stop] = None
+
+
+def called(xdpbox: str, settings: str) -> Called:
+    """What `xdpbox same` answers of the program of settings, as text, beside the other one there."""
     run = asked(xdpbox, "same", settings)
     said = re.match("(same|same by counts|same alone), ", run.stdout)
-    return said[1] if run.returncode == 0 and said else None
+    if run.returncode == 0 and said:
+        return Called(said[1])
+    stop = re.search(r"^at slot (\d+), the original at (\d+): (.*)$", run.stdout, re.M)
+    return Called(stop=Stop(int(stop[1]), int(stop[2]), stop[3]) if stop else None)
 
 
 def verdict(xdpbox: str, settings: str) -> Verdict:

@@ -9,6 +9,8 @@ from typing import TYPE_CHECKING, Iterator, Optional
 
 from .copies import COUNTERS, EVERYWHERE, IN_LOOPS, STEERING
 from .graph import Fail, TooMany, loops
+from .marks import Form
+from .masks import bounded_copies, cuts
 from .search import BY_ACCESS, BY_COPY, BY_SLOT, Search
 from .settings import instructions_of
 
@@ -29,26 +31,30 @@ def without_counts(settings: dict, xdpbox: str, result: Result) -> Optional[Resu
     """What the same search finds if each count is a difference too: counts are proved neither beside differences nor where maps have
     parts. None if there is nothing of the kind."""
     have_parts = any(row.get("parts") for row in settings.get("map", []))
-    if not result.counts or not result.differences and not have_parts:
-        return None
-    try:
-        return Search(settings, xdpbox, *result.way, fuses=False).run()
-    except Fail:
-        return None
+    return next(uncounted(settings, xdpbox, result), None) if result.differences or have_parts else None
+
+
+def uncounted(settings: dict, xdpbox: str, result: Result) -> Iterator[Result]:
+    """What the same search finds if each count is a difference."""
+    if result.counts:
+        with contextlib.suppress(Fail):
+            yield Search(settings, xdpbox, *result.way, Form(fuses=False)).run()
 
 
 def searched_again(settings: dict, xdpbox: str, result: Result) -> Iterator[Result]:
-    """What the same search finds of the program written out: with counts, and with each count as a difference."""
-    for fuses in (True, False):
-        with contextlib.suppress(Fail):
-            yield Search(settings, xdpbox, *result.way, fuses=fuses).run()
+    """What the same search finds of the program written out: with counts, and with each count as a difference; then the same with masked
+    numbers told apart where they are of a row."""
+    for in_rows in (False, True) if result.has_rows else (False,):
+        for fuses in (True, False):
+            with contextlib.suppress(Fail):
+                yield Search(settings, xdpbox, *result.way, Form(fuses, in_rows=in_rows)).run()
 
 
 def by_place(settings: dict, xdpbox: str, result: Result) -> Optional[Result]:
     """What the same search finds if indices into values are told apart by all places of these: the verifier names the numbers of one
     of the ways that meet there. None if it finds nothing."""
     try:
-        return Search(settings, xdpbox, *result.way, by_place=True).run()
+        return Search(settings, xdpbox, *result.way, Form(by_place=True)).run()
     except Fail:
         return None
 
@@ -58,16 +64,32 @@ def in_rows(settings: dict, xdpbox: str, result: Result) -> Iterator[Result]:
     each count as a difference."""
     for fuses in (True, False) if result.has_rows else ():
         with contextlib.suppress(Fail):
-            yield Search(settings, xdpbox, *result.way, in_rows=True, fuses=fuses).run()
+            yield Search(settings, xdpbox, *result.way, Form(fuses, in_rows=True)).run()
 
 
-def searches(settings: dict, xdpbox: str, faults: list[Fail], unguarded: list[Result]) -> Iterator[Result]:
+def by_copies(settings: dict, xdpbox: str, result: Result) -> Iterator[Result]:
+    """What the same search finds if registers are made anew of masked copies that were compared, and numbers kept that are cut."""
+    code = instructions_of(settings)
+    if [*bounded_copies(code), *cuts(code)]:
+        with contextlib.suppress(Fail):
+            yield Search(settings, xdpbox, *result.way, Form(by_copies=True)).run()
+
+
+def reread(settings: dict, xdpbox: str, result: Result) -> Iterator[Result]:
+    """What the same search finds if a number that was computed of a counter is set: as in Linux, what another queue counts in between is
+    lost then."""
+    if any(row.known for row in result.differences.values()):
+        with contextlib.suppress(Fail):
+            yield Search(settings, xdpbox, *result.way, Form(fuses=False, rereads=True)).run()
+
+
+def searches(settings: dict, xdpbox: str, faults: list[Fail], unguarded: list[Result], at_once: bool = False) -> Iterator[Result]:
     """What the searches find, the smaller of two programs first. The next two begin only if nobody took one of
     these, and none that would have too many copies again, or lead to the same again. Why a search found none is added to the
     faults. If some results of the first ones want a guard that nobody asked for (`unguarded`), others do too, but for those that
-    tell all numbers apart."""
+    tell all numbers apart. `at_once`: whether the first ones alone are made."""
     done = set() if loops(instructions_of(settings)) else {COUNTERS, IN_LOOPS}
-    for numbers, ways in WAYS:
+    for numbers, ways in WAYS[:1] if at_once else WAYS:
         results = []
         if numbers in done or unguarded and numbers == IN_LOOPS:
             continue

@@ -9,7 +9,7 @@ import sys
 import tempfile
 
 TOOLS = pathlib.Path(__file__).resolve().parents[3]
-STARTED = "settings-from-c", "filter-test", "straighten", "same-program"  # the tools that tests start
+STARTED = "settings-from-c", "filter-test", "straighten"  # the tools that tests start
 
 
 def can_compile(clang):

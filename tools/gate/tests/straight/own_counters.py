@@ -1,7 +1,7 @@
 """Numbers of fewer than eight bytes that share a counter: two runs of a filter at once change none but what they store to.
 
 A number that is stored below another one has a counter of its own. What two runs leave is known, wherever one of them
-stands when the other runs; and pairs in which a part is at another place than the map says aren't called the same."""
+stands when the other runs."""
 import itertools
 import os
 import pathlib
@@ -12,16 +12,13 @@ import tomllib
 from typing import NamedTuple
 
 from tests.straight import machine
-from tests.straight.programs import ADD_CONSTANT, ATOMIC_DOUBLE, CALL, EXIT, IF_ABOVE_CONSTANT, IF_ABOVE_REGISTER, IF_EQUAL_CONSTANT
-from tests.straight.programs import LOAD_DOUBLE, LOAD_WORD, LSH_CONSTANT, MOVE_CONSTANT, MOVE_REGISTER, PASS, R0, R1, R2, R3, R6, R10
-from tests.straight.programs import BOTH_HALVES, RSH_CONSTANT, START, STORE_DOUBLE, STORE_WORD, WIDE_LOAD, lookup, settings
+from tests.straight.programs import ADD_CONSTANT, ATOMIC_DOUBLE, BOTH_HALVES, EXIT, IF_ABOVE_CONSTANT, IF_ABOVE_REGISTER
+from tests.straight.programs import IF_EQUAL_CONSTANT, LOAD_DOUBLE, LOAD_WORD, LSH_CONSTANT, MOVE_CONSTANT, MOVE_REGISTER, PASS
+from tests.straight.programs import R0, R2, R3, R6, R10, RSH_CONSTANT, START, STORE_DOUBLE, STORE_WORD, WIDE_LOAD, R1, lookup, settings
 from laxonje_tools.from_c import program
-from laxonje_tools.same.check import Check
-from laxonje_tools.same.state import Differs
 from laxonje_tools.straight.instructions import BY_REGISTER, JLE, JMP
-from laxonje_tools.straight.parts import Part, with_counters
-from laxonje_tools.straight.settings import text_of
-from laxonje_tools.straight.verifier import verdict
+from laxonje_tools.straight.seen import shows_addresses
+from laxonje_tools.straight.settings import instructions_of, text_of
 
 TOOLS = pathlib.Path(__file__).resolve().parents[3]
 HEADERS = "#include <linux/bpf.h>\n#include <bpf/bpf_helpers.h>\n"
@@ -98,14 +95,6 @@ LIMITERS = {
         "left is bits 0 to 15 of counter 2",
         "none is bits 32 to 63 of counter 0",
     ),
-    "elements that are chosen by a number": of_global(
-        "static volatile __u16 state[4];\n",
-        ("[p[1] & 1]", "[0]"),
-        ("[2 + (p[1] & 1)]", "[2]"),
-        "[0] is bits 0 to 15 of counter 1",
-        "[2] is bits 0 to 15 of counter 3",
-        "[3] is bits 48 to 63 of counter 0",
-    ),
     "a member of a member": of_value(
         "struct both { __u16 left, passed; }; struct row { __u32 none; struct both both[2]; };\n",
         "struct row",
@@ -117,10 +106,6 @@ LIMITERS = {
 }
 # C in which a store may change another number whatever is done, and what is said
 REFUSED = {
-    "nine numbers": (
-        "static volatile __u8 state[16];\n" + FUNCTION + "for (int i = 0; i < 9; i++) state[i]--; return XDP_PASS; }",
-        "numbers of state are stored below another one of their counter",
-    ),
     "two numbers at once": (
         "static volatile struct { __u32 left, passed; } state;\n" + FUNCTION
         + "state.left -= 1; return *(volatile __u64 *)&state ? XDP_PASS : XDP_DROP; }",
@@ -143,6 +128,10 @@ REFUSED = {
     "bit fields of eight bytes": (
         "static volatile struct { __u64 left : 8, passed : 56; } state;\n" + FUNCTION + "state.left--; return state.passed & 1; }",
         "a store may change another one of left, passed",
+    ),
+    "elements that are chosen by a number": (
+        "static volatile __u16 state[4];\n" + of_names(LIMITER % "left == 0", "state[p[1] & 1]", "state[2 + (p[1] & 1)]"),
+        "can't be written out as accesses of whole counters",
     ),
     "a struct that is set whole": (
         "static volatile struct { __u32 left, passed; } state;\n" + FUNCTION
@@ -220,7 +209,7 @@ def limiter_tests(clang, xdpbox, path):
             relocations = [(each["slot"], each["map"]) for each in result["reloc"]]
             moved = moved_in(original, made)
             wrong, count = machine.differences(xdpbox, original, result["program"], relocations, SOME_PACKETS, moved)
-            yield f"{name} as clang made it, on {count} packets", " ".join(wrong[:3])
+            yield f"{name} as clang made it, on {count} packets", " ".join(wrong[:3]) or ("" if count else "no packet was run")
 
 
 def wrong_together(row, made):
@@ -275,7 +264,7 @@ def tests(clang, xdpbox):
         yield from refused_tests(clang, xdpbox, path)
 
 
-# --- pairs
+# --- addresses as numbers
 
 # r6 is the packet's start, of 14 bytes, and the map's address lies on the stack; then r0 is the address of a value
 IF_NOT_ABOVE_REGISTER = JMP | JLE | BY_REGISTER
@@ -289,24 +278,13 @@ BEFORE = [
     (STORE_DOUBLE, R10, R1, -32),
 ]
 SPILLED = (STORE_DOUBLE, R10, R0, -16)
-# programs of which the number of an address decides something, or that reach outside of their values: in a map whose values
-# grow they'd be others, though no instruction changes
+# programs of which the number of an address decides something: in a map whose values grow they'd be others, though no instruction changes
 SEEN = {
     "the address is the answer": [(EXIT,)],
     "the address is stored in the packet": [(STORE_DOUBLE, R6, R0)],
     "half of it is stored in the packet": [(STORE_WORD, R6, R0)],
     "half of the stored address is loaded": [SPILLED, (LOAD_WORD, R0, R10, -12), (EXIT,)],
     "the stored address is loaded at another place": [SPILLED, (STORE_DOUBLE, R10, R0, -24), (LOAD_DOUBLE, R0, R10, -20), (EXIT,)],
-    "the stored address is a key": [
-        SPILLED,
-        (MOVE_REGISTER, R2, R10),
-        (ADD_CONSTANT, R2, 0, 0, -16),
-        (LOAD_DOUBLE, R1, R10, -32),
-        (CALL, 0, 0, 0, 1),
-        (IF_EQUAL_CONSTANT, R0, 0, 2, 0),
-        (MOVE_CONSTANT, R0, 0, 0, 1),
-        (EXIT,),
-    ],
     "the address is compared with a number": [(IF_ABOVE_CONSTANT, R0, 0, 2, 0x50000009), (MOVE_CONSTANT, R0, 0, 0, 1), (EXIT,)],
     "the address is compared with the packet's": [(IF_ABOVE_REGISTER, R0, R6, 2), (MOVE_CONSTANT, R0, 0, 0, 1), (EXIT,)],
     "a part of the address is the answer": [(RSH_CONSTANT, R0, 0, 0, 3), (EXIT,)],
@@ -322,73 +300,27 @@ SEEN = {
         (LOAD_DOUBLE, R0, R10, -16),
         (EXIT,),
     ],
-    "a counter that the original doesn't have": [(LOAD_DOUBLE, R3, R0, 16), (STORE_DOUBLE, R6, R3)],
-    "a part and what lies beside it": [(LOAD_DOUBLE, R3, R0), (STORE_DOUBLE, R6, R3)],
 }
-MOVED = {"hits": {Part(0, 4): 2}}
-# the same program, of parts that aren't any, or that have no counter of their own
-WRONG_PARTS = {
-    "a counter that another number has": {"hits": {(0, 4): 1}},
-    "a counter that isn't there": {"hits": {(0, 4): 3}},
-    "two parts in one counter": {"hits": {(0, 2): 2, (2, 2): 2}},
-    "two parts with a byte in common": {"hits": {(0, 4): 2, (2, 2): 3}},
-    "a part of two counters": {"hits": {(6, 4): 2}},
-    "a part of no bytes": {"hits": {(0, 0): 2}},
-    "a part in front of the value": {"hits": {(-4, 4): 2}},
-    "a part behind the value": {"hits": {(16, 4): 2}},
-    "a part of another map": {"none": {(0, 4): 2}},
-    "no part, and a counter more": {},
+# programs in which an address is tested, moved, and kept on the stack
+UNSEEN = {
+    "a counter is read": [(LOAD_DOUBLE, R3, R0, 8)],
+    "the stored address is read by": [SPILLED, (LOAD_DOUBLE, R3, R10, -16), (ADD_CONSTANT, R3, 0, 0, 8), (LOAD_DOUBLE, R3, R3)],
+    "what wasn't found is the answer": [(MOVE_CONSTANT, R0, 0, 0, 1), (EXIT,)],
 }
 
 
-def called_same(original, result, labels, moved):
-    """Whether the comparison calls them the same: nothing, or what differs."""
-    try:
-        check = Check(original, result, labels, moved)
-        check.run()
-    except Differs as differs:
-        return f"{differs}"
-    return "unproven" if check.unproven else ""
+def seen_tests():
+    for names, wanted in ((SEEN, True), (UNSEEN, False)):
+        for name, rest in names.items():
+            given = settings(*BEFORE, *lookup(*rest), *PASS, entries=1, counters=2)
+            found = shows_addresses(instructions_of(given))
+            yield f"{name}: {'seen' if wanted else 'not seen'}", "" if found == wanted else f"{found}"
 
 
-def pair_tests(xdpbox):
-    """Programs that are no others but for a map, whose values have more counters."""
-    labels = {}
-    for name, rest in SEEN.items():
-        given = settings(*BEFORE, *lookup(*rest), *PASS, entries=1, counters=2)
-        labels = {slot: ("copy", slot) for slot in range(len(given["program"]))}
-        grown = with_counters(given, MOVED)
-        relocations = [(row["slot"], row["map"]) for row in grown["reloc"]]
-        answer = verdict(xdpbox, text_of(grown, grown["program"], relocations))
-        yield f"{name}: the same in a map as it was", called_same(given, given, labels, {})
-        yield f"{name}: accepted in one that grew", "" if answer.accepted else answer.words or "no answer"
-        yield f"{name}: not the same in one that grew", "" if called_same(given, grown, labels, MOVED) else "it is called the same"
-    given = settings(*BEFORE, *lookup((LOAD_DOUBLE, R3, R0, 8)), *PASS, entries=1, counters=2)
-    labels = {slot: ("copy", slot) for slot in range(len(given["program"]))}
-    yield "a counter without parts", called_same(given, with_counters(given, MOVED), labels, MOVED)
-    for name, moved in WRONG_PARTS.items():
-        grown = {**given, "map": [{**given["map"][0], "counters": 2 + max(1, len(moved.get("hits", {})))}]}
-        yield f"{name}: refused", "" if called_same(given, grown, labels, moved) else "it is called the same"
-    yield from map_tests(xdpbox)
-
-
-WRONG_LINES = "moved 0 0 4 1", "moved 0 0 4 3", "moved 0 0 2 2", "moved 0 4 4 2", "moved 1 0 4 2", "moved 0 0 4", "moved 0 0 4 x", ""
-
-
-def map_tests(xdpbox):
-    """What `straighten --map` writes, as `same-program` reads it."""
+def place_tests(xdpbox):
+    """What `straighten` says of numbers that have a counter of their own."""
     given = text_of(BOTH_HALVES, BOTH_HALVES["program"], [(row["slot"], row["map"]) for row in BOTH_HALVES["reloc"]])
-    with tempfile.TemporaryDirectory() as folder:
-        original, result, path = (pathlib.Path(folder, name) for name in ("original.toml", "result.toml", "map"))
-        original.write_text(given)
-        run = subprocess.run([TOOLS / "straighten", "--map", path], input=given, env={**os.environ, "XDPBOX": xdpbox}, capture_output=True, text=True, check=False)
-        result.write_text(run.stdout)
-        said = "\n# map hits: the number at byte 0 is bits 0 to 31 of counter 2\n" in run.stdout
-        yield "straighten says where the bytes are", "" if said else run.stdout[:300] + run.stderr
-        lines = path.read_text().splitlines() if path.exists() else []
-        yield "and the map", "" if lines[-1:] == ["moved 0 0 4 2"] else f"{lines[-2:]}"
-        for line in (*lines[-1:], *WRONG_LINES):
-            path.write_text("\n".join([*lines[:-1], line]) + "\n")
-            run = subprocess.run([TOOLS / "same-program", original, result, path], capture_output=True, text=True, check=False)
-            right = run.returncode == (line != lines[-1]) and run.stderr.count("\n") == run.returncode and "Traceback" not in run.stderr
-            yield f"a map with the line {line!r}", "" if right else run.stdout + run.stderr
+    run = subprocess.run([TOOLS / "straighten"], input=given, env={**os.environ, "XDPBOX": xdpbox}, capture_output=True, text=True, check=False)
+    said = "\n# map hits: the number at byte 0 is bits 0 to 31 of counter 2\n" in run.stdout
+    yield "straighten says where the bytes are", "" if said else run.stdout[:300] + run.stderr
+    yield from seen_tests()

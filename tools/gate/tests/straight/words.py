@@ -42,7 +42,7 @@ NOT_HERE = {
         "__u32 k = 0; bpf_map_delete_elem(&m, &k); return XDP_PASS;",
         "bpf_map_delete_elem, which isn't here: a program adds no row and takes none away",
     ),
-    "nine counters": (MAP.format("ARRAY", 1, "__u32", "struct { __u64 n[9]; }", "m"), LOOKUP, "have 72 bytes: a value has 1 to 64"),
+    "nine counters": (MAP.format("HASH", 1, "__u32", "struct { __u64 n[9]; }", "m"), LOOKUP, "have 72 bytes: those of a list have 1 to 64"),
     "a map that is none": ('int m SEC(".maps");', "return m;", 'm stands in section ".maps", and is no struct'),
     "a clock": ("", "return bpf_ktime_get_ns() & 1 ? XDP_DROP : XDP_PASS;", "or --clock N answers with a time that goes on by N nanoseconds at each call"),
     "a question for a device": (
@@ -51,12 +51,16 @@ NOT_HERE = {
         "calls bpf_check_mtu, which isn't here: there is no device to ask: --mtu N answers for the packet's own device",
     ),
     "a redirect": ("", "return bpf_redirect(1, 0);", "there is no other device here: XDP_PASS gives the packet to the host, which forwards it; XDP_TX sends it back"),
-    "a global of 12 bytes": (
-        "struct { int a, b, c; } seen;",
-        "return seen.b++ ? XDP_PASS : XDP_DROP;",
-        "stores to seen: a global that changes is a map's counters here: it has 1, 2, 4 or whole eight bytes",
+    "a global that begins with a great number": (
+        "__u64 seen = 1ULL << 63;",
+        "return seen++ ? XDP_PASS : XDP_DROP;",
+        "stores to seen: a global that changes is a map's counters here: they begin with at most 2^63 - 1",
     ),
-    "a global that begins with a great number": ("__u64 seen = 1ULL << 63;", "return seen++ ? XDP_PASS : XDP_DROP;", "stores to seen"),
+    "globals that begin with a great number": (
+        "__u64 seen[9] = { [3] = 1ULL << 63 };",
+        "return seen[ctx->rx_queue_index & 7]++ ? XDP_PASS : XDP_DROP;",
+        "stores to seen, which begins with 9223372036854775808: a counter begins with at most 2^63 - 1",
+    ),
     "a table of functions": (
         "static int a(void) { return 1; } static int b(void) { return 2; } int (*const table[2])(void) = {a, b};",
         "return table[ctx->rx_queue_index & 1]();",
@@ -65,7 +69,7 @@ NOT_HERE = {
     "an index that nothing bounds": (
         "static const __u8 table[9] = {1, 0, 2, 3, 0, 1, 1, 0, 2};",
         DATA + "return table[p[0]];",
-        "nothing bounds the index of this load to the constants that there are",
+        "write instead: compare the index with how many elements there are, or mask it",
     ),
     "an index of counters that nothing bounds": (
         "__u64 seen[8];",
@@ -97,6 +101,20 @@ NOT_HERE = {
         DATA + "__u32 sum = 0; for (int i = 0; i < 30; i++) { sum += p[i] * i; if (sum == 99) break; } return sum & 1;",
         "write instead: compare the end of what is read with data_end on each way to this line",
     ),
+    "a search through too many bytes": (
+        "",
+        DATA + 'for (int i = 0; i < 300; i++, p++) { if (p + 9 > end) break; if (*p == 10 && !__builtin_memcmp(p + 1, "Host: ", 6)) return XDP_PASS; }'
+        + " return XDP_DROP;",
+        "this loop has too many steps, or its body too many slots, for a program of at most 4096",
+    ),
+    "options that one loop walks by bytes, with a long body": (
+        MAP.format("ARRAY", 32, "__u32", "__u64", "m"),
+        DATA + "if (p + 40 > end) return XDP_PASS; __u32 n = (*p & 15) * 4, i = 0; while (i < n) { __u8 *o = p + i; __u32 k, size;"
+        " if (o + 2 > end) return XDP_DROP; size = o[1]; if (size < 1 || size > n - i) return XDP_DROP; k = *o & 31;"
+        + "".join(f" {{ __u64 *v = bpf_map_lookup_elem(&m, &k); if (v) __sync_fetch_and_add(v, {k}); k = (k + {k}) & 31; }}" for k in range(1, 6))
+        + " i += size; } return XDP_PASS;",
+        "of which a program has at most 4096",
+    ),
     "a read in front of the packet": (
         "",
         DATA + "p += *p * 4; if (p > end) return XDP_DROP; return p[-1] ? XDP_PASS : XDP_DROP;",
@@ -110,6 +128,9 @@ ACCEPTED = {
     + MAP.format("HASH", 8, "__u32", "__u64", "other")
     + MAP.format("ARRAY", 1, "__u32", "__u64", "m")
     + FUNCTION.format("xdp", "f", LOOKUP),
+    "a memcmp in front of a block": "#include <string.h>\n"
+    + HEADERS
+    + FUNCTION.format("xdp", "f", DATA + "if (memcmp(p, p + 6, 6)) { return XDP_PASS; } return XDP_DROP;"),
     "a memcmp of its own": HEADERS
     + "static __always_inline int memcmp(const void *a, const void *b, unsigned long n)\n"
     + "{ const char *x = a, *y = b; for (int i = 0; i < n; i++) if (x[i] != y[i]) return 1; return 0; }\n"
@@ -241,7 +262,7 @@ def capture_tests(xdpbox):
     yield from output_tests("", xdpbox, command, capture)
     yield from output_tests("", xdpbox, script, "00" * 14)
     yield from script_tests(xdpbox, script)
-    yield from file_tests(xdpbox, capture)
+    yield from file_tests(xdpbox)
 
 
 def script_tests(xdpbox, script):
@@ -255,7 +276,7 @@ def script_tests(xdpbox, script):
         yield f"the packet {bytes_!r} is named", is_one_line(*ran("", xdpbox, script, bytes_), wanted)
 
 
-# files that are neither a capture nor settings nor a map, by their names
+# files that are neither a capture nor settings, by their names
 NONE = {
     b"empty": b"",
     b"binary": bytes(range(256)),
@@ -265,25 +286,14 @@ NONE = {
 }
 
 
-def file_tests(xdpbox, capture):
+def file_tests(xdpbox):
     """Files that aren't what a tool reads, each of which it names in one line."""
-    settings = TOOLS.parent / "examples/straightened/loop/before.toml"
     with tempfile.TemporaryDirectory() as folder:
         for name, data in NONE.items():
             pathlib.Path(folder, os.fsdecode(name)).write_bytes(data)
             said = ran("", xdpbox, TOOLS / "packets-of-pcap", name, cwd=folder)
             yield f"{name!r} is no capture", is_one_line(*said, "")
-            for words in ((name, settings, settings), (settings, name, settings), (settings, settings, name)):
-                said = ran("", xdpbox, TOOLS / "same-program", *words, cwd=folder)
-                yield f"{name!r} is named by same-program", is_one_line(*said, "")
             with open(os.path.join(os.fsencode(folder), name), "rb") as given:
                 yield f"{name!r} has no settings", is_one_line(*ran("", xdpbox, TOOLS / "straighten", stdin=given), "settings refused L")
-        for name, wanted in ((folder, "Is a directory"), ("/nowhere", "No such file")):
-            yield f"{wanted} of same-program", is_one_line(*ran("", xdpbox, TOOLS / "same-program", name, capture, capture), wanted)
-        path = pathlib.Path(folder, "map")
-        path.write_text("".join(f"{slot} copy {slot}\n" for slot in range(2)))
-        plain = pathlib.Path(folder, "plain.toml")
-        plain.write_text('program = ["b700000002000000", "9500000000000000"]\n')
-        yield from output_tests("", xdpbox, TOOLS / "same-program", plain, plain, path)
     closed = ran("", xdpbox, "sh", "-c", 'exec "$@" <&-', "sh", TOOLS / "straighten")
     yield "straighten on a closed input", is_one_line(*closed, "standard input is closed")
