@@ -1,5 +1,5 @@
 /* The calls that the headers define themselves, as functions of the library: for what loads the shared object and reads no header, as Python's
- * ctypes does. tools/pack-host compiles this into each archive. To a host in C the headers' own come first. */
+ * ctypes does. tools/parts/pack-host compiles this into each archive. To a host in C the headers' own come first. */
 #define laxonje_program_new inline_program_new
 #define laxonje_program_delete inline_program_delete
 #define laxonje_queue_new inline_queue_new

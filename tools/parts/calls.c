@@ -1,4 +1,4 @@
-/* The calls of the library that take a handle, for a null one too, which holds nothing: tools/pack-host compiles this into each archive, and
+/* The calls of the library that take a handle, for a null one too, which holds nothing: tools/parts/pack-host compiles this into each archive, and
  * gives the library's own calls, which have no answer for null, the names held_laxonje_*. And what says which header an object may have been
  * compiled with. */
 #include <laxonje.h>

@@ -1,4 +1,4 @@
-/* How this library was built: tools/pack-host compiles it into each archive. */
+/* How this library was built: tools/parts/pack-host compiles it into each archive. */
 #include <stdint.h>
 
 uint32_t laxonje_proved(void);
