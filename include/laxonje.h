@@ -451,6 +451,7 @@ struct laxonje_verdict laxonje_load_settings(const uint8_t *text, size_t text_by
  * tries, also those of the variants PERCPU and LRU, numbered in the order in which the function first refers to them; laxonje_map_named finds
  * one. A value is as many counters as hold its bytes. A hash or a trie has no row. Behind them each section of constants that the function refers
  * to is a map of its own, named as the section: ".rodata". `function` is the name in C.
+ * What a kernel's types would answer (relocations of CO-RE) is as the object's own declarations have it.
  * At worst the time grows with the square of an object's size, 0.3 s for 1 MiB: pass no longer one of someone you don't trust. */
 struct laxonje_verdict laxonje_load_object(const uint8_t *object, size_t object_bytes,
                                            const uint8_t *function, size_t function_bytes, struct laxonje_program *out);

@@ -8,7 +8,7 @@
 #include <string.h>
 #include <unistd.h>
 
-/* In each archive: tools/build.c. */
+/* In each archive: tools/parts/build.c. */
 const char *laxonje_build(void);
 
 #if LAXONJE_VERSION < 3
@@ -99,6 +99,8 @@ static enum status load(const struct words *words, struct report *report)
 	free(text);
 	if (status != DONE)
 		return status;
+	if (report->settings.begins)
+		fputs("laxonje-pcap: counters begin with 0 here: the settings' values aren't looked at\n", stderr);
 	report->counters = calloc(laxonje_counters(report->program) + 1, sizeof *report->counters);
 	return report->counters ? DONE : failed(MEMORY, "memory");
 }

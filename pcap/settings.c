@@ -170,22 +170,37 @@ static bool is_part(const struct path *path, size_t number, const char *text)
 	return path->parts[number].length == strlen(text) && !memcmp(path->parts[number].bytes, text, strlen(text));
 }
 
+/* What stands in front of a number's digits: their base. */
+static int read_sign_and_base(struct reader *reader)
+{
+	took(reader, "+");
+	if (took(reader, "0x"))
+		return 16;
+	if (took(reader, "0o"))
+		return 8;
+	return took(reader, "0b") ? 2 : 10;
+}
+
 /* A whole number in TOML's forms: decimal, or with a prefix, with underlines between digits. */
 static uint32_t read_number(struct reader *reader)
 {
-	uint32_t base = 10, number = 0;
+	uint32_t base = (uint32_t)read_sign_and_base(reader), number = 0;
 
-	took(reader, "+");
-	if (took(reader, "0x"))
-		base = 16;
-	else if (took(reader, "0o"))
-		base = 8;
-	else if (took(reader, "0b"))
-		base = 2;
 	for (; reader->at < reader->end && (*reader->at == '_' || digit_of(*reader->at) < (int)base); reader->at++)
 		if (*reader->at != '_')
 			number = number * base + (uint32_t)digit_of(*reader->at);
 	return number;
+}
+
+/* Whether a number is above 0, of whatever digits. */
+static bool is_above_0(struct reader *reader)
+{
+	bool is_above = false;
+
+	read_sign_and_base(reader);
+	for (; reader->at < reader->end && (*reader->at == '_' || digit_of(*reader->at) < 16); reader->at++)
+		is_above |= *reader->at != '_' && *reader->at != '0';
+	return is_above;
 }
 
 static void read_value(struct reader *reader, const struct path *path, struct settings *found, int depth);
@@ -237,9 +252,12 @@ static void read_value(struct reader *reader, const struct path *path, struct se
 			found->maps[found->map_count++] = text;
 	} else if (path->count == 1 && is_part(path, 0, "ifindex"))
 		found->ifindex = read_number(reader);
-	else
+	else {
+		if (path->count == 2 && is_part(path, 0, "map") && is_part(path, 1, "values"))
+			found->begins |= is_above_0(reader);
 		while (reader->at < reader->end && !is_one_of(reader, ",]}# \t\r\n"))
 			reader->at++;
+	}
 }
 
 struct settings settings_of(const uint8_t *text, size_t length)

@@ -1,7 +1,9 @@
-/* What laxonje-pcap reads of a settings text itself, once the library has accepted the text: the names of its maps, and its interface. */
+/* What laxonje-pcap reads of a settings text itself, once the library has accepted the text: the names of its maps, its interface, and whether it
+ * says what counters begin with. */
 #ifndef SETTINGS_H
 #define SETTINGS_H
 
+#include <stdbool.h>
 #include <stddef.h>
 #include <stdint.h>
 
@@ -17,6 +19,8 @@ struct settings {
 	struct name maps[MOST_MAPS];
 	size_t map_count;
 	uint32_t ifindex;
+	/* a counter is to begin with another number than 0 */
+	bool begins;
 };
 
 /* The settings of a text that the library accepts; anything for one that it refuses. */

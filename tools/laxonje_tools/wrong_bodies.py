@@ -2,10 +2,11 @@
 
 An edit is a text of lines `file: PATH`, `old: TEXT`, `new: TEXT`, each text on one line and standing once in the file, as
 `rt must-fail` reads it. A line `fn: PATH` names the function that has to be refused, if that isn't the one whose body
-changes. No edit changes a clause of a contract.
+changes. No edit changes a clause of a contract, a proof, or only what the prover reads.
 
 A refusal counts by the goal that isn't proved: one of a clause, of a loop's or a type's invariant, or else one of safety, such as
 a sum that has to fit, an index, or what a callee requires."""
+import collections
 import dataclasses
 import enum
 import os
@@ -152,20 +153,39 @@ def prepare(edit, folder, types):
     """Finds the functions that have to be refused: those that the edit names, or those whose bodies change; and whether it is apart."""
     changed_ones = changed_functions(edit, folder, types)
     for it in edit.changes:
-        if it.file.startswith("src/") and is_in_contract(text_of(folder, it.file), it.old):
-            raise Unreadable(f"it changes a contract in {it.file}, and no body")
+        if not it.file.startswith(("src/", "specs/")):
+            raise Unreadable(f"it changes {it.file}, and no body")
+    texts = {file: text_of(folder, file) for file in edit.files}
+    made = changed(texts, edit.changes)
+    for file in (it for it in texts if it.startswith("src/")):
+        if contracts_of(texts[file]) != contracts_of(made[file]):
+            raise Unreadable(f"it changes a contract in {file}, and no body")
+    if all(code_of(file, texts[file]) == code_of(file, text) for file, text in made.items()):
+        raise Unreadable("it changes no code: comments, attributes, and what only the prover reads")
     edit.functions = edit.named or changed_ones
     edit.judged = [*edit.functions, *(it for it in changed_ones if it not in edit.functions)]
     edit.is_apart = any(is_of_all(text_of(folder, it.file), it.old) for it in edit.changes)
 
 
-def is_in_contract(text, old):
-    """Whether a text stands in a clause of a function, or in a ghost member of an impl or a trait."""
-    line = text.count("\n", 0, max(text.find(old), 0)) + 1
+def contracts_of(text):
+    """The clauses of a source's functions, the ghost members of its impls and traits, and the ghost fields of its types, how often each."""
     source = rattle.read_text(text)
-    clauses = [it for function in source.functions for it in function.clauses]
-    clauses += [it for impl in source.impls for it in impl.members]
-    return any(it.line <= line <= it.last for it in clauses)
+    clauses = [((it.owner, it.name), clause) for it in source.functions for clause in it.clauses]
+    clauses += [((it.owner, it.trait), member) for it in source.impls for member in it.members]
+    found = [(of, it.kind, it.name, " ".join(it.text.split())) for of, it in clauses]
+    return collections.Counter([*found, *((it.name, *field) for it in source.types for field in rattle.ghost_fields(it))])
+
+
+# What the prover alone reads: attributes, ghost imports, and what is only named for a proof, as `let _value = *self;`.
+FOR_PROOF = re.compile(r"#!?\[[^\]]*\]|\bghost use [^;]*;|\blet _\w*(?:: [^=;]*)? = [^;()]*;")
+
+
+def code_of(file, text):
+    """The text of a source without comments, without what only the prover reads, and with one blank for several; of definitions all."""
+    if not file.startswith("src/"):
+        return text
+    bare = rattle.CODE.sub(lambda it: " " if it.group().startswith("//") else it.group(), text)
+    return " ".join(FOR_PROOF.sub(" ", bare).split())
 
 
 # How a line begins that functions have in common; an import counts for its file alone.
@@ -202,6 +222,8 @@ OWN = re.compile(r"`search` did not prove ((?:`[^`]+`(?:,? (?:and )?)?)*)")
 # The goals of clauses, and those of what a loop or a type keeps; every other one is of safety.
 OF_CLAUSE = re.compile(r"(?:returns|ensures|holds)\b")
 OF_INVARIANT = re.compile(r"loop-.*-(?:init|preserved)\b|invariant_of-")
+# The files of a function's own proof, beside its lemmas.
+PROOF_FILES = ("/Answers.antt", "/Invariants.antt")
 # Where a file of answers begins one, by the name of its goal.
 ANSWER = re.compile(r"^ *pub (?:\S+) : goal\.(\S+)")
 # What it says if it came to no answer, which is no refusal.
@@ -288,10 +310,13 @@ def verdict_of_goals(goals):
 
 
 def open_goals(line, errors, text_at):
-    """The goals that aren't proved: those that a function's line names, and those whose answers don't fit; the answer to an invariant
-    stands in a file of its own."""
-    answered = [goal_at(text_at(file), at) if file.endswith("/Answers.antt") else "invariant_of-" for file, at, _ in errors]
-    return goals_of(line) + answered
+    """The goals that aren't proved: those that a function's line names, and those whose answers don't fit."""
+    return goals_of(line) + answered_goals(errors, text_at)
+
+
+def answered_goals(errors, text_at):
+    """The goals whose answers don't fit; the answer to an invariant stands in a file of its own."""
+    return [goal_at(text_at(file), at) if file.endswith("/Answers.antt") else "invariant_of-" for file, at, _ in errors]
 
 
 def verdict_of(said, crate, function, text_at: Callable[[str], str] = lambda file: ""):

@@ -15,10 +15,10 @@ pub(crate) struct Access {
     pub bytes: u32,
 }
 
-/// How many bytes a counter has.
+/// The number of bytes that a counter has.
 const COUNTER: u32 = 8;
 
-/// How many bytes a key has, unless the map in r1 says otherwise.
+/// The number of bytes that a key has, unless the map in r1 says otherwise.
 const KEY: u32 = 4;
 
 fn sized(base: Register, off: i16, size: Size) -> Access
@@ -57,7 +57,7 @@ pub(crate) fn access_of(insn: Insn) -> Option<Access>
     }
 }
 
-/// How many bytes a lookup's key has, r1 having this value.
+/// Returns the number of bytes that a lookup's key has, r1 having this value.
 fn key_of(shapes: &[MapShape], map: Val) -> u32
     ensures value { result ≡ key_of shapes.now map }
     ensures some { 1 ≤ result }
@@ -96,7 +96,7 @@ pub(crate) fn base_of(insn: Insn) -> Option<Register>
     Some(access.base)
 }
 
-/// What is known of the address through which an instruction reaches memory.
+/// Returns what is known of the address through which an instruction reaches memory.
 pub(crate) fn address_of(note: &Note, insn: Insn) -> Val
     ensures { result ≡ address_of (facts note.now) insn }
 {

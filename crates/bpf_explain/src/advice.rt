@@ -9,7 +9,7 @@ use crate::stack::place_of;
 use bpf_insn::{Cause, Insn};
 use bpf_note::{MapKey, MapShape, Note, Val};
 
-/// What to write instead of what a cause refuses.
+/// Returns what to write instead of what a cause refuses.
 pub(crate) fn cause_advice(cause: Cause) -> &'static str
     ensures { result.now ≡ cause_advice cause }
 {
@@ -190,7 +190,7 @@ fn value_advice(shapes: &[MapShape], cause: Cause, insn: Insn, note: &Note) -> &
     }
 }
 
-/// What to write instead, whether or not the instruction and what is known there are at hand.
+/// Returns what to write instead, whether or not the instruction and what is known there are at hand.
 pub fn advice_for(
     shapes: &[MapShape],
     cause: Cause,

@@ -31,15 +31,14 @@ const REGISTERS: [Register; 11] = [
     Register::R10,
 ];
 
-/// Whether what the instruction reads has to do with the cause.
+/// Returns whether what the instruction reads has to do with the cause.
 fn is_about_values(cause: Cause) -> bool
     ensures { result ≡ is_about_values cause }
 {
     !matches!(cause, Cause::FramePointer | Cause::Helper)
 }
 
-/// What the instruction reaches: the stack's slots, the packet's bytes, or a value's counters, if the cause is about
-/// them.
+/// Returns what the instruction reaches: the stack's slots, the packet's bytes, or a value's counters, if the cause is about them.
 fn reached_text(
     alloc: Global,
     names: &[String],
@@ -206,7 +205,7 @@ pub fn joined_text(
     )
 }
 
-/// What is printed of bytes that spell no program: the refused slot by its fields, if they are the cause, and the verdict.
+/// Returns what is printed of bytes that spell no program: the refused slot by its fields, if they are the cause, and the verdict.
 pub fn undecoded_text(alloc: Global, program: &[u8], refusal: Refusal) -> Result<String, AllocError>
     ensures { IfOk result (λ s. string_bytes s ≡ undecoded_text program.now refusal) }
 {
@@ -216,7 +215,7 @@ pub fn undecoded_text(alloc: Global, program: &[u8], refusal: Refusal) -> Result
     Ok(text)
 }
 
-/// What is printed of a refused program: its listing, below the refused slot what is known of the values that it reads, and
+/// Returns what is printed of a refused program: its listing, below the refused slot what is known of the values that it reads, and
 /// what to write instead. `names` are those of the maps; a map without a name goes by its number.
 pub fn explained_text(
     alloc: Global,

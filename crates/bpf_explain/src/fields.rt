@@ -9,7 +9,7 @@ use std::alloc::{AllocError, Global};
 /// The bytes of a slot (RFC 9669 section 3).
 const SLOT: usize = 8;
 
-/// Whether the cause lies in one slot's fields.
+/// Returns whether the cause lies in one slot's fields.
 fn is_of_fields(cause: Cause) -> bool
     ensures { result ≡ is_of_fields cause }
 {

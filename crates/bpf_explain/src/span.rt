@@ -22,7 +22,7 @@ pub(crate) fn span_text(alloc: Global, address: Val, access: Access) -> Result<S
     format!(in alloc; "  access={first}..{end}")
 }
 
-/// How many counters each value of a map has, if the address is one of a value.
+/// Returns the number of counters that each value of a map has, if the address is one of a value.
 pub(crate) fn counters_text(
     alloc: Global,
     shapes: &[MapShape],

@@ -10,7 +10,7 @@ use bpf_insn::Insn;
 use bpf_note::{Note, Val};
 use std::alloc::{AllocError, Global};
 
-/// How many bytes the stack has.
+/// The number of bytes that the stack has.
 const STACK: u32 = 512;
 
 fn byte_text(set: bool) -> &'static str
@@ -19,7 +19,7 @@ fn byte_text(set: bool) -> &'static str
     if set { "#" } else { "?" }
 }
 
-/// Which of the eight bytes from a place on are set.
+/// Returns which of the eight bytes from a place on are set.
 fn bytes_text(alloc: Global, note: &Note, place: u16) -> Result<String, AllocError>
     requires { place < 512 }
     ensures { IfOk result (λ s. string_bytes s ≡ bytes_text (facts note.now) place 8) }
@@ -31,7 +31,7 @@ fn bytes_text(alloc: Global, note: &Note, place: u16) -> Result<String, AllocErr
     Ok(text)
 }
 
-/// What is known of a slot's eight bytes.
+/// Returns what is known of a slot's eight bytes.
 fn content_text(
     alloc: Global,
     names: &[String],

@@ -131,7 +131,7 @@ pub(crate) fn known_text(
     value_text(alloc, names, value, bound_of(note, value))
 }
 
-/// What is known of a register.
+/// Returns what is known of a register.
 pub(crate) fn register_text(
     alloc: Global,
     names: &[String],

@@ -24,7 +24,7 @@ fn names(alloc: Global) -> Result<Vec<String>, AllocError> {
     Ok(names)
 }
 
-/// What is printed of a program whose first map has a name.
+/// Returns what is printed of a program whose first map has a name.
 pub fn text(
     alloc: Global,
     bytes: &[u8],
@@ -37,7 +37,7 @@ pub fn text(
     explained_text(alloc, &code, names.as_slice(), shapes, refusal, note).ok()
 }
 
-/// Whether this is printed of a program over one map of two values with three counters, refused at a slot.
+/// Returns whether this is printed of a program over one map of two values with three counters, refused at a slot.
 pub fn prints(
     alloc: Global,
     bytes: &[u8],
@@ -64,7 +64,7 @@ pub fn prints_by_registers(
     prints(alloc, bytes, refusal, &note, wanted)
 }
 
-/// Whether this is printed of bytes that are no program.
+/// Returns whether this is printed of bytes that are no program.
 pub fn prints_undecoded(
     alloc: Global,
     bytes: &[u8],

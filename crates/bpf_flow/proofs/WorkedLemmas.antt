@@ -12,7 +12,7 @@ use Rattle.bpf_insn.specs.declared.size.Size.TheVariants.{Byte, Half, Word}
 use Rattle.bpf_insn.specs.declared.condition.Condition.TheVariants.{Greater, Equal}
 use Rattle.bpf_insn.specs.declared.insn.Insn.{Insn}
 use Rattle.bpf_insn.specs.declared.insn.Insn.TheVariants.{Alu, Const, MapRef, Ldx, St, AddCounter, Jump, Call, Exit, Second}
-use Rattle.bpf_note.specs.declared.key.Kind.TheVariants.{Exact}
+use Rattle.bpf_note.specs.declared.key.KeyKind.TheVariants.{Exact}
 use Rattle.bpf_note.specs.declared.key.MapKey.TheVariants.{Index, Listed, Constants}
 use Rattle.bpf_note.specs.Shape.{Shape}
 use Rattle.bpf_note.specs.State.{State, start_register}

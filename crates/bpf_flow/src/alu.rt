@@ -53,7 +53,7 @@ pub(crate) fn immediate(number: i32) -> Val
     exactly(i64::from(number).cast_unsigned())
 }
 
-/// What is known of an operand.
+/// Returns what is known of an operand.
 pub(crate) fn operand_value(note: &Note, operand: Operand) -> Val
     ensures { result ≡ operand_value (facts note.now) operand }
 {
@@ -197,7 +197,7 @@ fn shifted_left(lo: u64, hi: u64, by: u64) -> Val
     }
 }
 
-/// What an operation on 64 bits makes of a range and a constant.
+/// Returns what an operation on 64 bits makes of a range and a constant.
 fn range_by(op: AluOp, lo: u64, hi: u64, by: u64) -> Val
     ensures { result ≡ range_by op lo hi by }
 {
@@ -239,7 +239,7 @@ fn ranged(op: AluOp, a: Val, b: Val) -> Val
     }
 }
 
-/// What an operation makes of operands that aren't two constants.
+/// Returns what an operation makes of operands that aren't two constants.
 fn unfolded(note: &Note, op: AluOp, wide: bool, a: Val, b: Val) -> Computed
     ensures { result ≡ unfolded (facts note.now) op wide a b }
 {
@@ -262,7 +262,7 @@ fn first_constant(op: AluOp, a: Val) -> Option<u64>
     }
 }
 
-/// What an arithmetic operation makes of what its destination and its operand hold.
+/// Returns what an arithmetic operation makes of what its destination and its operand hold.
 pub(crate) fn result_of(note: &Note, op: AluOp, wide: bool, a: Val, b: Val) -> Computed
     ensures { result ≡ result_of (facts note.now) op wide a b }
 {

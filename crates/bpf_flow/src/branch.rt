@@ -30,7 +30,7 @@ pub(crate) struct Test {
     pub src: Operand,
 }
 
-/// What holds if a condition doesn't, for those that teach.
+/// Returns what holds if a condition doesn't, for those that teach.
 fn opposite(cond: Condition) -> Option<Condition>
     ensures { result ≡ opposite cond }
 {

@@ -19,7 +19,7 @@ fn is_lookup(helper: i32) -> bool
     helper == 1
 }
 
-/// What is known after a lookup in map `m` by the call at slot `id`.
+/// Notes what is known after a lookup in map `m` by the call at slot `id`.
 pub(crate) fn call(note: &mut Note, m: u32, id: u16)
     ensures { facts note.new ≡ with_call (facts note.old) m id }
 {
@@ -29,7 +29,7 @@ pub(crate) fn call(note: &mut Note, m: u32, id: u16)
     }
 }
 
-/// Whether a value is the address of `bytes` set bytes of the stack.
+/// Returns whether a value is the address of `bytes` set bytes of the stack.
 fn is_key(note: &Note, bytes: u32, value: Val) -> bool
     requires { bytes ≤ 512 }
     ensures { result ≡ is_key (facts note.now) bytes value }
@@ -71,7 +71,7 @@ fn is_looked_up(shape: Option<&MapShape>) -> bool
     }
 }
 
-/// Whether the values of map `m` are looked up by keys.
+/// Returns whether the values of map `m` are looked up by keys.
 fn has_keys(shapes: &[MapShape], m: u32) -> bool
     ensures { result ≡ has_keys (slice_get shapes.now m) }
 {

@@ -2,7 +2,7 @@
 
 use bpf_note::Val;
 
-/// What an operation makes of its operands.
+/// The result of an operation.
 #[derive(Clone, Copy, Debug, PartialEq, Eq, Drop)]
 pub(crate) enum Computed {
     /// A value.

@@ -16,7 +16,7 @@ use bpf_insn::{Register, Size};
 use bpf_note::{Note, Spares, Val};
 use std::alloc::{AllocError, Global};
 
-/// What an instruction does that the rule allows. The next slot follows if no other is named.
+/// The effect of an instruction that the rule allows. The next slot follows if no other is named.
 #[derive(Clone, Copy, Drop)]
 pub(crate) enum Effect {
     /// Slot `to` follows, and the same is known there.
@@ -44,7 +44,7 @@ fn set_fresh(note: &mut Note, id: u16, dst: Register, top: u32) -> Result<(), Al
     Ok(())
 }
 
-/// What is known after a lookup in map `m` by the call at slot `id`.
+/// Returns what is known after a lookup in map `m` by the call at slot `id`.
 fn look_up(note: &mut Note, m: u32, id: u16) -> Result<(), AllocError>
     ensures { OnOk result (facts note.new ≡ with_call (with_id (facts note.old) id 0) m id) }
 {
@@ -77,7 +77,7 @@ impl Effect {
         Ok(Ways::One(pc + 1))
     }
 
-    /// Where an instruction at slot `pc` leads, from a note that stays.
+    /// Returns where an instruction at slot `pc` leads, from a note that stays.
     pub fn applied(self, alloc: Global, pc: u32, note: &Note) -> Result<Successors, AllocError>
         requires small { pc < 4096 }
         requires fits { Fits self }

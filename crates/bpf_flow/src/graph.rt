@@ -15,7 +15,7 @@ fn is_operand(operand: Operand, register: Register) -> bool
     }
 }
 
-/// Whether an instruction reads a register.
+/// Returns whether an instruction reads a register.
 pub fn reads(insn: Insn, register: Register) -> bool
     ensures { result ≡ reads insn (number register) }
 {
@@ -40,7 +40,7 @@ pub fn reads(insn: Insn, register: Register) -> bool
     }
 }
 
-/// Whether an instruction writes a register.
+/// Returns whether an instruction writes a register.
 pub fn writes(insn: Insn, register: Register) -> bool
     ensures { result ≡ writes insn (number register) }
 {

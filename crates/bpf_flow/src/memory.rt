@@ -37,7 +37,7 @@ fn is_counter(shape: Option<&MapShape>, off: i16) -> bool
     }
 }
 
-/// Whether a value of map `m` has a counter at an offset.
+/// Returns whether a value of map `m` has a counter at an offset.
 fn has_counter(shapes: &[MapShape], m: u32, off: i16) -> bool
     ensures { result ≡ is_counter (slice_get shapes.now m) off }
 {
@@ -63,7 +63,7 @@ fn is_part_of(shape: Option<&MapShape>, off: i16, bytes: u64) -> bool
     }
 }
 
-/// Whether fewer than eight bytes of a value of map `m` at an offset are a part of a counter.
+/// Returns whether fewer than eight bytes of a value of map `m` at an offset are a part of a counter.
 fn has_part(shapes: &[MapShape], m: u32, off: i16, bytes: u64) -> bool
     requires { bytes ≤ 8 }
     ensures { result ≡ is_part_of (slice_get shapes.now m) off bytes }
@@ -112,7 +112,7 @@ fn is_slot(place: u32, size: Size) -> bool
     }
 }
 
-/// What a load from the stack gives.
+/// Returns what a load from the stack gives.
 fn stack_value(note: &Note, place: u32, signed: bool, size: Size) -> Val
     requires { place < 512 }
     ensures { result ≡ stack_value (facts note.now) place signed size }
@@ -143,7 +143,7 @@ fn field_value(off: i16) -> Val
     }
 }
 
-/// What a load gives.
+/// Returns what a load gives.
 fn loaded_value(
     note: &Note,
     shapes: &[MapShape],
@@ -180,8 +180,8 @@ fn loaded_value(
     }
 }
 
-/// Whether the bytes at an offset from a value hold any number: they are constants, whichever number of its range it is, or a part of
-/// a counter.
+/// Returns whether the bytes at an offset from a value hold any number: they are constants, whichever number of its range it is, or
+/// a part of a counter.
 fn is_data(shapes: &[MapShape], value: Val, off: i16, bytes: u64) -> bool
     requires { bytes ≤ 8 }
     ensures { result ≡ is_data shapes.now value off bytes }
@@ -196,7 +196,7 @@ fn is_data(shapes: &[MapShape], value: Val, off: i16, bytes: u64) -> bool
     }
 }
 
-/// What a load through a value gives.
+/// Returns what a load through a value gives.
 fn load_value(
     note: &Note,
     shapes: &[MapShape],
@@ -224,7 +224,7 @@ fn store_bytes(note: &mut Note, place: u32, bytes: u32)
     }
 }
 
-/// What a store to the stack changes.
+/// Notes a store to the stack.
 pub(crate) fn store(note: &mut Note, place: u32, size: Size, value: Val)
     requires { place + size_bytes size ≤ 512 }
     ensures { facts note.new ≡ with_store (facts note.old) place size value }
@@ -236,7 +236,7 @@ pub(crate) fn store(note: &mut Note, place: u32, size: Size, value: Val)
     }
 }
 
-/// Whether an add to a counter at `off` from a value is allowed.
+/// Returns whether an add to a counter at `off` from a value is allowed.
 fn adds_at(shapes: &[MapShape], value: Val, off: i16) -> Result<(), Cause>
     ensures { result ≡ adds_at shapes.now value off }
 {

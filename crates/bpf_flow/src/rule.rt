@@ -21,7 +21,7 @@ use bpf_note::{MapShape, Note, Spares, Val};
 use std::alloc::Global;
 
 impl Point<'_> {
-    /// What an access does from this point.
+    /// Returns what an access does from this point.
     fn decide_access(&self, insn: Insn) -> Result<Effect, Cause>
         requires small { self.now.pc < 4096 }
         requires access { IsAccess insn }
@@ -59,7 +59,7 @@ impl Point<'_> {
         }
     }
 
-    /// What an instruction does from this point.
+    /// Returns what an instruction does from this point.
     fn decide(&self, insn: Insn) -> Result<Effect, Cause>
         requires small { self.now.pc < 4096 }
         requires ruled { IsRuled insn self.now.pc (length self.now.shapes.now) }
@@ -97,7 +97,7 @@ impl Point<'_> {
     }
 }
 
-/// What an instruction does at a slot, or the first cause against it.
+/// Returns what an instruction does at a slot, or the first cause against it.
 fn decide(insn: &Insn, pc: u32, note: &Note, shapes: &[MapShape]) -> Result<Effect, Cause>
     requires small { pc < 4096 }
     requires ruled { IsRuled insn.now pc (length shapes.now) }
@@ -112,7 +112,7 @@ fn has_words(insn: Insn)
     ensures { HasWords insn }
 {}
 
-/// Where an instruction leads from slot `pc`, at which `note` says what is known, or the first cause against it. Want of
+/// Returns where an instruction leads from slot `pc`, at which `note` says what is known, or the first cause against it. Want of
 /// memory is [`Cause::Memory`].
 pub fn after(
     alloc: Global,

@@ -9,7 +9,7 @@ pub struct Successor {
     pub note: Box<Note>,
 }
 
-/// Where an instruction leads: the next slot stands before a jump's target.
+/// The slots to which an instruction leads: the next slot stands before a jump's target.
 #[derive(Drop)]
 pub enum Successors {
     None,
@@ -17,7 +17,7 @@ pub enum Successors {
     Two(Successor, Successor),
 }
 
-/// Where an instruction leads, if the note at hand goes on along the first way.
+/// The slots to which an instruction leads, if the note at hand goes on along the first way.
 #[derive(Drop)]
 pub enum Ways {
     None,

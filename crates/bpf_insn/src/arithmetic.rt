@@ -5,7 +5,7 @@ ghost use Rattle.bpf_insn.specs.Arithmetic.{computed, negated};
 use crate::alu_op::AluOp;
 use crate::truncated::low_32;
 
-/// What an arithmetic instruction leaves in its destination, by the numbers in destination and source: on 64 bits if
+/// Returns what an arithmetic instruction leaves in its destination, by the numbers in destination and source: on 64 bits if
 /// `wide`, else on the low 32, and then the upper half is 0.
 #[inline(always)]
 pub fn alu(op: AluOp, wide: bool, dst: u64, src: u64) -> u64
@@ -49,7 +49,7 @@ fn division(op: AluOp, wide: bool, dst: u64, src: u64) -> u64
     at_width(op, wide, dst, src)
 }
 
-/// What NEG leaves in its destination.
+/// Returns what NEG leaves in its destination.
 #[tactic(auto, unfolding(crate::specs::Arithmetic::negated))]
 pub fn negate(wide: bool, dst: u64) -> u64
     ensures { result ≡ negated wide dst }

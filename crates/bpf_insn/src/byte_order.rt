@@ -6,7 +6,7 @@ use crate::swap_kind::SwapKind;
 use crate::truncated::{low_16, low_32};
 use crate::width::Width;
 
-/// What a byte swap instruction leaves of a number: the low bytes of that width, kept or reversed, and zeros above.
+/// Returns what a byte swap instruction leaves of a number: the low bytes of that width, kept or reversed, and zeros above.
 #[tactic(auto, unfolding(crate::specs::ByteOrder::swapped))]
 pub fn swap(kind: SwapKind, width: Width, v: u64) -> u64
     ensures { result ≡ swapped kind width v }

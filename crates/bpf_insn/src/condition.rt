@@ -1,7 +1,7 @@
 //! Conditions of jumps and their codes.
 use std::fmt;
 
-/// When a conditional jump is taken. `Set` is a non-zero AND; the `Signed` forms read their operands as signed.
+/// The condition on which a jump is taken. `Set` is a non-zero AND; the `Signed` forms read their operands as signed.
 #[derive(Clone, Copy, Debug, PartialEq, Eq, Drop)]
 pub enum Condition {
     Equal,

@@ -5,8 +5,7 @@ ghost use Rattle.bpf_insn.specs.Conditions.{is_met};
 use crate::condition::Condition;
 use crate::truncated::low_32;
 
-/// Whether a conditional jump is taken, by the numbers in destination and source: on 64 bits if `wide`, else on the
-/// low 32.
+/// Returns whether a conditional jump is taken, by the numbers in destination and source: on 64 bits if `wide`, else on the low 32.
 #[inline(always)]
 pub fn holds(cond: Condition, wide: bool, a: u64, b: u64) -> bool
     ensures { result ≡ is_met cond wide a b }

@@ -70,22 +70,22 @@ fn push(insns: &mut Vec<Insn>, insn: Insn, pc: u32) -> Result<(), Refusal>
     }
 }
 
-/// Whether bytes are a positive number of slots, at most 4,096.
+/// Returns whether bytes are a positive number of slots, at most 4,096.
 fn has_length(bytes: &[u8]) -> bool
     ensures { IsTrue result ↔ HasLength bytes.now }
 {
     !bytes.is_empty() && bytes.len() <= MAX_BYTES && bytes.len() % 8 == 0
 }
 
-/// Whether the slot alone spells an instruction.
+/// Returns whether the slot alone spells an instruction.
 fn is_spelled(f: Fields) -> bool
     ensures { IsTrue result ↔ IsSpelled f }
 {
     narrow(f).is_some()
 }
 
-/// Whether the spelling of an instruction begins with the opcode. Each opcode but a wide load's spells an instruction
-/// with its other fields 0, those of the byte swaps with the immediate 16.
+/// Returns whether the spelling of an instruction begins with the opcode. Each opcode but a wide load's spells an instruction with
+/// its other fields 0, those of the byte swaps with the immediate 16.
 fn is_opcode(op: u8) -> bool
     ensures { IsTrue result ↔ IsOpcode op }
 {
@@ -105,14 +105,14 @@ fn is_opcode(op: u8) -> bool
     is_spelled(Fields { imm: 16, ..plain })
 }
 
-/// Whether this profile leaves the opcode out: legacy packet access and 32-bit atomic operations.
+/// Returns whether this profile leaves the opcode out: legacy packet access and 32-bit atomic operations.
 fn is_unsupported_opcode(op: u8) -> bool
     ensures { result ≡ is_unsupported op }
 {
     matches!(op, 0x20 | 0x28 | 0x30 | 0x40 | 0x48 | 0x50 | 0xc3)
 }
 
-/// Whether this profile leaves out what a field of the slot says of its opcode.
+/// Returns whether this profile leaves out what a field of the slot says of its opcode.
 fn is_unsupported_field(f: Fields) -> bool
     ensures { result ≡ has_unsupported_field f }
 {
@@ -124,7 +124,7 @@ fn is_unsupported_field(f: Fields) -> bool
     }
 }
 
-/// Why a slot that continues no spelling is refused.
+/// Returns why a slot that continues no spelling is refused.
 fn cause_of(f: Fields) -> Cause
     ensures { HasCause f result }
 {

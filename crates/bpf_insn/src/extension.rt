@@ -18,7 +18,7 @@ pub fn extend(size: Size, v: u64) -> u64
     }
 }
 
-/// What a move with sign extension leaves in its destination; without `wide` the upper half is 0.
+/// Returns what a move with sign extension leaves in its destination; without `wide` the upper half is 0.
 #[tactic(auto, unfolding(crate::specs::Extension::moved_extended))]
 pub fn move_extended(wide: bool, size: Size, v: u64) -> u64
     ensures { result ≡ moved_extended wide size v }

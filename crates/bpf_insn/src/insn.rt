@@ -102,7 +102,7 @@ impl Insn {
     ghost use Rattle.std.specs.Prelude.{◌≡◌, length};
     ghost use Rattle.bpf_insn.specs.Code.{takes};
 
-    /// How many slots the instruction takes: 2 for a wide load, else 1.
+    /// Returns the number of slots that the instruction takes: 2 for a wide load, else 1.
     pub fn slot_count(self) -> usize
         ensures { result ≡ length (takes self) }
     {

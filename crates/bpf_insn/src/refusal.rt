@@ -2,7 +2,7 @@
 use std::alloc::AllocError;
 use std::fmt;
 
-/// Why a program is refused. A cause prints as its number, as `V7`; there is no V18.
+/// The reason why a program is refused. A cause prints as its number, as `V7`; there is no V18.
 #[derive(Clone, Copy, Debug, PartialEq, Eq, Drop)]
 pub enum Cause {
     /// V0: memory ran out.

@@ -1,5 +1,5 @@
 //! Sizes of accesses.
-/// How many bytes a load, a store or a sign extension works on.
+/// The number of bytes that a load, a store or a sign extension works on.
 #[derive(Clone, Copy, Debug, PartialEq, Eq, Drop)]
 pub enum Size {
     Byte,

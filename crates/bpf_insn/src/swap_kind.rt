@@ -1,7 +1,7 @@
 //! Kinds of byte swaps.
 use std::fmt;
 
-/// What a byte swap instruction does, on a little-endian machine.
+/// The effect of a byte swap instruction, on a little-endian machine.
 #[derive(Clone, Copy, Debug, PartialEq, Eq, Drop)]
 pub enum SwapKind {
     /// Keeps the bytes as they are.

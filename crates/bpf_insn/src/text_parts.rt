@@ -272,7 +272,7 @@ impl fmt::Display for Addition {
     }
 }
 
-/// What a conditional jump tests: `w0 s< 0x5`.
+/// The test of a conditional jump: `w0 s< 0x5`.
 #[derive(Clone, Copy)]
 pub(crate) struct Test {
     pub cond: Condition,

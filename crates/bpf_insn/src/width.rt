@@ -1,5 +1,5 @@
 //! Widths of byte swaps.
-/// How many low bits a byte swap instruction works on; it zeroes the others.
+/// The number of low bits that a byte swap instruction works on; it zeroes the others.
 #[derive(Clone, Copy, Debug, PartialEq, Eq, Drop)]
 pub enum Width {
     Bits16,

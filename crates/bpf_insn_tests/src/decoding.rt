@@ -8,7 +8,7 @@ use std::alloc::Global;
 /// The most bytes of an instruction.
 const MAX_BYTES: usize = 16;
 
-/// Whether the bytes of an instruction are decoded to it, and the others are 0.
+/// Returns whether the bytes of an instruction are decoded to it, and the others are 0.
 pub fn is_decoded_again(alloc: Global, insn: Insn) -> bool
     requires { HasSpelling insn }
 {
@@ -36,7 +36,7 @@ pub fn refusals_before_exit(alloc: Global, slot: [u8; 8]) -> [Option<Refusal>; 2
     refusals(alloc, &bytes)
 }
 
-/// What decoding `count` EXITs answers: how many slots they are, or a refusal. Nothing without memory for their bytes.
+/// Returns what decoding `count` EXITs answers: how many slots they are, or a refusal. Nothing without memory for their bytes.
 pub fn exits(alloc: Global, count: usize) -> Option<Result<usize, Refusal>> {
     let mut bytes = Vec::new(alloc);
     for _ in 0..count {
@@ -48,7 +48,7 @@ pub fn exits(alloc: Global, count: usize) -> Option<Result<usize, Refusal>> {
     }
 }
 
-/// Whether the bytes are refused, and the refusal prints as this.
+/// Returns whether the bytes are refused, and the refusal prints as this.
 pub fn shows_refusal(alloc: Global, bytes: &[u8], text: &str) -> bool {
     let Err(refusal) = decode(alloc, bytes) else {
         return false;
@@ -79,7 +79,7 @@ fn bytes_of(text: &str) -> ([u8; MAX_BYTES], usize) {
     (bytes, digits.len() / 2)
 }
 
-/// Whether bytes, written as a hexadecimal text, are decoded to as many slots as they have, the first of which prints as
+/// Returns whether bytes, written as a hexadecimal text, are decoded to as many slots as they have, the first of which prints as
 /// this.
 pub fn shows(alloc: Global, hex: &str, text: &str) -> bool {
     let (bytes, len) = bytes_of(hex);

@@ -5,13 +5,13 @@ use Rattle.std.proofs.lemmas.Nat.{mul-le}
 use Rattle.std.proofs.lemmas.Bool.Decides.{nat_tests}
 use Rattle.std.proofs.lemmas.List.{length-append, length-set, length-replicate, get_or-replicate, get_or-set_other, get_or_push, get_or_append_left}
 use Rattle.std.proofs.lemmas.Grind.{get_or-set_at}
-use Rattle.bpf_note.specs.declared.key.Kind.{Kind}
-use Rattle.bpf_note.specs.declared.key.Kind.TheVariants.{Exact}
+use Rattle.bpf_note.specs.declared.key.KeyKind.{KeyKind}
+use Rattle.bpf_note.specs.declared.key.KeyKind.TheVariants.{Exact}
 use Rattle.bpf_lists.specs.Keys.{row, count, Holds, IsLongest, IsFound}
 use Rattle.bpf_lists.specs.Chains.{chain_of, IsTop, AreChains}
 use Rattle.bpf_lists.proofs.NestLemmas.{le_or_lt}
 
-pub no_chains : (kind : Kind) (keys heads links : List ℕ) (n : ℕ) → n ≤ 65536 → heads ≡ replicate (2 * n + 1) 0 → links ≡ [] → AreChains kind keys (2 * n + 1) 0 heads links
+pub no_chains : (kind : KeyKind) (keys heads links : List ℕ) (n : ℕ) → n ≤ 65536 → heads ≡ replicate (2 * n + 1) 0 → links ≡ [] → AreChains kind keys (2 * n + 1) 0 heads links
 no_chains kind keys heads links n few e f = record {
   some = omega arith;
   few = omega arith;
@@ -23,7 +23,7 @@ no_chains kind keys heads links n few e f = record {
 }
 
 -- one row more, which isn't in this chain
-top_kept : (kind : Kind) (keys : List ℕ) (chains c n above : ℕ) → IsTop kind keys chains c n above → (chain_of (row kind keys n) chains ≡ c → ⊥) → IsTop kind keys chains c (n + 1) above
+top_kept : (kind : KeyKind) (keys : List ℕ) (chains c n above : ℕ) → IsTop kind keys chains c n above → (chain_of (row kind keys n) chains ≡ c → ⊥) → IsTop kind keys chains c (n + 1) above
 top_kept kind keys chains c n above h other = record {
   most = omega (arith, h.most);
   last = λ r lt same. elim (le_or_lt n r) as (λ x. r < above) [
@@ -34,12 +34,12 @@ top_kept kind keys chains c n above h other = record {
 }
 
 -- one row more, which is
-top_next : (kind : Kind) (keys : List ℕ) (chains c n : ℕ) → chain_of (row kind keys n) chains ≡ c → IsTop kind keys chains c (n + 1) (n + 1)
+top_next : (kind : KeyKind) (keys : List ℕ) (chains c n : ℕ) → chain_of (row kind keys n) chains ≡ c → IsTop kind keys chains c (n + 1) (n + 1)
 top_next kind keys chains c n same =
     let here : n ≡ n + 1 - 1 = omega arith in
     record { most = omega arith; last = λ r lt e. lt; there = λ some. subst (λ r. chain_of (row kind keys r) chains ≡ c) here same }
 
-pub chains_more : (kind : Kind) (keys heads links : List ℕ) (chains n b : ℕ) → AreChains kind keys chains n heads links → b ≡ chain_of (row kind keys n) chains → b < chains →
+pub chains_more : (kind : KeyKind) (keys heads links : List ℕ) (chains n b : ℕ) → AreChains kind keys chains n heads links → b ≡ chain_of (row kind keys n) chains → b < chains →
     AreChains kind keys chains (n + 1) (set heads b (n + 1)) (links ++ slice_index heads b ∷ [])
 chains_more kind keys heads links chains n b h is within = record {
   some = h.some;
@@ -71,12 +71,12 @@ chains_more kind keys heads links chains n b h is within = record {
         subst (λ a. IsTop kind keys chains c (n + 1) a) (sym (get_or-set_other heads b c (n + 1) 0 other)) (top_kept kind keys chains c n (slice_index heads c) (h.begin c lt) (λ same. other (sym (is ∙ same))))
 
 -- each row with the key lies below a row of its chain, or there is none
-pub record IsNear (kind : Kind) (keys key : List ℕ) (chains above : ℕ) : Type 0 where
+pub record IsNear (kind : KeyKind) (keys key : List ℕ) (chains above : ℕ) : Type 0 where
   pub most : above ≤ count kind keys
   pub last : (r : ℕ) → r < count kind keys → row kind keys r ≡ key → r < above
   pub there : 0 < above → chain_of (row kind keys (above - 1)) chains ≡ chain_of key chains
 
-pub near_first : (kind : Kind) (keys key heads links : List ℕ) (chains c : ℕ) → AreChains kind keys chains (count kind keys) heads links → c ≡ chain_of key chains → c < chains → IsNear kind keys key chains (slice_index heads c)
+pub near_first : (kind : KeyKind) (keys key heads links : List ℕ) (chains c : ℕ) → AreChains kind keys chains (count kind keys) heads links → c ≡ chain_of key chains → c < chains → IsNear kind keys key chains (slice_index heads c)
 near_first kind keys key heads links chains c h is within =
     let top = h.begin c within in
     record {
@@ -85,7 +85,7 @@ near_first kind keys key heads links chains c h is within =
       there = λ some. top.there some ∙ is;
     }
 
-pub near_next : (kind : Kind) (keys key heads links : List ℕ) (chains above : ℕ) → AreChains kind keys chains (count kind keys) heads links → IsNear kind keys key chains above → 0 < above →
+pub near_next : (kind : KeyKind) (keys key heads links : List ℕ) (chains above : ℕ) → AreChains kind keys chains (count kind keys) heads links → IsNear kind keys key chains above → 0 < above →
     (row kind keys (above - 1) ≡ key → ⊥) → IsNear kind keys key chains (slice_index links (above - 1))
 near_next kind keys key heads links chains above h near some other =
     let top = h.before (above - 1) (omega (arith, near.most, some)) in
@@ -99,16 +99,16 @@ near_next kind keys key heads links chains above h near some other =
     }
 
 -- what is found of an exact key
-pub exact_holds : (kind : Kind) (bytes : ℕ) (r key : List ℕ) → kind ≡ Exact bytes → Holds kind r key → r ≡ key
+pub exact_holds : (kind : KeyKind) (bytes : ℕ) (r key : List ℕ) → kind ≡ Exact bytes → Holds kind r key → r ≡ key
 exact_holds kind bytes r key e h = subst (λ k. Holds k r key) e h
 
 exact_row : (bytes : ℕ) (keys key : List ℕ) (r : ℕ) → r < count (Exact bytes) keys → row (Exact bytes) keys r ≡ key → IsLongest (Exact bytes) keys key r
 exact_row bytes keys key r lt same = record { within = lt; holds = same; longest = λ s less h. omega arith }
 
-pub exact_found : (kind : Kind) (bytes : ℕ) (keys key : List ℕ) (r : ℕ) → kind ≡ Exact bytes → r < count kind keys → row kind keys r ≡ key → IsLongest kind keys key r
+pub exact_found : (kind : KeyKind) (bytes : ℕ) (keys key : List ℕ) (r : ℕ) → kind ≡ Exact bytes → r < count kind keys → row kind keys r ≡ key → IsLongest kind keys key r
 exact_found kind bytes keys key r e = subst (λ k. r < count k keys → row k keys r ≡ key → IsLongest k keys key r) (sym e) (exact_row bytes keys key r)
 
-pub exact_none : (kind : Kind) (bytes : ℕ) (keys key : List ℕ) (chains : ℕ) → kind ≡ Exact bytes → IsNear kind keys key chains 0 → IsFound kind keys key None
+pub exact_none : (kind : KeyKind) (bytes : ℕ) (keys key : List ℕ) (chains : ℕ) → kind ≡ Exact bytes → IsNear kind keys key chains 0 → IsFound kind keys key None
 exact_none kind bytes keys key chains e near s s_in h = absurd (omega (arith, near.last s s_in (exact_holds kind bytes (row kind keys s) key e h)))
 
 -- the high half of a number, of so many

@@ -1,6 +1,6 @@
 -- What a lookup answers.
 use Rattle.std.proofs.Common.{◌≡◌, ℕ, ◌-◌, ◌*◌, ◌<◌, ◌≤◌, inl, inr, List, length, slice_index, None, arith, sym, subst}
-use Rattle.bpf_note.specs.declared.key.Kind.{Kind}
+use Rattle.bpf_note.specs.declared.key.KeyKind.{KeyKind}
 use Rattle.bpf_note.specs.Keys.{size, width, bits_of, data_of}
 use Rattle.bpf_lists.specs.Keys.{row, count, value, Holds, IsLongest, IsFound}
 use Rattle.bpf_lists.specs.Order.{Ordered, IsOrdered, HasPlace, at, Covers, Reaches}
@@ -56,7 +56,7 @@ found_some o is from above key long bytes high within some most reaches covers s
           subst (λ (n : ℕ). bits_of o.kind (row o.kind o.keys n) ≤ bits_of o.kind (at o (above - 1))) at_s.spot.is r.1.0;
     }
 
-pub found_long : (kind : Kind) (keys key : List ℕ) → 8 * width kind < bits_of kind key → IsFound kind keys key None
+pub found_long : (kind : KeyKind) (keys key : List ℕ) → 8 * width kind < bits_of kind key → IsFound kind keys key None
 found_long kind keys key more s s_in holds =
     let short = holds_within kind (row kind keys s) key holds in
     absurd (omega arith)

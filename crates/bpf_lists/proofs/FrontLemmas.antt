@@ -2,7 +2,7 @@
 use Rattle.std.proofs.Common.{◌≡◌, ◌≢◌, ℕ, ◌+◌, ◌*◌, ◌^◌, ◌<◌, ◌≤◌, inl, inr, List, [], ◌∷◌, ◌++◌, length, slice_index, min, arith, sym, ◌∙◌, ap}
 use Rattle.std.specs.Ordering.{nat_cmp}
 use Rattle.std.proofs.lemmas.List.{get_or_push, get_or_append_left}
-use Rattle.bpf_note.specs.declared.key.Kind.{Kind}
+use Rattle.bpf_note.specs.declared.key.KeyKind.{KeyKind}
 use Rattle.bpf_note.specs.Keys.{data_of, bits_of}
 use Rattle.bpf_lists.specs.Keys.{value, row, count}
 use Rattle.bpf_lists.specs.Refusals.{AreRows}
@@ -18,7 +18,7 @@ spot_rises : (x y v w a b : ℕ) → x < y → v ≤ 512 → a < 2 ^ 32 → (x *
 spot_rises x y v w a b less few small = omega (arith, less, few, small)
 
 -- the row with the smaller number at its front comes first
-front_rises : (kind : Kind) (keys : List ℕ) (last a b : ℕ) → AreRows kind keys → AreBytes keys → last < count kind keys → a < 2 ^ 32 →
+front_rises : (kind : KeyKind) (keys : List ℕ) (last a b : ℕ) → AreRows kind keys → AreBytes keys → last < count kind keys → a < 2 ^ 32 →
     lead (data_of kind (row kind keys (min a last))) < lead (data_of kind (row kind keys (min b last))) → spot kind keys last a < spot kind keys last b
 front_rises kind keys last a b rows bytes some small less =
     let a_in : min a last < count kind keys = omega (arith, some) in
@@ -32,7 +32,7 @@ front_rises kind keys last a b rows bytes some small less =
     spot_rises (value (data_of kind x)) (value (data_of kind y)) (bits_of kind x) (bits_of kind y) a b above (few_bits kind keys (min a last) rows a_in) small
 
 -- numbers that differ are compared as the rows are
-pub fronts_decide : (kind : Kind) (keys : List ℕ) (last a b : ℕ) → AreRows kind keys → AreBytes keys → last < count kind keys → a < 2 ^ 32 → b < 2 ^ 32 →
+pub fronts_decide : (kind : KeyKind) (keys : List ℕ) (last a b : ℕ) → AreRows kind keys → AreBytes keys → last < count kind keys → a < 2 ^ 32 → b < 2 ^ 32 →
     lead (data_of kind (row kind keys (min a last))) ≢ lead (data_of kind (row kind keys (min b last))) →
     nat_cmp (lead (data_of kind (row kind keys (min a last)))) (lead (data_of kind (row kind keys (min b last)))) ≡ nat_cmp (spot kind keys last a) (spot kind keys last b)
 fronts_decide kind keys last a b rows bytes some a_small b_small differ =
@@ -46,7 +46,7 @@ fronts_decide kind keys last a b rows bytes some a_small b_small differ =
     ]
 
 -- one more row's number
-pub fronts_more : (kind : Kind) (keys fronts : List ℕ) (n q : ℕ) → length fronts ≡ n → q ≡ lead (data_of kind (row kind keys n)) →
+pub fronts_more : (kind : KeyKind) (keys fronts : List ℕ) (n q : ℕ) → length fronts ≡ n → q ≡ lead (data_of kind (row kind keys n)) →
     ((r : ℕ) → r < n → slice_index fronts r ≡ lead (data_of kind (row kind keys r))) → (r : ℕ) → r < n + 1 →
     slice_index (fronts ++ q ∷ []) r ≡ lead (data_of kind (row kind keys r))
 fronts_more kind keys fronts n q long is each r h = elim (le_or_lt n r) as (λ c. slice_index (fronts ++ q ∷ []) r ≡ lead (data_of kind (row kind keys r))) [

@@ -2,8 +2,8 @@
 use Rattle.std.proofs.Common.{◌≡◌, ℕ, zero, suc, ◌-◌, ◌*◌, ◌/◌, ◌%◌, ◌^◌, ◌<◌, ◌≤◌, inl, inr, Bool, true, false, ◌&&◌, List, [], ◌∷◌, Option, None, Some, length, drop, arith, sym, ◌∙◌, ap, subst, refl}
 use Rattle.std.specs.Prelude.{if◌then◌else◌, ◌==◌, nat_le, nat_lt}
 use Rattle.std.proofs.lemmas.Bool.Decides.{nat_tests}
-use Rattle.bpf_note.specs.declared.key.Kind.{Kind}
-use Rattle.bpf_note.specs.declared.key.Kind.TheVariants.{Exact, Prefix}
+use Rattle.bpf_note.specs.declared.key.KeyKind.{KeyKind}
+use Rattle.bpf_note.specs.declared.key.KeyKind.TheVariants.{Exact, Prefix}
 use Rattle.bpf_note.specs.Keys.{size, word, bits_of, data_of}
 use Rattle.bpf_lists.specs.Keys.{Keyed, value, first, row, count, Holds, IsLongest, IsFound}
 use Rattle.bpf_lists.specs.Refusals.{AreListed, IsPlain}
@@ -53,25 +53,25 @@ same_self : (xs : List ℕ) → are_same xs xs ≡ true
 same_self [] = refl
 same_self (x ∷ xs) = both (x == x) (are_same xs xs) (eq_holds x x refl) (same_self xs)
 
-holds_is : (kind : Kind) (r key : List ℕ) → holds kind r key ≡ true → Holds kind r key
+holds_is : (kind : KeyKind) (r key : List ℕ) → holds kind r key ≡ true → Holds kind r key
 holds_is (Exact bytes) r key e = same_is r key e
 holds_is (Prefix bytes) r key e =
     let a = each (nat_le (word r) (word key)) (nat_le (word key) (8 * bytes) && (first (word r) (drop 4 r) == first (word r) (drop 4 key))) e in
     let b = each (nat_le (word key) (8 * bytes)) (first (word r) (drop 4 r) == first (word r) (drop 4 key)) a.1 in
     (le_is (word r) (word key) a.0, le_is (word key) (8 * bytes) b.0, eq_is (first (word r) (drop 4 r)) (first (word r) (drop 4 key)) b.1)
 
-is_holds : (kind : Kind) (r key : List ℕ) → Holds kind r key → holds kind r key ≡ true
+is_holds : (kind : KeyKind) (r key : List ℕ) → Holds kind r key → holds kind r key ≡ true
 is_holds (Exact bytes) r key same = subst (λ (xs : List ℕ). are_same r xs ≡ true) same (same_self r)
 is_holds (Prefix bytes) r key h =
     both (nat_le (word r) (word key)) (nat_le (word key) (8 * bytes) && (first (word r) (drop 4 r) == first (word r) (drop 4 key))) (le_holds (word r) (word key) h.0)
     (both (nat_le (word key) (8 * bytes)) (first (word r) (drop 4 r) == first (word r) (drop 4 key)) (le_holds (word key) (8 * bytes) h.1) (eq_holds (first (word r) (drop 4 r)) (first (word r) (drop 4 key)) h.2))
 
 -- what a lookup among the first n rows answers
-abbrev Among : Kind → List ℕ → List ℕ → ℕ → Option ℕ → Type 0
+abbrev Among : KeyKind → List ℕ → List ℕ → ℕ → Option ℕ → Type 0
 Among kind keys key n None = (s : ℕ) → s < n → Holds kind (row kind keys s) key → ⊥
 Among kind keys key n (Some r) = (r < n) × Holds kind (row kind keys r) key × ((s : ℕ) → s < n → Holds kind (row kind keys s) key → bits_of kind (row kind keys s) ≤ bits_of kind (row kind keys r))
 
-module _ (kind : Kind) (keys key : List ℕ) where
+module _ (kind : KeyKind) (keys key : List ℕ) where
   abbrev bits : ℕ → ℕ
   bits r = bits_of kind (row kind keys r)
 
@@ -132,7 +132,7 @@ plain_same : (s v w : ℕ) → v % 2 ^ s ≡ 0 → w % 2 ^ s ≡ 0 → v / 2 ^ s
 plain_same s v w a b same = plain_is s v a ∙ ap (λ (n : ℕ). n * 2 ^ s) same ∙ sym (plain_is s w b)
 
 -- plain rows of one length that both hold for a key have the same data
-same_data : (kind : Kind) (a b key : List ℕ) → length a ≡ size kind → length b ≡ size kind → AreBytes a → AreBytes b → IsPlain kind a → IsPlain kind b →
+same_data : (kind : KeyKind) (a b key : List ℕ) → length a ≡ size kind → length b ≡ size kind → AreBytes a → AreBytes b → IsPlain kind a → IsPlain kind b →
     bits_of kind a ≡ bits_of kind b → Holds kind a key → Holds kind b key → data_of kind a ≡ data_of kind b
 same_data (Exact n) a b key a_long b_long f g a_plain b_plain e h k = h ∙ sym k
 same_data (Prefix n) a b key a_long b_long f g a_plain b_plain e h k =
@@ -141,7 +141,7 @@ same_data (Prefix n) a b key a_long b_long f g a_plain b_plain e h k =
     value_injective (drop 4 a) (drop 4 b) (data_width (Prefix n) a a_long ∙ sym (data_width (Prefix n) b b_long)) (data_are_bytes (Prefix n) a f) (data_are_bytes (Prefix n) b g)
     (plain_same (8 * n - word a) (value (drop 4 a)) (value (drop 4 b)) a_plain (subst (λ (m : ℕ). value (drop 4 b) % 2 ^ (8 * n - m) ≡ 0) (sym e) b_plain) alike)
 
-one_row : (kind : Kind) (keys key : List ℕ) → AreListed kind keys → AreBytes keys → (r s : ℕ) → IsLongest kind keys key r → IsLongest kind keys key s → r ≡ s
+one_row : (kind : KeyKind) (keys key : List ℕ) → AreListed kind keys → AreBytes keys → (r s : ℕ) → IsLongest kind keys key r → IsLongest kind keys key s → r ≡ s
 one_row kind keys key l f r s a b =
     let e : bits_of kind (row kind keys r) ≡ bits_of kind (row kind keys s) = omega (arith, a.longest s b.within b.holds, b.longest r a.within a.holds) in
     let d = same_data kind (row kind keys r) (row kind keys s) key (row_long kind keys r a.within) (row_long kind keys s b.within) (row_bytes kind keys r f) (row_bytes kind keys s f)
@@ -155,7 +155,7 @@ one_row kind keys key l f r s a b =
     ]
 
 -- a lookup has one answer
-pub one_answer : (kind : Kind) (keys key : List ℕ) → AreListed kind keys → AreBytes keys → (a b : Option ℕ) → IsFound kind keys key a → IsFound kind keys key b → a ≡ b
+pub one_answer : (kind : KeyKind) (keys key : List ℕ) → AreListed kind keys → AreBytes keys → (a b : Option ℕ) → IsFound kind keys key a → IsFound kind keys key b → a ≡ b
 one_answer kind keys key l f None None g h = refl
 one_answer kind keys key l f None (Some s) g h = absurd (g s h.within h.holds)
 one_answer kind keys key l f (Some r) None g h = absurd (h r g.within g.holds)

@@ -10,7 +10,7 @@ use Rattle.std.proofs.lemmas.Map.Made.{AllPairs-from_IsDistinct, IsDistinct-from
 use Rattle.std.proofs.lemmas.Map.Keys.{IsDistinct-IsPermutation}
 use Rattle.std.proofs.lemmas.Bool.Decides.{Decides-eqb}
 use Rattle.std.proofs.lemmas.Cmp.{nat_eq_equiv}
-use Rattle.bpf_note.specs.declared.key.Kind.{Kind}
+use Rattle.bpf_note.specs.declared.key.KeyKind.{KeyKind}
 use Rattle.bpf_note.specs.Keys.{size, bits_of, data_of}
 use Rattle.bpf_lists.specs.Keys.{row, count, value}
 use Rattle.bpf_lists.specs.Refusals.{AreRows, AreFew, IsSame, AreListed}
@@ -33,7 +33,7 @@ apart n rows p =
     AllPairs-from_IsDistinct Decides-eqb rows
     (IsDistinct-IsPermutation nat_eq nat_eq_equiv.symm (range_with_len 0 n) rows p (IsDistinct-from_AllPairs Decides-eqb (range_with_len 0 n) (range_apart n)))
 
-seat_of : (kind : Kind) (keys : List ℕ) (last r : ℕ) → r ≤ last → spot kind keys last r ≡ seat kind keys r
+seat_of : (kind : KeyKind) (keys : List ℕ) (last r : ℕ) → r ≤ last → spot kind keys last r ≡ seat kind keys r
 seat_of kind keys last r h = let m : min r last ≡ r = omega arith in ap (λ (n : ℕ). rank kind (row kind keys n) * 2 ^ 32 + r) m
 
 strict : (a b r s : ℕ) → r < 2 ^ 32 → s < 2 ^ 32 → r ≢ s → a * 2 ^ 32 + r ≤ b * 2 ^ 32 + s → a * 2 ^ 32 + r < b * 2 ^ 32 + s
@@ -53,7 +53,7 @@ range_has n r h =
 placed : (rows : List ℕ) (r : ℕ) → Contains rows r → HasPlace rows r
 placed rows r has = record { place = has.0; within = has.1; is = get_or_default rows has.0 0 r has.1 ∙ has.2 }
 
-pub rows_sorted : (kind : Kind) (keys : List ℕ) (last : ℕ) (rows : List ℕ) → AreFew kind keys → count kind keys ≡ suc last →
+pub rows_sorted : (kind : KeyKind) (keys : List ℕ) (last : ℕ) (rows : List ℕ) → AreFew kind keys → count kind keys ≡ suc last →
     IsPermutation (range_with_len 0 (suc last)) rows → IsNonDecreasingBy (spot kind keys last) rows → AreSorted kind keys rows
 rows_sorted kind keys last rows few counted p rises =
     let long : length rows ≡ suc last = length_permutation (range_with_len 0 (suc last)) rows p ∙ length-range_with_len 0 (suc last) in
@@ -76,7 +76,7 @@ rows_sorted kind keys last rows few counted p rises =
     }
 
 -- no rows are in order
-pub none_sorted : (kind : Kind) (keys : List ℕ) → count kind keys ≡ 0 → AreSorted kind keys []
+pub none_sorted : (kind : KeyKind) (keys : List ℕ) → count kind keys ≡ 0 → AreSorted kind keys []
 none_sorted kind keys none = record {
   long = sym none;
   below = λ place h. absurd (omega arith);
@@ -97,21 +97,21 @@ range_push n = ap (λ (m : ℕ). range_with_len 0 n ++ m ∷ []) (sym (zero-add 
 rank_rises : (a b r s : ℕ) → r < 2 ^ 32 → s < 2 ^ 32 → a * 2 ^ 32 + r < b * 2 ^ 32 + s → a ≤ b
 rank_rises a b r s r_in s_in h = grind arith
 
-few_rows : (kind : Kind) (keys : List ℕ) (r : ℕ) → AreRows kind keys → r < count kind keys → r < 2 ^ 32
+few_rows : (kind : KeyKind) (keys : List ℕ) (r : ℕ) → AreRows kind keys → r < count kind keys → r < 2 ^ 32
 few_rows kind keys r good h = let most = good.few.few in omega arith
 
-same_rank : (kind : Kind) (a b : List ℕ) → IsSame kind a b → rank kind a ≡ rank kind b
+same_rank : (kind : KeyKind) (a b : List ℕ) → IsSame kind a b → rank kind a ≡ rank kind b
 same_rank kind a b same = λ i. value (same.bytes i) * 1024 + same.bits i
 
 -- rows in order have ranks in order
-ranks_sorted : (kind : Kind) (keys rows : List ℕ) → AreRows kind keys → AreSorted kind keys rows → (i j : ℕ) → i < j → j < length rows →
+ranks_sorted : (kind : KeyKind) (keys rows : List ℕ) → AreRows kind keys → AreSorted kind keys rows → (i j : ℕ) → i < j → j < length rows →
     rank kind (row kind keys (slice_index rows i)) ≤ rank kind (row kind keys (slice_index rows j))
 ranks_sorted kind keys rows good is i j less j_in =
     let i_in : i < length rows = omega arith in
     rank_rises _ _ (slice_index rows i) (slice_index rows j) (few_rows kind keys _ good (is.below i i_in)) (few_rows kind keys _ good (is.below j j_in))
     (is.rising i j less j_in)
 
-ranks_reach : (kind : Kind) (keys rows : List ℕ) → AreRows kind keys → AreSorted kind keys rows → (i j : ℕ) → i ≤ j → j < length rows →
+ranks_reach : (kind : KeyKind) (keys rows : List ℕ) → AreRows kind keys → AreSorted kind keys rows → (i j : ℕ) → i ≤ j → j < length rows →
     rank kind (row kind keys (slice_index rows i)) ≤ rank kind (row kind keys (slice_index rows j))
 ranks_reach kind keys rows good is i j le j_in = elim (equal_or_less i j le) [
   | inl same ↦ subst (λ n. rank kind (row kind keys (slice_index rows i)) ≤ rank kind (row kind keys (slice_index rows n))) same (omega arith)
@@ -122,7 +122,7 @@ strictly : (a b d : ℕ) → a ≤ b → b ≤ d → (a ≡ b → ⊥) → a < d
 strictly a b d low high differ = grind arith
 
 -- of two rows with one key, the one that stands first has the lower number
-pub lower_first : (kind : Kind) (keys rows : List ℕ) → AreSorted kind keys rows → (i j : ℕ) → i < j → j < length rows →
+pub lower_first : (kind : KeyKind) (keys rows : List ℕ) → AreSorted kind keys rows → (i j : ℕ) → i < j → j < length rows →
     IsSame kind (row kind keys (slice_index rows i)) (row kind keys (slice_index rows j)) → slice_index rows i < slice_index rows j
 lower_first kind keys rows is i j less j_in same =
     let r = same_rank kind _ _ same in
@@ -130,7 +130,7 @@ lower_first kind keys rows is i j less j_in same =
     omega arith
 
 -- rows with one rank have one key
-pub same_from_rank : (kind : Kind) (a b : List ℕ) → length a ≡ size kind → length b ≡ size kind → AreBytes a → AreBytes b →
+pub same_from_rank : (kind : KeyKind) (a b : List ℕ) → length a ≡ size kind → length b ≡ size kind → AreBytes a → AreBytes b →
     bits_of kind a ≤ 512 → bits_of kind b ≤ 512 → rank kind a ≡ rank kind b → IsSame kind a b
 same_from_rank kind a b a_long b_long f g a_few b_few same =
     let bits : bits_of kind a ≡ bits_of kind b = omega arith in
@@ -142,7 +142,7 @@ same_from_rank kind a b a_long b_long f g a_few b_few same =
     }
 
 -- rows in order of which no neighbours have one key
-ranks_strict : (kind : Kind) (keys rows : List ℕ) → AreBytes keys → AreRows kind keys → AreSorted kind keys rows →
+ranks_strict : (kind : KeyKind) (keys rows : List ℕ) → AreBytes keys → AreRows kind keys → AreSorted kind keys rows →
     Differ kind keys rows →
     (i j : ℕ) → i < j → j < length rows → rank kind (row kind keys (slice_index rows i)) < rank kind (row kind keys (slice_index rows j))
 ranks_strict kind keys rows bytes good is distinct i j less j_in =
@@ -159,7 +159,7 @@ ranks_strict kind keys rows bytes good is distinct i j less j_in =
     (few_bits kind keys _ good i_count) (few_bits kind keys _ good n_count) same) in
     strictly (rank kind a) (rank kind b) (rank kind (row kind keys (slice_index rows j))) near far differ
 
-pub ordered_from : (kind : Kind) (keys rows : List ℕ) → AreBytes keys → AreRows kind keys → AreSorted kind keys rows →
+pub ordered_from : (kind : KeyKind) (keys rows : List ℕ) → AreBytes keys → AreRows kind keys → AreSorted kind keys rows →
     Differ kind keys rows →
     IsOrdered record { kind = kind; keys = keys; rows = rows }
 ordered_from kind keys rows bytes good is distinct = record {

@@ -2,8 +2,8 @@
 -- The row that a lookup finds, computed: what a program's machine does with it. That it is the row that `IsFound` names is a law.
 use Rattle.std.specs.Prelude.{ℕ, zero, suc, ◌*◌, List, [], ◌∷◌, Option, None, Some, Bool, true, false, ◌&&◌, if◌then◌else◌, ◌==◌, nat_le, nat_lt}
 use Rattle.std.specs.Prelude.{length, drop, slice_get}
-use Rattle.bpf_note.specs.declared.key.Kind.{Kind}
-use Rattle.bpf_note.specs.declared.key.Kind.TheVariants.{Exact, Prefix}
+use Rattle.bpf_note.specs.declared.key.KeyKind.{KeyKind}
+use Rattle.bpf_note.specs.declared.key.KeyKind.TheVariants.{Exact, Prefix}
 use Rattle.bpf_note.specs.Keys.{size, word, bits_of}
 use Rattle.bpf_note.specs.Bytes.{number_of}
 use Rattle.bpf_lists.specs.Keys.{Keyed, first, row, count}
@@ -18,17 +18,17 @@ are_same (x ∷ xs) [] = false
 are_same (x ∷ xs) (y ∷ ys) = (x == y) && are_same xs ys
 
 -- whether a row holds for a key
-abbrev pub holds : Kind → List ℕ → List ℕ → Bool
+abbrev pub holds : KeyKind → List ℕ → List ℕ → Bool
 holds (Exact bytes) r key = are_same r key
 holds (Prefix bytes) r key = nat_le (word r) (word key) && (nat_le (word key) (8 * bytes) && (first (word r) (drop 4 r) == first (word r) (drop 4 key)))
 
 -- row r, or the row before it that was found, if that is no shorter
-abbrev pub longer : Kind → List ℕ → ℕ → Option ℕ → Option ℕ
+abbrev pub longer : KeyKind → List ℕ → ℕ → Option ℕ → Option ℕ
 longer kind keys r None = Some r
 longer kind keys r (Some s) = if nat_lt (bits_of kind (row kind keys s)) (bits_of kind (row kind keys r)) then Some r else Some s
 
 -- the longest of the first n rows that holds
-abbrev pub found_among : Kind → List ℕ → List ℕ → ℕ → Option ℕ
+abbrev pub found_among : KeyKind → List ℕ → List ℕ → ℕ → Option ℕ
 found_among kind keys key zero = None
 found_among kind keys key (suc n) =
     if holds kind (row kind keys n) key then longer kind keys n (found_among kind keys key n) else found_among kind keys key n

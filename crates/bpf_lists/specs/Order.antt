@@ -1,23 +1,23 @@
--- For proofs: no claim rests on this file.
+-- Stated: claims rest on this file.
 -- Rows in the order of their data, and of those with the same data the shorter first. So the rows that a row's prefix covers
 -- follow it.
 use Rattle.std.specs.Prelude.{ℕ, ◌≡◌, ◌+◌, ◌-◌, ◌*◌, ◌^◌, ◌<◌, ◌≤◌, List, take, length, slice_index, min}
-use Rattle.bpf_note.specs.declared.key.Kind.{Kind}
+use Rattle.bpf_note.specs.declared.key.KeyKind.{KeyKind}
 use Rattle.bpf_note.specs.Keys.{data_of, bits_of}
 use Rattle.bpf_lists.specs.Keys.{value, first, row, count}
 use Rattle.bpf_lists.specs.Refusals.{AreRows, IsSame}
 
 -- a key as a number: its data, then its length, which is at most 512
-abbrev pub rank : Kind → List ℕ → ℕ
+abbrev pub rank : KeyKind → List ℕ → ℕ
 rank kind key = value (data_of kind key) * 1024 + bits_of kind key
 
 -- the first key's bits begin the second, which is no shorter
-abbrev pub Covers : Kind → List ℕ → List ℕ → Type 0
+abbrev pub Covers : KeyKind → List ℕ → List ℕ → Type 0
 Covers kind a b = (bits_of kind a ≤ bits_of kind b) × (first (bits_of kind a) (data_of kind a) ≡ first (bits_of kind a) (data_of kind b))
 
 -- keys with their rows in order
 pub record Ordered : Type 0 where
-  pub kind : Kind
+  pub kind : KeyKind
   pub keys : List ℕ
   pub rows : List ℕ
 
@@ -49,22 +49,22 @@ pub record AreParents (o : Ordered) (parents : List ℕ) : Type 0 where
   pub reach : (place : ℕ) → place < length parents → Reaches o place (at o place) (slice_index parents place)
 
 -- where a row stands by its data, its length and its number
-abbrev pub seat : Kind → List ℕ → ℕ → ℕ
+abbrev pub seat : KeyKind → List ℕ → ℕ → ℕ
 seat kind keys r = rank kind (row kind keys r) * 2 ^ 32 + r
 
 -- the same for any number, which past the last row has the last row's data
-abbrev pub spot : Kind → List ℕ → ℕ → ℕ → ℕ
+abbrev pub spot : KeyKind → List ℕ → ℕ → ℕ → ℕ
 spot kind keys last r = rank kind (row kind keys (min r last)) * 2 ^ 32 + r
 
 -- all rows in this order
-pub record AreSorted (kind : Kind) (keys : List ℕ) (rows : List ℕ) : Type 0 where
+pub record AreSorted (kind : KeyKind) (keys : List ℕ) (rows : List ℕ) : Type 0 where
   pub long : length rows ≡ count kind keys
   pub below : (place : ℕ) → place < length rows → slice_index rows place < count kind keys
   pub every : (r : ℕ) → r < count kind keys → HasPlace rows r
   pub rising : (i j : ℕ) → i < j → j < length rows → seat kind keys (slice_index rows i) < seat kind keys (slice_index rows j)
 
 -- no neighbours have one key
-abbrev pub Differ : Kind → List ℕ → List ℕ → Type 0
+abbrev pub Differ : KeyKind → List ℕ → List ℕ → Type 0
 Differ kind keys rows = (place : ℕ) → place + 1 < length rows →
     IsSame kind (row kind keys (slice_index rows place)) (row kind keys (slice_index rows (place + 1))) → ⊥
 
@@ -73,7 +73,7 @@ abbrev pub lead : List ℕ → ℕ
 lead bytes = value (take 8 bytes)
 
 -- that number for each row
-pub record AreFronts (kind : Kind) (keys fronts : List ℕ) : Type 0 where
+pub record AreFronts (kind : KeyKind) (keys fronts : List ℕ) : Type 0 where
   pub long : length fronts ≡ count kind keys
   pub each : (r : ℕ) → r < count kind keys → slice_index fronts r ≡ lead (data_of kind (row kind keys r))
 

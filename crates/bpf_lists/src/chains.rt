@@ -7,16 +7,16 @@ ghost use Rattle.bpf_lists.specs.Chains.{word_at, mixed, chain_of, AreChains, Ar
 
 use crate::keys;
 use crate::order::Order;
-use bpf_note::Kind;
+use bpf_note::KeyKind;
 use std::alloc::{AllocError, Global};
 
-/// How many bytes are a group.
+/// The number of bytes in a group.
 const GROUP: usize = 4;
-/// What a number is multiplied by for each group: 2^32 over the golden ratio, as in Knuth's multiplicative hashing.
+/// The factor of each group: 2^32 over the golden ratio, as in Knuth's multiplicative hashing.
 const MIXER: u64 = 0x9E37_79B1;
-/// How many numbers of 32 bits there are.
+/// The number of numbers of 32 bits.
 const WORDS: u64 = 0x1_0000_0000;
-/// How many rows of a chain are compared with a key. After these all rows are searched, so no list makes a lookup slow.
+/// The number of a chain's rows that are compared with a key. After these all rows are searched, so no list makes a lookup slow.
 const MOST_STEPS: u32 = 8;
 
 /// Rows in chains.
@@ -28,7 +28,7 @@ pub(crate) struct Chains {
     pub(crate) links: Vec<u32>,
 }
 
-/// What a chain says of a key.
+/// The answer of a chain to a key.
 #[derive(Clone, Copy)]
 pub(crate) enum Probe {
     Row(u32),
@@ -82,8 +82,8 @@ fn chain_of(key: &[u8], chains: usize) -> usize
     (word * chains as u64 / WORDS) as usize
 }
 
-/// Whether a row has this key.
-fn has_key(kind: Kind, keys: &[u8], row: usize, key: &[u8]) -> bool
+/// Returns whether a row has this key.
+fn has_key(kind: KeyKind, keys: &[u8], row: usize, key: &[u8]) -> bool
     requires { size_of kind * row + size_of kind ≤ length keys.now }
     ensures { IsTrue result ↔ (row_of kind keys.now row ≡ key.now) }
 {
@@ -105,7 +105,7 @@ impl Chains {
     /// The chains of so many rows.
     pub(crate) fn make(
         alloc: Global,
-        kind: Kind,
+        kind: KeyKind,
         keys: &[u8],
         count: usize,
     ) -> Result<Chains, AllocError>
@@ -128,16 +128,16 @@ impl Chains {
     {
         let kind = order.kind();
         match kind {
-            Kind::Exact(_) => {
+            KeyKind::Exact(_) => {
                 let chains = Chains::make(alloc, kind, order.keys(), order.len())?;
                 Ok(Some(chains))
             }
-            Kind::Prefix(_) => Ok(None),
+            KeyKind::Prefix(_) => Ok(None),
         }
     }
 
-    /// What the key's chain says of it.
-    pub(crate) fn find(&self, kind: Kind, keys: &[u8], key: &[u8]) -> Probe
+    /// Returns what the key's chain says of it.
+    pub(crate) fn find(&self, kind: KeyKind, keys: &[u8], key: &[u8]) -> Probe
         requires { AreChained kind keys.now self.now.heads.items self.now.links.items }
         ensures { IsTold kind keys.now key.now result }
     {

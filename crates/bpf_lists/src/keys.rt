@@ -6,14 +6,14 @@ ghost use Rattle.bpf_lists.specs.Refusals.{IsWithin, IsSame, AreFew, AreRows, Is
 ghost use Rattle.bpf_lists.specs.Order.{Covers};
 
 use crate::numbers;
-use crate::refusal::Refusal;
-use bpf_note::Kind;
+use crate::refusal::RowsRefusal;
+use bpf_note::KeyKind;
 
 /// The most rows of a map.
 pub(crate) const MOST_ROWS: usize = 65536;
 
 /// The key of a row.
-pub(crate) fn key_at(kind: Kind, keys: &[u8], row: usize) -> &[u8]
+pub(crate) fn key_at(kind: KeyKind, keys: &[u8], row: usize) -> &[u8]
     requires { size_of kind * row + size_of kind ≤ length keys.now }
     ensures value { result.now ≡ row_of kind keys.now row }
     ensures len { length result.now ≡ size_of kind }
@@ -22,8 +22,8 @@ pub(crate) fn key_at(kind: Kind, keys: &[u8], row: usize) -> &[u8]
     &keys[start..start + kind.size()]
 }
 
-/// Whether the first key's bits begin the second, which is no shorter.
-pub(crate) fn covers(kind: Kind, a: &[u8], b: &[u8]) -> bool
+/// Returns whether the first key's bits begin the second, which is no shorter.
+pub(crate) fn covers(kind: KeyKind, a: &[u8], b: &[u8]) -> bool
     requires first { length a.now ≡ size_of kind }
     requires second { length b.now ≡ size_of kind }
     requires within { IsWithin kind a.now }
@@ -33,8 +33,8 @@ pub(crate) fn covers(kind: Kind, a: &[u8], b: &[u8]) -> bool
     bits <= kind.data_bits(b) && numbers::begin_alike(bits, kind.data_bytes(a), kind.data_bytes(b))
 }
 
-/// Whether two keys are one.
-pub(crate) fn are_same(kind: Kind, a: &[u8], b: &[u8]) -> bool
+/// Returns whether two keys are one.
+pub(crate) fn are_same(kind: KeyKind, a: &[u8], b: &[u8]) -> bool
     requires first { length a.now ≡ size_of kind }
     requires second { length b.now ≡ size_of kind }
     ensures { IsTrue result ↔ IsSame kind a.now b.now }
@@ -42,28 +42,28 @@ pub(crate) fn are_same(kind: Kind, a: &[u8], b: &[u8]) -> bool
     kind.data_bits(a) == kind.data_bits(b) && kind.data_bytes(a) == kind.data_bytes(b)
 }
 
-/// How many rows the bytes are, if they are whole rows and few enough.
-pub(crate) fn checked_count(kind: Kind, keys: &[u8]) -> Result<usize, Refusal>
+/// Returns the number of rows that the bytes are, if they are whole rows and few enough.
+pub(crate) fn checked_count(kind: KeyKind, keys: &[u8]) -> Result<usize, RowsRefusal>
     ensures ok { IfOk result (λ n. n ≡ count_of kind keys.now) }
     ensures few { OnOk result (AreFew kind keys.now) }
     ensures refused { IfErr result (IsRefused kind keys.now) }
 {
     if !kind.is_supported() {
-        return Err(Refusal::Width);
+        return Err(RowsRefusal::Width);
     }
     let size = kind.size();
     if keys.len() % size != 0 {
-        return Err(Refusal::Partial);
+        return Err(RowsRefusal::Partial);
     }
     let count = keys.len() / size;
     if count > MOST_ROWS {
-        return Err(Refusal::TooMany);
+        return Err(RowsRefusal::TooMany);
     }
     Ok(count)
 }
 
 /// Refuses the first row that a map can't have.
-pub(crate) fn check_rows(kind: Kind, keys: &[u8], count: usize) -> Result<(), Refusal>
+pub(crate) fn check_rows(kind: KeyKind, keys: &[u8], count: usize) -> Result<(), RowsRefusal>
     requires few { AreFew kind keys.now }
     requires count { count ≡ count_of kind keys.now }
     ensures rows { OnOk result (AreRows kind keys.now) }
@@ -73,10 +73,10 @@ pub(crate) fn check_rows(kind: Kind, keys: &[u8], count: usize) -> Result<(), Re
         let key = key_at(kind, keys, row);
         let bits = kind.data_bits(key);
         if bits as usize > 8 * kind.width() {
-            return Err(Refusal::Length(row as u32));
+            return Err(RowsRefusal::Length(row as u32));
         }
         if !numbers::is_plain(bits, kind.data_bytes(key)) {
-            return Err(Refusal::Beyond(row as u32));
+            return Err(RowsRefusal::Beyond(row as u32));
         }
     }
     Ok(())

@@ -20,5 +20,5 @@ mod sorting;
 mod starts;
 
 pub use list::{ConstantBytes, MapList};
-pub use refusal::Refusal;
+pub use refusal::RowsRefusal;
 pub use rows::KeyedRows;

@@ -34,7 +34,7 @@ impl ConstantBytes {
     }
 }
 
-/// What is given beside a program for a map that is no array.
+/// The list that is given beside a program for a map that is no array.
 #[derive(Drop)]
 pub enum MapList {
     /// The rows of a map that is looked up by keys.

@@ -14,7 +14,7 @@ pub(crate) fn compare(a: &[u8], b: &[u8]) -> Ordering
     (&a[..]).cmp(&&b[..])
 }
 
-/// How many bytes the number at the front of data has at most.
+/// The most bytes that the number at the front of data has.
 const LEADING: usize = 8;
 
 /// The number of the first eight bytes, or of all if there are fewer.
@@ -28,7 +28,7 @@ pub(crate) fn lead(bytes: &[u8]) -> u64
     number
 }
 
-/// Whether the first `bits` bits of two data of one length are the same.
+/// Returns whether the first `bits` bits of two data of one length are the same.
 pub(crate) fn begin_alike(bits: u32, a: &[u8], b: &[u8]) -> bool
     requires same { length a.now ≡ length b.now }
     requires within { bits ≤ 8 * length a.now }
@@ -42,7 +42,7 @@ pub(crate) fn begin_alike(bits: u32, a: &[u8], b: &[u8]) -> bool
     rest == 0 || a[whole] >> (8 - rest) == b[whole] >> (8 - rest)
 }
 
-/// Whether no bit is set beyond the first `bits`.
+/// Returns whether no bit is set beyond the first `bits`.
 pub(crate) fn is_plain(bits: u32, bytes: &[u8]) -> bool
     requires { bits ≤ 8 * length bytes.now }
     ensures { IsTrue result ↔ (value bytes.now % 2 ^ (8 * length bytes.now - bits) ≡ 0) }

@@ -6,13 +6,13 @@ ghost use Rattle.bpf_lists.specs.Order.{at as key_of, lead as lead_of, IsOrdered
 
 use crate::starts::Starts;
 use crate::{keys, numbers};
-use bpf_note::Kind;
+use bpf_note::KeyKind;
 use std::marker::Model;
 
 /// Rows in the order of their data, of those with the same data the shorter first.
 #[derive(Drop)]
 pub(crate) struct Order {
-    pub(crate) kind: Kind,
+    pub(crate) kind: KeyKind,
     pub(crate) keys: Vec<u8>,
     pub(crate) rows: Vec<u32>,
 }
@@ -35,7 +35,7 @@ impl Model for Order {
 }
 
 impl Order {
-    /// How many rows there are.
+    /// Returns the number of rows.
     pub(crate) fn len(&self) -> usize
         ensures value { result ≡ length self.now.rows }
         ensures ordered { IsOrdered self.now }
@@ -44,7 +44,7 @@ impl Order {
     }
 
     /// The kind of the keys.
-    pub(crate) fn kind(&self) -> Kind
+    pub(crate) fn kind(&self) -> KeyKind
         ensures value { result ≡ self.now.kind }
         ensures ordered { IsOrdered self.now }
     {
@@ -75,7 +75,7 @@ impl Order {
         keys::key_at(self.kind, self.keys.as_slice(), self.rows[place] as usize)
     }
 
-    /// Whether the row at a place holds for a key.
+    /// Returns whether the row at a place holds for a key.
     pub(crate) fn covers(&self, place: usize, key: &[u8]) -> bool
         requires place { place < length self.now.rows }
         requires key { length key.now ≡ size_of self.now.kind }
@@ -93,7 +93,7 @@ impl Order {
         self.kind().data_bytes(self.key(place))
     }
 
-    /// Whether the data at a place are above these, by the numbers at their fronts where these differ.
+    /// Returns whether the data at a place are above these, by the numbers at their fronts where these differ.
     fn is_above(&self, leads: &[u64], place: usize, lead: u64, wanted: &[u8]) -> bool
         requires place { place < length self.now.rows }
         requires leads { AreLeads self.now leads.now }

@@ -1,9 +1,9 @@
 //! Which rows are refused.
 use std::alloc::AllocError;
 
-/// Why rows are refused. The causes are tried in this order, and rows from the first on.
+/// The reason why rows are refused. The causes are tried in this order, and rows from the first on.
 #[derive(Clone, Copy, Debug, PartialEq, Eq, Drop)]
-pub enum Refusal {
+pub enum RowsRefusal {
     /// A key has no bytes of data, or more than 64.
     Width,
     /// The bytes end within a row.
@@ -20,13 +20,13 @@ pub enum Refusal {
     Memory,
 }
 
-impl From<AllocError> for Refusal {
+impl From<AllocError> for RowsRefusal {
     ghost use Rattle.std.specs.Prelude.{◌≡◌};
-    ghost use Rattle.bpf_lists.specs.declared.refusal.Refusal.TheVariants.{Memory};
+    ghost use Rattle.bpf_lists.specs.declared.refusal.RowsRefusal.TheVariants.{Memory};
 
     ghost from_gives = { λ _ e. e ≡ Memory };
 
-    fn from(_error: AllocError) -> Refusal {
-        Refusal::Memory
+    fn from(_error: AllocError) -> RowsRefusal {
+        RowsRefusal::Memory
     }
 }

@@ -8,10 +8,10 @@ ghost use Rattle.bpf_lists.specs.Refusals.{AreListed, IsRefused};
 
 use crate::chains::{Chains, Probe};
 use crate::order::Order;
-use crate::refusal::Refusal;
+use crate::refusal::RowsRefusal;
 use crate::starts::Starts;
 use crate::{keys, sorting};
-use bpf_note::Kind;
+use bpf_note::KeyKind;
 use std::alloc::Global;
 use std::marker::Model;
 
@@ -41,7 +41,7 @@ impl Model for KeyedRows {
 
 impl KeyedRows {
     /// Rows with these keys, one after the other, each as a map's lookup takes it.
-    pub fn make(alloc: Global, kind: Kind, keys: &[u8]) -> Result<KeyedRows, Refusal>
+    pub fn make(alloc: Global, kind: KeyKind, keys: &[u8]) -> Result<KeyedRows, RowsRefusal>
         ensures kind { IfOk result (λ t. t.kind ≡ kind) }
         ensures keys { IfOk result (λ t. t.keys ≡ keys.now) }
         ensures listed { IfOk result (λ t. AreListed kind keys.now) }
@@ -64,7 +64,7 @@ impl KeyedRows {
     }
 
     /// The kind of the keys.
-    pub fn kind(&self) -> Kind
+    pub fn kind(&self) -> KeyKind
         ensures { result ≡ self.now.kind }
     {
         self.order.kind()
@@ -92,7 +92,7 @@ impl KeyedRows {
         }
     }
 
-    /// What the key's chain says of it. Prefixes have no chains.
+    /// Returns what the key's chain says of it. Prefixes have no chains.
     fn probe(&self, key: &[u8]) -> Probe
         ensures { IsTold self.now.kind self.now.keys key.now result }
     {

@@ -8,14 +8,14 @@ ghost use Rattle.bpf_lists.specs.Refusals.{AreRows, AreListed, IsRefused};
 ghost use Rattle.bpf_lists.specs.Order.{AreParents, AreLeads, AreFronts, AreSorted, spot, Differ};
 
 use crate::order::Order;
-use crate::refusal::Refusal;
+use crate::refusal::RowsRefusal;
 use crate::{keys, numbers};
-use bpf_note::Kind;
+use bpf_note::KeyKind;
 use std::alloc::{AllocError, Global};
 use std::cmp::Ordering;
 
 /// Compares rows by their data, then their length, then their number. A number past the last row is taken for the last.
-fn compare_rows(kind: Kind, keys: &[u8], last: u32, a: u32, b: u32) -> Ordering
+fn compare_rows(kind: KeyKind, keys: &[u8], last: u32, a: u32, b: u32) -> Ordering
     requires rows { AreRows kind keys.now }
     requires last { last < count_of kind keys.now }
     ensures { result ≡ nat_cmp (spot kind keys.now last a) (spot kind keys.now last b) }
@@ -28,7 +28,7 @@ fn compare_rows(kind: Kind, keys: &[u8], last: u32, a: u32, b: u32) -> Ordering
 }
 
 /// For each row the number at the front of its data.
-fn fronts(alloc: Global, kind: Kind, keys: &[u8], count: u32) -> Result<Vec<u64>, AllocError>
+fn fronts(alloc: Global, kind: KeyKind, keys: &[u8], count: u32) -> Result<Vec<u64>, AllocError>
     requires rows { AreRows kind keys.now }
     requires count { count ≡ count_of kind keys.now }
     ensures { IfOk result (λ fronts. AreFronts kind keys.now fronts.items) }
@@ -42,7 +42,7 @@ fn fronts(alloc: Global, kind: Kind, keys: &[u8], count: u32) -> Result<Vec<u64>
 }
 
 /// Compares rows as `compare_rows` does, by the numbers at their fronts where these differ.
-fn compare_fronts(kind: Kind, keys: &[u8], fronts: &[u64], last: u32, a: u32, b: u32) -> Ordering
+fn compare_fronts(kind: KeyKind, keys: &[u8], fronts: &[u64], last: u32, a: u32, b: u32) -> Ordering
     requires rows { AreRows kind keys.now }
     requires fronts { AreFronts kind keys.now fronts.now }
     requires last { last < count_of kind keys.now }
@@ -68,7 +68,7 @@ fn numbers_below(alloc: Global, count: u32) -> Result<Vec<u32>, AllocError>
 }
 
 /// The rows in order.
-fn sorted(alloc: Global, kind: Kind, keys: &[u8], count: u32) -> Result<Vec<u32>, AllocError>
+fn sorted(alloc: Global, kind: KeyKind, keys: &[u8], count: u32) -> Result<Vec<u32>, AllocError>
     requires rows { AreRows kind keys.now }
     requires count { count ≡ count_of kind keys.now }
     ensures { IfOk result (λ rows. AreSorted kind keys.now rows.items) }
@@ -85,7 +85,7 @@ fn sorted(alloc: Global, kind: Kind, keys: &[u8], count: u32) -> Result<Vec<u32>
 }
 
 /// Refuses rows that have one key. They are neighbours.
-fn check_distinct(kind: Kind, keys: &[u8], rows: &[u32]) -> Result<(), Refusal>
+fn check_distinct(kind: KeyKind, keys: &[u8], rows: &[u32]) -> Result<(), RowsRefusal>
     requires good { AreRows kind keys.now }
     requires sorted { AreSorted kind keys.now rows.now }
     ensures distinct { OnOk result (Differ kind keys.now rows.now) }
@@ -95,14 +95,19 @@ fn check_distinct(kind: Kind, keys: &[u8], rows: &[u32]) -> Result<(), Refusal>
         let first = keys::key_at(kind, keys, rows[place - 1] as usize);
         let second = keys::key_at(kind, keys, rows[place] as usize);
         if keys::are_same(kind, first, second) {
-            return Err(Refusal::Repeated(rows[place - 1], rows[place]));
+            return Err(RowsRefusal::Repeated(rows[place - 1], rows[place]));
         }
     }
     Ok(())
 }
 
 /// The rows in order, if none has another's key.
-pub(crate) fn order(alloc: Global, kind: Kind, keys: &[u8], count: usize) -> Result<Order, Refusal>
+pub(crate) fn order(
+    alloc: Global,
+    kind: KeyKind,
+    keys: &[u8],
+    count: usize,
+) -> Result<Order, RowsRefusal>
     requires rows { AreRows kind keys.now }
     requires count { count ≡ count_of kind keys.now }
     ensures kind { IfOk result (λ o. o.kind ≡ kind) }

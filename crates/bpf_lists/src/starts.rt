@@ -10,11 +10,11 @@ use std::alloc::{AllocError, Global};
 #[derive(Drop)]
 pub(crate) struct Starts {
     places: Vec<u32>,
-    /// How many places there are.
+    /// The number of places.
     count: u32,
     /// The number with which the first range begins.
     least: u64,
-    /// How many bits the numbers of a range differ in.
+    /// The number of bits that the numbers of a range differ in.
     shift: u32,
 }
 

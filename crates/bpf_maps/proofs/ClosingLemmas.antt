@@ -13,7 +13,7 @@ use Rattle.bpf_maps.specs.declared.view.Part.{Part}
 use Rattle.bpf_maps.specs.declared.view.View.{View}
 use Rattle.bpf_note.specs.Shape.{Shape, IsCounter}
 use Rattle.bpf_maps.specs.Layout.{place_of, total}
-use Rattle.bpf_note.specs.History.{Entry, added, share}
+use Rattle.bpf_note.specs.History.{Made, added, share}
 use Rattle.bpf_maps.specs.Beginning.{began, left_from}
 use Rattle.bpf_maps.specs.Rule.{Kept, part, times, word_of}
 use Rattle.bpf_maps.specs.Seats.{SeatView, TotalsView, Account, total_at}
@@ -25,7 +25,7 @@ abbrev pub part_of : SeatView → Part
 part_of s = part s.number s.ops
 
 -- one operation more at the front of a history adds to the list of each part with its number
-one_more : (f : Op → ℕ) (e : Entry) (es : List Entry) (ps : List Part)
+one_more : (f : Op → ℕ) (e : Made) (es : List Made) (ps : List Part)
     → sum_by (λ (p : Part). sum_by f (share p.number (e ∷ es))) ps ≡ times e.0 ps * f e.1 + sum_by (λ (p : Part). sum_by f (share p.number es)) ps
 one_more f e es [] = let z : 0 ≡ 0 * f e.1 + 0 = omega arith in z
 one_more f e es (p ∷ ps) =
@@ -47,27 +47,27 @@ one_more f e es (p ∷ ps) =
     let u : times e.0 (p ∷ ps) * f e.1 ≡ times e.0 ps * f e.1 = ap (λ (n : ℕ). n * f e.1) t in omega arith)
   where
     here : (p : Part) → p.number ≡ e.0 → share p.number (e ∷ es) ≡ e.1 ∷ share p.number es
-    here p same = ap (λ (b : Bool). map (λ (x : Entry). x.1) (cond b (e ∷ filter (λ (x : Entry). eqb p.number x.0) es) (filter (λ (x : Entry). eqb p.number x.0) es))) (eq-eqb p.number e.0 same)
+    here p same = ap (λ (b : Bool). map (λ (x : Made). x.1) (cond b (e ∷ filter (λ (x : Made). eqb p.number x.0) es) (filter (λ (x : Made). eqb p.number x.0) es))) (eq-eqb p.number e.0 same)
 
     there : (p : Part) → p.number ≢ e.0 → share p.number (e ∷ es) ≡ share p.number es
-    there p apart = ap (λ (b : Bool). map (λ (x : Entry). x.1) (cond b (e ∷ filter (λ (x : Entry). eqb p.number x.0) es) (filter (λ (x : Entry). eqb p.number x.0) es))) (ne_eqb p.number e.0 apart)
+    there p apart = ap (λ (b : Bool). map (λ (x : Made). x.1) (cond b (e ∷ filter (λ (x : Made). eqb p.number x.0) es) (filter (λ (x : Made). eqb p.number x.0) es))) (ne_eqb p.number e.0 apart)
 
 no_sum : (ps : List Part) (F : Part → ℕ) → ((p : Part) → F p ≡ 0) → sum_by F ps ≡ 0
 no_sum [] F z = refl
 no_sum (p ∷ ps) F z = let a = sum_by-cons F p ps in let b = z p in let r = no_sum ps F z in omega arith
 
 -- where each entry's number stands once, the sum over the shares is the sum over the history
-parts_sum : (f : Op → ℕ) (h : List Entry) (ps : List Part) → All (λ (e : Entry). times e.0 ps ≡ 1) h → sum_by (λ (p : Part). sum_by f (share p.number h)) ps ≡ sum_by (λ (e : Entry). f e.1) h
+parts_sum : (f : Op → ℕ) (h : List Made) (ps : List Part) → All (λ (e : Made). times e.0 ps ≡ 1) h → sum_by (λ (p : Part). sum_by f (share p.number h)) ps ≡ sum_by (λ (e : Made). f e.1) h
 parts_sum f [] ps once = no_sum ps (λ (p : Part). sum_by f (share p.number [])) (λ p. refl)
 parts_sum f (e ∷ es) ps once =
-    let P : Entry → Type 0 = λ x. times x.0 ps ≡ 1 in
+    let P : Made → Type 0 = λ x. times x.0 ps ≡ 1 in
     let one : times e.0 ps ≡ 1 = All-head P e es once in
     let r = parts_sum f es ps (All-tail P e es once) in
     let a = one_more f e es ps in
-    let b : sum_by (λ (x : Entry). f x.1) (e ∷ es) ≡ f e.1 + sum_by (λ (x : Entry). f x.1) es = sum_by-cons (λ (x : Entry). f x.1) e es in
+    let b : sum_by (λ (x : Made). f x.1) (e ∷ es) ≡ f e.1 + sum_by (λ (x : Made). f x.1) es = sum_by-cons (λ (x : Made). f x.1) e es in
     let c : times e.0 ps * f e.1 ≡ 1 * f e.1 = ap (λ (n : ℕ). n * f e.1) one in omega arith
 
-shares_sum : (f : Op → ℕ) (h : List Entry) (seats : List SeatView) → All (λ (s : SeatView). share s.number h ≡ s.ops) seats
+shares_sum : (f : Op → ℕ) (h : List Made) (seats : List SeatView) → All (λ (s : SeatView). share s.number h ≡ s.ops) seats
     → sum_by (λ (p : Part). sum_by f (share p.number h)) (map part_of seats) ≡ sum_by (λ (s : SeatView). sum_by f s.ops) seats
 shares_sum f h [] all = refl
 shares_sum f h (s ∷ ss) all =
@@ -101,13 +101,13 @@ module _ (shapes : List Shape) (begin : List ℕ) (n : ℕ) (words : List ℕ) (
       let left : (m k j : ℕ) → IsCounter shapes m k j → total_at t m k j ≡ left_from (began shapes begin) m k j h = λ m k j inside.
       ap (λ (l : List Shape). get_or t.values (place_of l m k j) 0) same ∙ (values (place_of shapes m k j) (place_within shapes m k j inside)
       ∙ (ap (λ (l : List ℕ). get_or l (place_of shapes m k j + 1) 0) (sym is) ∙ (ap (λ (i : ℕ). get_or s.words i 0) (word_is m k j) ∙ r.leaves m k j inside))) in
-      let once : All (λ (e : Entry). times e.0 (map part_of seats) ≡ 1) h = All-weaker (λ (e : Entry). e.0 < n) (λ (e : Entry). times e.0 (map part_of seats) ≡ 1)
+      let once : All (λ (e : Made). times e.0 (map part_of seats) ≡ 1) h = All-weaker (λ (e : Made). e.0 < n) (λ (e : Made). times e.0 (map part_of seats) ≡ 1)
       (λ e below. exactly e.0 below s r parts every seen.1) h r.no_others in (
         record {
           history = h;
           legal = r.legal;
           shares = shares;
-          no_others = All-weaker (λ (e : Entry). e.0 < n) (λ (e : Entry). Contains (map (λ (x : SeatView). x.number) seats) e.0) (λ e below. every e.0 below) h r.no_others;
+          no_others = All-weaker (λ (e : Made). e.0 < n) (λ (e : Made). Contains (map (λ (x : SeatView). x.number) seats) e.0) (λ e below. every e.0 below) h r.no_others;
           leaves = λ m k j inside. left m k j (subst (λ (l : List Shape). IsCounter l m k j) same inside);
         },
         λ m k j inside. left m k j inside ∙ ap (λ (x : ℕ). (began shapes begin m k j + x) % 18446744073709551616) (sym (parts_sum (added m k j) h (map part_of seats) once) ∙ shares_sum (added m k j) h seats shares),

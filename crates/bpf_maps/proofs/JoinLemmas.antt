@@ -10,7 +10,7 @@ use Rattle.atomic_table.proofs.Lists.{at_set, at_snoc, set_again}
 use Rattle.bpf_maps.specs.declared.view.Part.{Part}
 use Rattle.bpf_maps.specs.declared.view.View.{View}
 use Rattle.bpf_note.specs.Shape.{Shape}
-use Rattle.bpf_note.specs.History.{Entry, share}
+use Rattle.bpf_note.specs.History.{Made, share}
 use Rattle.bpf_maps.specs.Beginning.{IsLegalFrom, began}
 use Rattle.bpf_maps.specs.Rule.{AreShares, Kept, Fits, Sat, view, times, looked, first_of, rest_of}
 use Rattle.bpf_maps.proofs.ViewLemmas.{count, total_set, total_above}
@@ -97,7 +97,7 @@ module _ (shapes : List Shape) (begin : List ℕ) (seats : ℕ) where
   unmoved s r i id cs v at = subst (λ (z : List ℕ × List View). Rule record { words = z.0; homes = s.homes; views = z.1 }) (λ k. (sym (set-get_or s.words i 0) k, sym (set_again s.views id v at) k)) r
 
   -- the parts of a view are shares of one legal history from the beginning that it has
-  seen : (v : View) (h : List Entry) → IsLegalFrom (began shapes begin) h → (ps : List Part) → All (λ (p : Part). (v.shapes ≡ shapes) × (v.begin ≡ begin) × (share p.number h ≡ p.ops)) ps
+  seen : (v : View) (h : List Made) → IsLegalFrom (began shapes begin) h → (ps : List Part) → All (λ (p : Part). (v.shapes ≡ shapes) × (v.begin ≡ begin) × (share p.number h ≡ p.ops)) ps
       → ((x : ℕ) → times x ps ≤ 1) → AreShares v.shapes v.begin ps
   seen v h legal [] all once = ([], (λ i e at. absurd (cc)), All-nil (λ (p : Part). share p.number [] ≡ p.ops), once)
   seen v h legal (p ∷ ps) all once =

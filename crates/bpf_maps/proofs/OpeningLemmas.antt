@@ -12,7 +12,7 @@ use Rattle.bpf_maps.specs.declared.view.Part.{Part}
 use Rattle.bpf_maps.specs.declared.view.View.{View}
 use Rattle.bpf_note.specs.Shape.{Shape}
 use Rattle.bpf_maps.specs.Layout.{place_of, total}
-use Rattle.bpf_note.specs.History.{Entry, share}
+use Rattle.bpf_note.specs.History.{Made, share}
 use Rattle.bpf_maps.specs.Rule.{Kept, Fits, Sat, part, view, times, blanks, first_view, first_of, rest_of}
 use Rattle.bpf_maps.proofs.ViewLemmas.{count, times_here, times_else}
 
@@ -56,7 +56,7 @@ opens shapes begin words seats long small is =
       leaves = λ m k j h. ap (λ (i : ℕ). get_or (0 ∷ begin) i 0) (let e : 1 + place_of shapes m k j ≡ suc (place_of shapes m k j) = omega arith in e) ∙ small_at begin (place_of shapes m k j) small;
       shared = λ id v at. first_fits id v at;
       once = λ q. (let t = sum_by-cons (count q) (first_view shapes begin seats) [] in let u = each_once seats q in let z : sum_by (count q) [] ≡ 0 = refl in omega arith);
-      no_others = All-nil (λ (e : Entry). e.0 < seats);
+      no_others = All-nil (λ (e : Made). e.0 < seats);
     }
   where
     first_fits : (id : ℕ) (v : View) → get_elem? (first_view shapes begin seats ∷ []) id ≡ some v → Fits shapes begin [] v

@@ -14,7 +14,7 @@ use Rattle.bpf_maps.specs.declared.view.Part.{Part}
 use Rattle.bpf_maps.specs.declared.view.View.{View}
 use Rattle.bpf_note.specs.Shape.{Shape, IsCounter}
 use Rattle.bpf_maps.specs.Layout.{total}
-use Rattle.bpf_note.specs.History.{Entry, found, map_of, value_of, counter_of, added, share}
+use Rattle.bpf_note.specs.History.{Made, found, map_of, value_of, counter_of, added, share}
 use Rattle.bpf_maps.specs.Beginning.{began, left_from}
 use Rattle.bpf_maps.specs.Rule.{Kept, Fits, Sat, part, view, times, word_of, grown, loaded, fetched}
 use Rattle.bpf_maps.specs.Seats.{number_of, ops_of}
@@ -26,11 +26,11 @@ use Rattle.bpf_maps.proofs.ViewLemmas.{count, total_set, total_above, two_above,
 abbrev St : Type 0
 St = State (Unit {0}) View
 
-abbrev IsShare : List Shape → List ℕ → View → List Entry → Part → Type 0
+abbrev IsShare : List Shape → List ℕ → View → List Made → Part → Type 0
 IsShare shapes begin own h p = (own.shapes ≡ shapes) × (own.begin ≡ begin) × (share p.number h ≡ p.ops)
 
 -- the shares of other numbers stay
-others_stay : (shapes : List Shape) (begin : List ℕ) (own : View) (q : ℕ) (o : Op) (h : List Entry) (ps : List Part) → times q ps ≡ 0 → All (IsShare shapes begin own h) ps → All (IsShare shapes begin own (h ++ (q, o) ∷ [])) ps
+others_stay : (shapes : List Shape) (begin : List ℕ) (own : View) (q : ℕ) (o : Op) (h : List Made) (ps : List Part) → times q ps ≡ 0 → All (IsShare shapes begin own h) ps → All (IsShare shapes begin own (h ++ (q, o) ∷ [])) ps
 others_stay shapes begin own q o h [] zero_times all = All-nil (IsShare shapes begin own (h ++ (q, o) ∷ []))
 others_stay shapes begin own q o h (p ∷ ps) zero_times all = dite (ℕ_discrete q p.number)
     (λ e. let t = times_here q p ps e in absurd (omega arith))
@@ -55,7 +55,7 @@ module _ (shapes : List Shape) (begin : List ℕ) (seats : ℕ) where
   grows s r id cs q ops o n at in_range is now elsewhere =
       let v : View = view shapes begin (part q ops ∷ []) in
       let w : View = view shapes begin (part q (ops ++ o ∷ []) ∷ []) in
-      let more : List Entry = r.history ++ (q, o) ∷ [] in
+      let more : List Made = r.history ++ (q, o) ∷ [] in
       let place : ℕ = word_of shapes (map_of o) (value_of o) (counter_of o) in
       let inside : place < 1 + total shapes = word_within shapes (map_of o) (value_of o) (counter_of o) in_range in
       let wide = r.wide in
@@ -81,11 +81,11 @@ module _ (shapes : List Shape) (begin : List ℕ) (seats : ℕ) where
             others_stay shapes begin u q o r.history u.parts (omega arith) k)
             (at_set s.views id j w u e);
         once = λ x. let t = total_set x s.views id v w at in let one = r.once x in let same : count x v ≡ count x w = refl in omega arith;
-        no_others = All-push (λ (e : Entry). e.0 < seats) r.history (q, o) r.no_others
+        no_others = All-push (λ (e : Made). e.0 < seats) r.history (q, o) r.no_others
             (is_seat q seats (let above = total_above q s.views id v at in let one = r.once q in omega arith));
       }
 
-  own_of : (v : View) (q : ℕ) (ops : List Op) (h : List Entry) → v.parts ≡ part q ops ∷ [] → Fits shapes begin h v → (v.shapes ≡ shapes) × (v.begin ≡ begin)
+  own_of : (v : View) (q : ℕ) (ops : List Op) (h : List Made) → v.parts ≡ part q ops ∷ [] → Fits shapes begin h v → (v.shapes ≡ shapes) × (v.begin ≡ begin)
   own_of v q ops h e all = let known = All-head (IsShare shapes begin v h) (part q ops) [] (subst (λ (ps : List Part). All (IsShare shapes begin v h) ps) e all) in (known.0, known.1)
 
   -- the seat's list has the operation at its end, wherever the word is a counter's

@@ -2,7 +2,7 @@
 -- Counters that begin with given numbers: what a history leaves in them, and which histories are legal then. The operations are
 -- those of RFC 9669, section 5.3; in Linux user space writes an array's values before a program is attached (bpf(2)).
 use Rattle.std.specs.Prelude.{◌≡◌, ◌↔◌, ℕ, ◌+◌, ◌*◌, ◌%◌, ◌^◌, List, [], Option, None, Some, sum_by, take, slice_get, slice_index}
-use Rattle.bpf_note.specs.History.{Entry, IsLegal, added, counter_of, found, left_in, map_of, value_of}
+use Rattle.bpf_note.specs.History.{Made, IsLegal, added, counter_of, found, left_in, map_of, value_of}
 use Rattle.bpf_note.specs.Shape.{Shape}
 use Rattle.bpf_maps.specs.Layout.{place_of}
 
@@ -32,15 +32,15 @@ abbrev pub given : List Shape → List (List ℕ) → ℕ → ℕ → ℕ → �
 given shapes lists m k j = slice_index (numbers_of (slice_get lists m)) (width_of (slice_get shapes m) * k + j)
 
 -- what a history leaves in a counter: the number that it began with and the sum of what was added, modulo 2^64
-abbrev pub left_from : Beginning → ℕ → ℕ → ℕ → List Entry → ℕ
-left_from begin m k j history = (begin m k j + sum_by (λ (e : Entry). added m k j e.1) history) % 2 ^ 64
+abbrev pub left_from : Beginning → ℕ → ℕ → ℕ → List Made → ℕ
+left_from begin m k j history = (begin m k j + sum_by (λ (e : Made). added m k j e.1) history) % 2 ^ 64
 
 -- each operation found what the beginning and those before it leave
-abbrev pub IsLegalFrom : Beginning → List Entry → Type 0
-IsLegalFrom begin history = (i : ℕ) (e : Entry) → slice_get history i ≡ Some e →
+abbrev pub IsLegalFrom : Beginning → List Made → Type 0
+IsLegalFrom begin history = (i : ℕ) (e : Made) → slice_get history i ≡ Some e →
     found e.1 ≡ left_from begin (map_of e.1) (value_of e.1) (counter_of e.1) (take i history)
 
 -- counters that begin with 0 are as those of which nothing is said
 abbrev pub BeginsAsEver : Beginning → Type 0
-BeginsAsEver begin = (history : List Entry) →
+BeginsAsEver begin = (history : List Made) →
     ((m k j : ℕ) → left_from begin m k j history ≡ left_in m k j history) × (IsLegalFrom begin history ↔ IsLegal history)

@@ -13,7 +13,7 @@ use Rattle.bpf_maps.specs.declared.view.View.{View}
 use Rattle.bpf_note.specs.Shape.{Shape, IsCounter}
 use Rattle.bpf_maps.specs.Layout.{place_of, total}
 use Rattle.bpf_maps.specs.Beginning.{IsLegalFrom, began, left_from}
-use Rattle.bpf_note.specs.History.{Entry, share}
+use Rattle.bpf_note.specs.History.{Made, share}
 
 -- the word of counter j of value k of map m
 abbrev pub word_of : List Shape → ℕ → ℕ → ℕ → ℕ
@@ -40,20 +40,20 @@ abbrev pub times : ℕ → List Part → ℕ
 times number parts = sum_by (λ (p : Part). if number == p.number then 1 else 0) parts
 
 -- the list of a number is its share of the history, and the view has the maps' shapes and the beginning
-abbrev pub Fits : List Shape → List ℕ → List Entry → View → Type 0
+abbrev pub Fits : List Shape → List ℕ → List Made → View → Type 0
 Fits shapes begin history v = All (λ (p : Part). (v.shapes ≡ shapes) × (v.begin ≡ begin) × (share p.number history ≡ p.ops)) v.parts
 
 -- one legal history from the beginning leaves the words; the share of each number is its list, each number stands in one view, and
 -- there are no other entries
 pub record Kept (shapes : List Shape) (begin : List ℕ) (seats : ℕ) (s : State (Unit {0}) View) : Type 0 where
-  pub history : List Entry
+  pub history : List Made
   pub wide : length s.words ≡ 1 + total shapes
   pub spare : slice_index s.words 0 ≡ 0
   pub legal : IsLegalFrom (began shapes begin) history
   pub leaves : (m k j : ℕ) → IsCounter shapes m k j → slice_index s.words (word_of shapes m k j) ≡ left_from (began shapes begin) m k j history
   pub shared : (id : ℕ) (v : View) → get_elem? s.views id ≡ some v → Fits shapes begin history v
   pub once : (number : ℕ) → sum_by (λ (v : View). times number v.parts) s.views ≡ (if nat_lt number seats then 1 else 0)
-  pub no_others : All (λ (e : Entry). e.0 < seats) history
+  pub no_others : All (λ (e : Made). e.0 < seats) history
 
 abbrev pub grown_first : List Part → Op → List Part
 grown_first [] o = []
@@ -83,7 +83,7 @@ fetched = Grows Add
 
 -- the lists of a view are the shares of one legal history from this beginning, and no number stands there twice
 abbrev pub AreShares : List Shape → List ℕ → List Part → Type 0
-AreShares shapes begin parts = (history : List Entry) × IsLegalFrom (began shapes begin) history × All (λ (p : Part). share p.number history ≡ p.ops) parts ×
+AreShares shapes begin parts = (history : List Made) × IsLegalFrom (began shapes begin) history × All (λ (p : Part). share p.number history ≡ p.ops) parts ×
     ((number : ℕ) → times number parts ≤ 1)
 
 -- a look: the view stays, and its lists are shares of one legal history

@@ -5,7 +5,7 @@ use Rattle.std.specs.List.{range_with_len}
 use Rattle.atomic_table.specs.Seated.{TableId}
 use Rattle.bpf_note.specs.declared.op.Op.{Op}
 use Rattle.bpf_maps.specs.Beginning.{Beginning, IsLegalFrom, began, left_from}
-use Rattle.bpf_note.specs.History.{Entry, share}
+use Rattle.bpf_note.specs.History.{Made, share}
 use Rattle.bpf_note.specs.Shape.{Shape, IsCounter}
 use Rattle.bpf_maps.specs.Layout.{place_of}
 use Rattle.bpf_maps.specs.declared.view.Part.{Part}
@@ -61,7 +61,7 @@ seat_view t v = record { table = t; shapes = v.shapes; begin = v.begin; number =
 
 -- The operations of two seats stand in one legal history from this beginning
 pub record StandTogether (begin : Beginning) (a b : SeatView) : Type 0 where
-  pub history : List Entry
+  pub history : List Made
   pub legal : IsLegalFrom begin history
   pub first : share a.number history ≡ a.ops
   pub second : share b.number history ≡ b.ops
@@ -78,8 +78,8 @@ total_at t m k j = slice_index t.values (place_of t.shapes m k j)
 
 -- The seats' lists are the shares of one legal history from this beginning, which has no other entries and leaves these numbers
 pub record Account (begin : Beginning) (seats : List SeatView) (t : TotalsView) : Type 0 where
-  pub history : List Entry
+  pub history : List Made
   pub legal : IsLegalFrom begin history
   pub shares : All (λ (s : SeatView). share s.number history ≡ s.ops) seats
-  pub no_others : All (λ (e : Entry). Contains (map (λ (s : SeatView). s.number) seats) e.0) history
+  pub no_others : All (λ (e : Made). Contains (map (λ (s : SeatView). s.number) seats) e.0) history
   pub leaves : (m k j : ℕ) → IsCounter t.shapes m k j → total_at t m k j ≡ left_from begin m k j history

@@ -6,7 +6,7 @@ ghost use Rattle.bpf_maps.specs.Layout.{place_of, size as all_of, total as all};
 use bpf_note::MapShape;
 use std::alloc::{AllocError, Global};
 
-/// How many counters come before counter `j` of value `k` of map `m`.
+/// Returns the number of counters that come before counter `j` of value `k` of map `m`.
 pub fn place(shapes: &[MapShape], m: u32, k: u32, j: u32) -> usize
     requires maps { length shapes.now ≤ most_maps }
     requires place { IsCounter shapes.now m k j }
@@ -17,7 +17,7 @@ pub fn place(shapes: &[MapShape], m: u32, k: u32, j: u32) -> usize
     before + shapes[m as usize].counters() as usize * k as usize + j as usize
 }
 
-/// How many counters all maps have.
+/// Returns the number of counters that all maps have.
 pub fn total(shapes: &[MapShape]) -> usize
     requires { length shapes.now ≤ most_maps }
     ensures sum { result ≡ all shapes.now }

@@ -3,7 +3,7 @@ use crate::view::View;
 use atomic_table::TableRule;
 use bpf_note::MapShape;
 
-/// What the table is given when it is made.
+/// The capacities of a table that is made.
 #[derive(Drop)]
 pub struct Plan {
     pub shapes: Vec<MapShape>,

@@ -6,8 +6,8 @@ use Rattle.bpf_note.specs.declared.op.Op.{Op}
 use Rattle.bpf_note.specs.declared.op.Op.TheVariants.{Load, Add}
 
 -- who did it (the number of a seat or of a queue), and what was done
-abbrev pub Entry : Type 0
-Entry = ℕ × Op
+abbrev pub Made : Type 0
+Made = ℕ × Op
 
 -- the number that the operation found in the counter
 abbrev pub found : Op → ℕ
@@ -32,14 +32,14 @@ added m k j (Load m' k' j' v) = 0
 added m k j (Add m' k' j' delta old) = if (m == m') && ((k == k') && (j == j')) then delta else 0
 
 -- what a history leaves in that counter: the sum of what was added, modulo 2^64
-abbrev pub left_in : ℕ → ℕ → ℕ → List Entry → ℕ
-left_in m k j history = sum_by (λ (e : Entry). added m k j e.1) history % 2 ^ 64
+abbrev pub left_in : ℕ → ℕ → ℕ → List Made → ℕ
+left_in m k j history = sum_by (λ (e : Made). added m k j e.1) history % 2 ^ 64
 
 -- each operation found what those before it leave
-abbrev pub IsLegal : List Entry → Type 0
-IsLegal history = (i : ℕ) (e : Entry) → slice_get history i ≡ Some e →
+abbrev pub IsLegal : List Made → Type 0
+IsLegal history = (i : ℕ) (e : Made) → slice_get history i ≡ Some e →
     found e.1 ≡ left_in (map_of e.1) (value_of e.1) (counter_of e.1) (take i history)
 
 -- the operations of one number, in their order
-abbrev pub share : ℕ → List Entry → List Op
-share number history = map (λ (e : Entry). e.1) (filter (λ (e : Entry). number == e.0) history)
+abbrev pub share : ℕ → List Made → List Op
+share number history = map (λ (e : Made). e.1) (filter (λ (e : Made). number == e.0) history)

@@ -62,7 +62,7 @@ pub(crate) fn set_bound(bounds: &mut Vec<Bound>, new: Bound) -> Result<(), Alloc
     Ok(())
 }
 
-/// Whether the bounds say of an id what this one does.
+/// Returns whether the bounds say of an id what this one does.
 pub(crate) fn stands(bounds: &[Bound], bound: Bound) -> bool
     requires { IsNormal bounds.now }
     ensures { IsTrue result → IsSet bounds.now bound bounds.now }
@@ -83,7 +83,7 @@ pub(crate) fn with_room(alloc: Global, bounds: &[Bound]) -> Result<Vec<Bound>, A
     Ok(copy)
 }
 
-/// How many bounds are of lesser ids.
+/// Returns the number of bounds that are of lesser ids.
 fn place(bounds: &[Bound], id: u16) -> usize
     requires { IsNormal bounds.now }
     ensures value { result ≡ place_of bounds.now id }
@@ -102,7 +102,7 @@ fn place(bounds: &[Bound], id: u16) -> usize
     low
 }
 
-/// Whether the bound at a place is of the id.
+/// Returns whether the bound at a place is of the id.
 fn is_at(bounds: &[Bound], at: usize, id: u16) -> bool
     ensures { result ≡ has_id (slice_get bounds.now at) id }
 {
@@ -112,21 +112,21 @@ fn is_at(bounds: &[Bound], at: usize, id: u16) -> bool
     }
 }
 
-/// Whether a bound says anything.
+/// Returns whether a bound says anything.
 fn says(bound: Bound) -> bool
     ensures { result ≡ says bound }
 {
     bound.top != 0 || bound.safe.is_some()
 }
 
-/// Whether the bounds are equal.
+/// Returns whether the bounds are equal.
 pub(crate) fn are_same(a: &[Bound], b: &[Bound]) -> bool
     ensures { IsTrue result ↔ (a.now ≡ b.now) }
 {
     a == b
 }
 
-/// What is known of each id if either list may be true; `None` if that is the first list.
+/// Returns what is known of each id if either list may be true; `None` if that is the first list.
 pub(crate) fn join_bounds(
     alloc: Global,
     a: &[Bound],
@@ -229,7 +229,7 @@ fn push_joined(joined: &mut Vec<Bound>, a: &[Bound], b: &[Bound]) -> Result<(), 
     Ok(())
 }
 
-/// Whether the join of the two lists is the first.
+/// Returns whether the join of the two lists is the first.
 pub(crate) fn covers_bounds(a: &[Bound], b: &[Bound]) -> bool
     requires a { IsNormal a.now }
     requires b { IsNormal b.now }

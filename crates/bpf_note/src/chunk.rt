@@ -11,7 +11,7 @@ use std::alloc::{AllocError, Global};
 use std::marker::Model;
 use std::rc::Rc;
 
-/// What is known of some ids. A copy has the same list until one of the two is changed, and then lists of their own.
+/// All that is known of some ids. A copy has the same list until one of the two is changed, and then lists of their own.
 #[derive(Drop)]
 pub(crate) struct Chunk {
     list: Option<Rc<Vec<Bound>>>,
@@ -78,7 +78,7 @@ impl Chunk {
         self.fingerprint
     }
 
-    /// Whether the bounds are equal.
+    /// Returns whether the bounds are equal.
     pub(crate) fn same_as(&self, other: &Chunk) -> bool
         ensures { IsTrue result ↔ (self.now ≡ other.now) }
     {
@@ -133,7 +133,7 @@ impl Chunk {
         }
     }
 
-    /// Whether the join of the two is the first.
+    /// Returns whether the join of the two is the first.
     pub(crate) fn covers(&self, other: &Chunk) -> bool
         ensures { IsTrue result ↔ AreJoined self.now other.now self.now }
     {

@@ -13,7 +13,7 @@ use std::rc::Rc;
 /// The ids of a chunk.
 const CHUNK_IDS: u16 = 32;
 
-/// What is known of ids below 4,096. A copy shares the chunks until one of the two is changed.
+/// All that is known of ids below 4,096. A copy shares the chunks until one of the two is changed.
 #[derive(Drop)]
 pub(crate) struct Chunks {
     list: Option<Rc<Vec<Chunk>>>,
@@ -65,21 +65,21 @@ impl Chunks {
         chunk_at(self.as_slice(), chunk_number(id))
     }
 
-    /// Whether the two say the same of each id.
+    /// Returns whether the two say the same of each id.
     pub(crate) fn same_as(&self, other: &Chunks) -> bool
         ensures { IsTrue result ↔ SameChunks self.now other.now }
     {
         are_same_chunks(self.as_slice(), other.as_slice())
     }
 
-    /// Whether the chunks that both have are of the same fingerprints.
+    /// Returns whether the chunks that both have are of the same fingerprints.
     pub(crate) fn look_alike(&self, other: &Chunks) -> bool
         ensures { IsTrue result ↔ AlikeChunks self.now other.now }
     {
         are_alike(self.as_slice(), other.as_slice())
     }
 
-    /// Whether the join of each chunk with the other's is the first.
+    /// Returns whether the join of each chunk with the other's is the first.
     pub(crate) fn covers(&self, other: &Chunks) -> bool
         ensures { IsTrue result ↔ ((k : ℕ) → AreJoined (slice_index_or self.now k []) (slice_index_or other.now k [])
             (slice_index_or self.now k [])) }
@@ -199,7 +199,7 @@ fn join_chunk(alloc: Global, a: &[Chunk], b: &[Chunk], number: usize) -> Result<
     own.joined(alloc, b.get(number).unwrap_or(&none))
 }
 
-/// Whether the join of each chunk with the other's is the first.
+/// Returns whether the join of each chunk with the other's is the first.
 fn covers_chunks(a: &[Chunk], b: &[Chunk]) -> bool
     ensures { IsTrue result ↔ ((k : ℕ) → AreJoined (slice_index_or a.now k []) (slice_index_or b.now k []) (slice_index_or a.now k [])) }
 {
@@ -219,7 +219,7 @@ fn covers_chunk(a: &[Chunk], b: &[Chunk], number: usize) -> bool
     own.covers(b.get(number).unwrap_or(&none))
 }
 
-/// Whether the chunks are equal. Those that differ mostly do so in what was made last, so the last are compared first.
+/// Returns whether the chunks are equal. Those that differ mostly do so in what was made last, so the last are compared first.
 fn are_same_chunks(a: &[Chunk], b: &[Chunk]) -> bool
     ensures { IsTrue result ↔ SameChunks a.now b.now }
 {
@@ -235,7 +235,7 @@ fn are_same_chunks(a: &[Chunk], b: &[Chunk]) -> bool
     true
 }
 
-/// Whether the chunks that both have are of the same fingerprints.
+/// Returns whether the chunks that both have are of the same fingerprints.
 fn are_alike(a: &[Chunk], b: &[Chunk]) -> bool
     ensures { IsTrue result ↔ AlikeChunks a.now b.now }
 {

@@ -9,7 +9,7 @@ use crate::shape::MapShape;
 
 /// The address of the first constant of map 0.
 pub const CONSTANTS_START: u64 = 0x3800_0000;
-/// How far the constants of a map lie from those of the next one.
+/// The distance between the constants of a map and those of the next one.
 pub const CONSTANTS_STRIDE: u64 = 0x1_0000;
 /// The first address past the constants of all maps that there may be.
 const CONSTANTS_END: u64 = 0x4000_0000;

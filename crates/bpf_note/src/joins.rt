@@ -12,7 +12,7 @@ use crate::slots::{is_same_value, set_bytes};
 use crate::val::Val;
 use std::alloc::{AllocError, Global};
 
-/// What is known if either of two notes may describe the state.
+/// Returns what is known if either of two notes may describe the state.
 pub fn join(alloc: Global, a: &Note, b: &Note) -> Result<Note, AllocError>
     ensures joined { IfOk result (λ n. facts n ≡ joined (facts a.now) (facts b.now)) }
     ensures describes { IfOk result (λ n. (s : State) → Describes (facts a.now) s ⊎ Describes (facts b.now) s → Describes (facts n) s) }
@@ -36,7 +36,7 @@ pub fn join_in_place(a: &mut Note, b: &Note) -> Result<(), AllocError>
     Ok(())
 }
 
-/// Whether the join of the two is the first.
+/// Returns whether the join of the two is the first.
 pub fn covers(a: &Note, b: &Note) -> bool
     ensures exact { IsTrue result ↔ (joined (facts a.now) (facts b.now) ≡ facts a.now) }
     ensures describes { IsTrue result → (s : State) → Describes (facts b.now) s → Describes (facts a.now) s }
@@ -66,7 +66,7 @@ fn join_value(a: Val, b: Val) -> Val
     }
 }
 
-/// Whether the two are pointers, and equal.
+/// Returns whether the two are pointers, and equal.
 fn is_same_pointer(a: Val, b: Val) -> bool
     ensures { result ≡ is_same_pointer a b }
 {
@@ -146,7 +146,7 @@ fn join_stacks(a: &mut [Slot; 64], b: &[Slot; 64], floor: usize)
     }
 }
 
-/// Whether each register of the first is the join of the two.
+/// Returns whether each register of the first is the join of the two.
 fn covers_registers(a: &[Val; 11], b: &[Val; 11]) -> bool
     ensures { IsTrue result ↔ ((k : ℕ) → joined_value (slice_index_or a.now k Val.Unset) (slice_index_or b.now k Val.Unset)
         ≡ slice_index_or a.now k Val.Unset) }
@@ -159,14 +159,14 @@ fn covers_registers(a: &[Val; 11], b: &[Val; 11]) -> bool
     true
 }
 
-/// Whether the first is the join of the two.
+/// Returns whether the first is the join of the two.
 fn covers_value(a: Val, b: Val) -> bool
     ensures { IsTrue result ↔ (joined_value a b ≡ a) }
 {
     join_value(a, b) == a
 }
 
-/// Whether each slot of the first is the join of the two. No byte of the slots below `floor` is set.
+/// Returns whether each slot of the first is the join of the two. No byte of the slots below `floor` is set.
 fn covers_stack(a: &[Slot; 64], b: &[Slot; 64], floor: usize) -> bool
     requires a { IsBlankBelow floor a.now }
     requires b { IsBlankBelow floor b.now }
@@ -180,7 +180,7 @@ fn covers_stack(a: &[Slot; 64], b: &[Slot; 64], floor: usize) -> bool
     true
 }
 
-/// Whether the first is the join of the two.
+/// Returns whether the first is the join of the two.
 fn covers_slot(a: Slot, b: Slot) -> bool
     ensures { IsTrue result ↔ IsCovered a b }
 {
@@ -191,7 +191,7 @@ fn covers_slot(a: Slot, b: Slot) -> bool
     }
 }
 
-/// Whether the bytes that are set on both sides are those of the first.
+/// Returns whether the bytes that are set on both sides are those of the first.
 fn covers_bytes(a: &[bool; 8], b: &[bool; 8]) -> bool
     ensures { IsTrue result ↔ ((k : ℕ) → k < 8 → (slice_index_or a.now k false && slice_index_or b.now k false)
         ≡ slice_index_or a.now k false) }

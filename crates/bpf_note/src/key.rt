@@ -2,16 +2,16 @@
 ghost use Rattle.std.specs.Prelude.{◌≡◌, ◌≤◌, ◌+◌, length, ◌↔◌, IsTrue};
 ghost use Rattle.bpf_note.specs.Keys.{size as size_of, width as width_of, data_of, bits_of, key_size, constant_bytes, IsKind, IsKey};
 
-/// What the keys of a map with a list are, each with its number of bytes of data, from 1 to 64.
+/// The kind of the keys of a map with a list, each with its number of bytes of data, from 1 to 64.
 #[derive(Clone, Copy, Debug, PartialEq, Eq)]
-pub enum Kind {
+pub enum KeyKind {
     /// All bytes have to be the same, as in BPF_MAP_TYPE_HASH.
     Exact(u8),
     /// A length in bits in four bytes, little-endian, then the data, as in BPF_MAP_TYPE_LPM_TRIE.
     Prefix(u8),
 }
 
-impl Kind {
+impl KeyKind {
     /// The most bytes of data that a key has.
     pub const MOST_BYTES: u8 = 64;
 
@@ -21,8 +21,8 @@ impl Kind {
         ensures few { result ≤ 4 + 255 }
     {
         match self {
-            Kind::Exact(bytes) => *bytes as usize,
-            Kind::Prefix(bytes) => 4 + *bytes as usize,
+            KeyKind::Exact(bytes) => *bytes as usize,
+            KeyKind::Prefix(bytes) => 4 + *bytes as usize,
         }
     }
 
@@ -31,16 +31,16 @@ impl Kind {
         ensures { result ≡ width_of self.now }
     {
         match self {
-            Kind::Exact(bytes) | Kind::Prefix(bytes) => *bytes as usize,
+            KeyKind::Exact(bytes) | KeyKind::Prefix(bytes) => *bytes as usize,
         }
     }
 
-    /// Whether there are 1 to 64 bytes of data.
+    /// Returns whether there are 1 to 64 bytes of data.
     pub fn is_supported(&self) -> bool
         ensures { IsTrue result ↔ IsKind self.now }
     {
         let width = self.width();
-        1 <= width && width <= Kind::MOST_BYTES as usize
+        1 <= width && width <= KeyKind::MOST_BYTES as usize
     }
 
     /// The data of a key.
@@ -50,8 +50,8 @@ impl Kind {
         ensures len { length result.now ≡ width_of self.now }
     {
         match self {
-            Kind::Exact(_) => key,
-            Kind::Prefix(_) => &key[4..],
+            KeyKind::Exact(_) => key,
+            KeyKind::Prefix(_) => &key[4..],
         }
     }
 
@@ -61,8 +61,8 @@ impl Kind {
         ensures { result ≡ bits_of self.now key.now }
     {
         match self {
-            Kind::Exact(bytes) => 8 * *bytes as u32,
-            Kind::Prefix(_) => u32::from_le_bytes([key[0], key[1], key[2], key[3]]),
+            KeyKind::Exact(bytes) => 8 * *bytes as u32,
+            KeyKind::Prefix(_) => u32::from_le_bytes([key[0], key[1], key[2], key[3]]),
         }
     }
 }
@@ -73,7 +73,7 @@ pub enum MapKey {
     /// By their numbers, of four bytes, as in BPF_MAP_TYPE_ARRAY.
     Index,
     /// By the keys of a list that is given beside the program: value `k` is that of the list's row `k`.
-    Listed(Kind),
+    Listed(KeyKind),
     /// By nothing: the map is so many bytes of constants, which are given beside the program. A lookup finds nothing.
     Constants(u32),
 }
@@ -103,7 +103,7 @@ impl MapKey {
         }
     }
 
-    /// Whether the keys of a list have 1 to 64 bytes of data, and constants at most 65,536 bytes.
+    /// Returns whether the keys of a list have 1 to 64 bytes of data, and constants at most 65,536 bytes.
     pub fn is_supported(&self) -> bool
         ensures { IsTrue result ↔ IsKey self.now }
     {

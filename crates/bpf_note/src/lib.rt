@@ -34,7 +34,7 @@ pub use constants::{
     CONSTANTS_START, CONSTANTS_STRIDE, constants_are_found, constants_left, constants_lie_apart,
 };
 pub use joins::{covers, join, join_in_place};
-pub use key::{Kind, MapKey};
+pub use key::{KeyKind, MapKey};
 pub use laws::{
     joins_describe_what_either_does, joins_take_either_order, joins_with_itself_change_nothing,
     notes_that_say_the_same_are_equal, the_entry_describes_every_start,

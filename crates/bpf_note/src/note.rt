@@ -15,9 +15,9 @@ use crate::val::Val;
 use std::alloc::{AllocError, Global};
 use std::marker::Model;
 
-/// What is known of a state before an instruction: a value for each register, which bytes of the stack are set and
-/// which slots of eight bytes keep a value, and each id's greatest base in the packet and its safe bound. Two notes are
-/// equal if they say the same.
+/// All that is known of a state before an instruction: a value for each register, which bytes of the stack are set and which slots
+/// of eight bytes keep a value, and each id's greatest base in the packet and its safe bound. Two notes are equal if they say the
+/// same.
 #[derive(Drop)]
 pub struct Note {
     pub(crate) regs: [Val; 11],
@@ -38,7 +38,7 @@ impl Model for Note {
 }
 
 impl Note {
-    /// What a register holds; nothing past the last one.
+    /// Returns what a register holds; nothing past the last one.
     #[tactic(auto, unfolding(crate::specs::Parts::facts))]
     pub fn register(&self, number: u8) -> Val
         ensures value { result ≡ (facts self.now).reg number }
@@ -70,7 +70,7 @@ impl Note {
         }
     }
 
-    /// Whether a stack byte is set.
+    /// Returns whether a stack byte is set.
     #[tactic(auto, unfolding(crate::specs::Parts::facts))]
     pub fn is_set(&self, byte: u16) -> bool
         ensures { result ≡ (facts self.now).set byte }
@@ -110,7 +110,7 @@ impl Note {
         self.bounds.top(id)
     }
 
-    /// How many bytes from an id's base on lie in the packet, if that is known.
+    /// Returns the number of bytes from an id's base on that lie in the packet, if that is known.
     #[tactic(auto, unfolding(crate::specs::Parts::facts))]
     pub fn safe(&self, id: u16) -> Option<u32>
         ensures { result ≡ (facts self.now).safe id }
@@ -161,7 +161,7 @@ impl Note {
         self.slots = replaced_slots(&self.slots, self.floor, change);
     }
 
-    /// What is known before the first instruction. It takes no memory.
+    /// Returns what is known before the first instruction. It takes no memory.
     pub fn entry(alloc: Global) -> Note
         ensures { facts result ≡ entry }
     {
@@ -206,7 +206,7 @@ impl Note {
         Ok(())
     }
 
-    /// Whether the two notes are equal: they say the same.
+    /// Returns whether the two notes are equal: they say the same.
     pub fn same_as(&self, other: &Note) -> bool
         ensures { IsTrue result ↔ (self.now ≡ other.now) }
     {

@@ -2,7 +2,7 @@
 
 use crate::val::Val;
 
-/// What becomes of the values that carry an id.
+/// The fate of the values that carry an id.
 #[derive(Clone, Copy, Debug, PartialEq, Eq, Drop)]
 pub(crate) enum Replacement {
     /// A pointer into the packet and a lookup's result that carry the id become any number.

@@ -69,7 +69,7 @@ impl MapShape {
         }
     }
 
-    /// How many values the map has.
+    /// Returns the number of values that the map has.
     pub fn entries(&self) -> u32
         ensures value { result ≡ self.now.entries }
         ensures shape { IsShape self.now }
@@ -77,7 +77,7 @@ impl MapShape {
         self.entries
     }
 
-    /// How many counters each value has.
+    /// Returns the number of counters that each value has.
     pub fn counters(&self) -> u32
         ensures value { result ≡ self.now.counters }
         ensures shape { IsShape self.now }
@@ -103,7 +103,7 @@ impl MapShape {
         }
     }
 
-    /// Whether a load may take a part of a counter.
+    /// Returns whether a load may take a part of a counter.
     pub fn has_parts(&self) -> bool
         ensures { result ≡ self.now.parts }
     {

@@ -13,7 +13,7 @@ use std::marker::Model;
 /// The first id that isn't in the chunks: a slot's number is less.
 const HIGH: u16 = 4096;
 
-/// What is known of ids. A copy shares each part until one of the two changes it: a change copies one chunk, and a list of
+/// All that is known of ids. A copy shares each part until one of the two changes it: a change copies one chunk, and a list of
 /// references to the others.
 #[derive(Drop)]
 pub(crate) struct SharedBounds {
@@ -86,28 +86,28 @@ impl SharedBounds {
         safe_of(self.near(id), id)
     }
 
-    /// Whether the bounds may be equal: by their fingerprints alone, which tell nearly all apart that differ.
+    /// Returns whether the bounds may be equal: by their fingerprints alone, which tell nearly all apart that differ.
     pub(crate) fn look_alike(&self, other: &SharedBounds) -> bool
         ensures { self.now ≡ other.now → IsTrue result }
     {
         self.high.fingerprint() == other.high.fingerprint() && self.low.look_alike(&other.low)
     }
 
-    /// Whether the bounds are equal. What is known of the packet's start differs the most often, and is compared first.
+    /// Returns whether the bounds are equal. What is known of the packet's start differs the most often, and is compared first.
     pub(crate) fn same_as(&self, other: &SharedBounds) -> bool
         ensures { IsTrue result ↔ (self.now ≡ other.now) }
     {
         self.high.same_as(&other.high) && self.low.same_as(&other.low)
     }
 
-    /// Whether the join of the two is the first.
+    /// Returns whether the join of the two is the first.
     pub(crate) fn covers(&self, other: &SharedBounds) -> bool
         ensures { IsTrue result ↔ AreJoined self.now other.now self.now }
     {
         self.high.covers(&other.high) && self.low.covers(&other.low)
     }
 
-    /// What is known of each id if either may be true.
+    /// Returns what is known of each id if either may be true.
     pub(crate) fn joined(&self, other: &SharedBounds) -> Result<SharedBounds, AllocError>
         ensures { IfOk result (λ s. AreJoined self.now other.now s) }
     {

@@ -2,7 +2,7 @@
 
 use crate::val::Val;
 
-/// What is known of a stack slot: the value that it keeps whole, or which of its bytes are set.
+/// All that is known of a stack slot: the value that it keeps whole, or which of its bytes are set.
 #[derive(Clone, Copy, Debug, PartialEq, Eq, Drop)]
 pub(crate) enum Slot {
     Kept(Val),

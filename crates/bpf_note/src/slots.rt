@@ -64,7 +64,7 @@ pub(crate) fn copy_slots(to: &mut [Slot; 64], from: &[Slot; 64], floor: usize)
     }
 }
 
-/// Whether two values are equal. Most are numbers, which are compared first.
+/// Returns whether two values are equal. Most are numbers, which are compared first.
 #[tactic(auto, using(crate::proofs::EqualLemmas::vals_equal))]
 pub(crate) fn is_same_value(a: &Val, b: &Val) -> bool
     ensures { IsTrue result ↔ (a.now ≡ b.now) }
@@ -88,7 +88,7 @@ fn is_same(a: &Slot, b: &Slot) -> bool
     *a == *b
 }
 
-/// Whether the slots are equal. No byte of the slots below `floor` is set.
+/// Returns whether the slots are equal. No byte of the slots below `floor` is set.
 pub(crate) fn are_equal(a: &[Slot; 64], b: &[Slot; 64], floor: usize) -> bool
     requires a { IsBlankBelow floor a.now }
     requires b { IsBlankBelow floor b.now }

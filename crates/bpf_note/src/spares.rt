@@ -4,7 +4,7 @@ ghost use Rattle.std.specs.Prelude.{◌≡◌, IfOk};
 use crate::note::Note;
 use std::alloc::{AllocError, Global};
 
-/// How many are kept: as many as a slot has notes, which are done with one after another.
+/// The number that is kept: as many as a slot has notes, which are done with one after another.
 const MOST_SPARES: usize = 8;
 
 /// Notes that are done with. A copy takes over the memory of one of them: then it takes no memory for a note, and writes no

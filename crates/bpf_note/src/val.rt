@@ -3,8 +3,8 @@
 /// The id of the packet's start.
 pub const PACKET_ID: u16 = 0xffff;
 
-/// What is known of a number in a register, or in eight bytes of the stack. An id is the slot of the instruction that made
-/// it; [`PACKET_ID`](crate::PACKET_ID) is the packet's start.
+/// All that is known of a number in a register, or in eight bytes of the stack. An id is the slot of the instruction that made it;
+/// [`PACKET_ID`](crate::PACKET_ID) is the packet's start.
 #[derive(Clone, Copy, Debug, PartialEq, Eq, Drop)]
 pub enum Val {
     /// Anything, or nothing.

@@ -8,13 +8,13 @@ pub fn bounds(note: &Note, id: u16) -> (u32, Option<u32>) {
     (note.top(id), note.safe(id))
 }
 
-/// Whether these bytes of the stack are set.
+/// Returns whether these bytes of the stack are set.
 pub fn set_bytes(note: &Note, bytes: [u16; 3]) -> [bool; 3] {
     let [first, second, third] = bytes;
     [note.is_set(first), note.is_set(second), note.is_set(third)]
 }
 
-/// What two registers hold, and what a stack slot keeps.
+/// Returns what two registers hold, and what a stack slot keeps.
 pub fn values(note: &Note, [first, second]: [u8; 2], slot: u8) -> ([Val; 2], Option<Val>) {
     let registers = [note.register(first), note.register(second)];
     (registers, note.kept(slot))

@@ -29,7 +29,7 @@ pub(crate) fn long(bytes: &[u8], at: usize) -> u64
     u64::from(word(bytes, at)) + 4_294_967_296 * u64::from(word(bytes, at + 4))
 }
 
-/// Whether a table has this name at a place.
+/// Returns whether a table has this name at a place.
 pub(crate) fn is_text(table: &[u8], at: usize, name: &[u8]) -> bool
     ensures { IsTrue result ↔ IsText table.now at name.now }
 {
@@ -40,7 +40,7 @@ pub(crate) fn is_text(table: &[u8], at: usize, name: &[u8]) -> bool
     table[end] == 0 && is_same(&table[at..end], name) && is_plain(name)
 }
 
-/// Whether a table has these bytes at a place, whatever follows them.
+/// Returns whether a table has these bytes at a place, whatever follows them.
 pub(crate) fn begins(table: &[u8], at: usize, text: &[u8]) -> bool
     ensures { IsTrue result ↔ Begins table.now at text.now }
 {
@@ -49,8 +49,9 @@ pub(crate) fn begins(table: &[u8], at: usize, text: &[u8]) -> bool
         && is_same(&table[at..at + text.len()], text)
 }
 
-/// Whether two texts of one length are the same, which is tried from their last bytes on. A name has no 0, so one that ends in a table
-/// before a 0 is compared no further than to the 0 before that: all places of the table together take no longer than the table.
+/// Returns whether two texts of one length are the same, which is tried from their last bytes on. A name has no 0, so one that ends
+/// in a table before a 0 is compared no further than to the 0 before that: all places of the table together take no longer than the
+/// table.
 fn is_same(left: &[u8], right: &[u8]) -> bool
     requires { length left.now ≡ length right.now }
     ensures { IsTrue result ↔ (left.now ≡ right.now) }
@@ -65,7 +66,7 @@ fn is_same(left: &[u8], right: &[u8]) -> bool
     true
 }
 
-/// Whether no byte is 0.
+/// Returns whether no byte is 0.
 fn is_plain(name: &[u8]) -> bool
     ensures { IsTrue result ↔ All (λ byte. byte ≢ 0) name.now }
 {

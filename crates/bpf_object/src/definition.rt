@@ -7,8 +7,8 @@ use crate::bytes;
 use crate::fault::{FieldFault, MapFault};
 use crate::types::{self, ARRAY, POINTER, TypeRow, Types};
 
-/// What a map is: its type, as Linux numbers them, how many entries it has, and the sizes of keys and values. A number that isn't
-/// said is 0.
+/// The definition of a map: its type, as Linux numbers them, how many entries it has, and the sizes of keys and values. A number
+/// that isn't said is 0.
 #[derive(Clone, Copy, Debug, PartialEq, Eq, Drop)]
 pub struct MapDefinition {
     pub kind: u32,
@@ -34,7 +34,7 @@ pub enum MapField {
     Value,
 }
 
-/// How many names, qualifiers and arrays may stand around a type.
+/// The most names, qualifiers and arrays that may stand around a type.
 pub(crate) const MOST_STEPS: u32 = 32;
 
 /// The size of a pointer.
@@ -83,7 +83,7 @@ impl<'a> Types<'a> {
         bytes::word(self.bytes, array.at + 20)
     }
 
-    /// How many bytes a type has, with fewer names, qualifiers and arrays around it than the limit.
+    /// Returns the number of bytes that a type has, with fewer names, qualifiers and arrays around it than the limit.
     #[tactic(auto, using(crate::proofs::TypeLemmas::size_none, crate::proofs::TypeLemmas::size_missing, crate::proofs::TypeLemmas::array_inside))]
     fn size(&self, limit: u32, number: u32) -> Option<u32>
         ensures { result ≡ size_of self.now limit number }
@@ -109,7 +109,7 @@ impl<'a> Types<'a> {
         None
     }
 
-    /// Whether a struct's member has this name.
+    /// Returns whether a struct's member has this name.
     fn is_member(&self, row: TypeRow, name: &[u8], number: u16) -> bool
         requires inside { row.at + 12 + 12 * row.count ≤ length self.now.bytes }
         requires below { number < row.count }
@@ -183,7 +183,7 @@ impl<'a> Types<'a> {
         }
     }
 
-    /// What the type of a field means.
+    /// Returns what the type of a field means.
     fn meaning(&self, field: MapField, number: u32) -> Option<u32>
         ensures { result ≡ meaning self.now field number }
     {
@@ -232,7 +232,7 @@ impl<'a> Types<'a> {
         }
     }
 
-    /// What a struct defines.
+    /// Returns what a struct defines.
     pub(crate) fn definition(&self, row: TypeRow) -> Result<MapDefinition, MapFault>
         requires inside { row.at + 12 + 12 * row.count ≤ length self.now.bytes }
         ensures ok { IfOk result (IsDefinition self.now row) }

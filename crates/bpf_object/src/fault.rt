@@ -2,7 +2,7 @@
 use crate::definition::MapField;
 use std::alloc::AllocError;
 
-/// Why bytes are no object for BPF. The causes are tried in this order, and sections from the first on.
+/// The reason why bytes are no object for BPF. The causes are tried in this order, and sections from the first on.
 #[derive(Clone, Copy, Debug, PartialEq, Eq, Drop)]
 pub enum ObjectFault {
     /// The bytes don't begin with an ELF header.
@@ -25,7 +25,7 @@ pub enum ObjectFault {
     Symbols,
 }
 
-/// Why an object has no program of a name. The causes are tried in this order.
+/// The reason why an object has no program of a name. The causes are tried in this order.
 #[derive(Clone, Copy, Debug, PartialEq, Eq, Drop)]
 pub enum ProgramFault {
     /// No symbol is a function of this name.
@@ -46,7 +46,7 @@ pub enum ProgramFault {
     Memory,
 }
 
-/// Why a relocation names neither a map nor a constant. The causes are tried in this order.
+/// The reason why a relocation names neither a map nor a constant. The causes are tried in this order.
 #[derive(Clone, Copy, Debug, PartialEq, Eq, Drop)]
 pub enum RelocationFault {
     /// Its type isn't R_BPF_64_64: it is a call (R_BPF_64_32), say.
@@ -63,7 +63,7 @@ pub enum RelocationFault {
     Other,
 }
 
-/// Why a section has no constants that can be read. The causes are tried in this order.
+/// The reason why a section has no constants that can be read. The causes are tried in this order.
 #[derive(Clone, Copy, Debug, PartialEq, Eq, Drop)]
 pub enum ConstantsFault {
     /// It isn't one of constants.
@@ -74,7 +74,7 @@ pub enum ConstantsFault {
     Addresses,
 }
 
-/// Why an object's types can't be read. The causes are tried in this order, and types from the first on.
+/// The reason why an object's types can't be read. The causes are tried in this order, and types from the first on.
 #[derive(Clone, Copy, Debug, PartialEq, Eq, Drop)]
 pub enum TypesFault {
     /// No section has the name `.BTF`.
@@ -89,7 +89,7 @@ pub enum TypesFault {
     Memory,
 }
 
-/// Why a symbol has no map's definition. The causes up to `NoStruct` are tried in this order.
+/// The reason why a symbol has no map's definition. The causes up to `NoStruct` are tried in this order.
 #[derive(Clone, Copy, Debug, PartialEq, Eq, Drop)]
 pub enum MapFault {
     /// The symbol isn't an object in the section `.maps`.
@@ -116,7 +116,7 @@ pub enum MapFault {
     Sizes(MapField),
 }
 
-/// Why a field of a map's struct has no number or size.
+/// The reason why a field of a map's struct has no number or size.
 #[derive(Clone, Copy, Debug, PartialEq, Eq, Drop)]
 pub enum FieldFault {
     /// Two members have this name.

@@ -10,7 +10,7 @@ use crate::{bytes, section};
 /// The size of the header.
 const HEADER_BYTES: usize = 64;
 
-/// What a file begins with.
+/// The first bytes of a file.
 const MAGIC: [u8; 4] = [0x7f, b'E', b'L', b'F'];
 
 /// Files of 64 bits, of little-endian byte order, of the one version.
@@ -27,14 +27,14 @@ const BPF: u16 = 247;
 
 const STRING_TABLE: u32 = 3;
 
-/// Whether there is a whole header that begins as one.
+/// Returns whether there is a whole header that begins as one.
 fn has_header(bytes: &[u8]) -> bool
     ensures { IsTrue result ↔ HasHeader bytes.now }
 {
     bytes.len() >= HEADER_BYTES && &bytes[..4] == &MAGIC[..]
 }
 
-/// Whether the file is one of 64 bits and little-endian byte order.
+/// Returns whether the file is one of 64 bits and little-endian byte order.
 fn has_format(bytes: &[u8]) -> bool
     requires { 64 ≤ length bytes.now }
     ensures { IsTrue result ↔ HasFormat bytes.now }
@@ -42,7 +42,7 @@ fn has_format(bytes: &[u8]) -> bool
     bytes[4] == CLASS_64 && bytes[5] == LITTLE_ENDIAN && bytes[6] == VERSION
 }
 
-/// Whether the file is relocatable and for BPF.
+/// Returns whether the file is relocatable and for BPF.
 fn is_for_bpf(bytes: &[u8]) -> bool
     requires { 64 ≤ length bytes.now }
     ensures { IsTrue result ↔ IsForBpf bytes.now }
@@ -50,7 +50,7 @@ fn is_for_bpf(bytes: &[u8]) -> bool
     bytes::half(bytes, 16) == RELOCATABLE && bytes::half(bytes, 18) == BPF
 }
 
-/// Whether the table of section headers lies in the file.
+/// Returns whether the table of section headers lies in the file.
 fn has_table(bytes: &[u8]) -> bool
     requires { 64 ≤ length bytes.now }
     ensures { IsTrue result ↔ HasTable bytes.now }
@@ -80,7 +80,7 @@ pub(crate) fn check(bytes: &[u8]) -> Result<(), ObjectFault>
     Ok(())
 }
 
-/// Whether a section is there and is a string table.
+/// Returns whether a section is there and is a string table.
 pub(crate) fn is_string_table(bytes: &[u8], number: u32) -> bool
     requires { IsElf bytes.now }
     ensures value { IsTrue result ↔ IsStringTable bytes.now number }

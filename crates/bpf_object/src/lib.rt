@@ -32,6 +32,6 @@ pub use fault::{
     ConstantsFault, FieldFault, MapFault, ObjectFault, ProgramFault, RelocationFault, TypesFault,
 };
 pub use object::Object;
-pub use program::Program;
+pub use program::ObjectProgram;
 pub use reference::{ConstantReference, MapReference};
 pub use types::Types;

@@ -29,7 +29,7 @@ const GLOBAL_BINDING: u8 = 1;
 const WEAK_BINDING: u8 = 2;
 
 impl<'a> Types<'a> {
-    /// Whether a type is the section of maps.
+    /// Returns whether a type is the section of maps.
     fn is_maps(&self, number: usize) -> bool
         ensures { IsTrue result ↔ IsMaps self.now number }
     {
@@ -93,7 +93,7 @@ impl<'a> Types<'a> {
         self.row(types::first_number(self.bytes, row, number) as usize)
     }
 
-    /// Whether a section's entry is a global variable of this name.
+    /// Returns whether a section's entry is a global variable of this name.
     #[tactic(auto, using(crate::proofs::TypeLemmas::variable_inside))]
     fn is_variable(&self, row: TypeRow, name: &[u8], number: u16) -> bool
         requires inside { row.at + 12 + 12 * row.count ≤ length self.now.bytes }
@@ -155,7 +155,7 @@ impl<'a> Types<'a> {
 }
 
 impl<'a> Object<'a> {
-    /// Whether a section is that of types.
+    /// Returns whether a section is that of types.
     fn is_type_section(&self, number: u16) -> bool
         requires { number < shnum self.now.bytes }
         ensures { IsTrue result ↔ IsTypeSection self.now number }
@@ -204,7 +204,7 @@ impl<'a> Object<'a> {
         Types::parse(alloc, self.contents(number))
     }
 
-    /// Whether a symbol is a global variable of the name that is sought.
+    /// Returns whether a symbol is a global variable of the name that is sought.
     fn is_variable_symbol(&self, sought: &mut Sought, number: usize) -> bool
         requires table { sought.old.table ≡ self.now.strings }
         requires below { number < symbol_count self.now }
@@ -235,7 +235,7 @@ impl<'a> Object<'a> {
         None
     }
 
-    /// Whether a symbol is the one global variable of this name.
+    /// Returns whether a symbol is the one global variable of this name.
     fn is_one_variable_symbol(&self, alloc: Global, name: &'a [u8], number: usize) -> bool
         requires { number < symbol_count self.now }
         ensures { IsTrue result ↔ IsOneVariableSymbol self.now name.now number }
@@ -289,7 +289,7 @@ impl<'a> Object<'a> {
         Ok(row)
     }
 
-    /// What the map of a symbol is, whose name was found, by the object's types.
+    /// Returns what the map of a symbol is, whose name was found, by the object's types.
     pub fn named_map(
         &self,
         types: &Types,
@@ -304,7 +304,7 @@ impl<'a> Object<'a> {
         types.definition(row)
     }
 
-    /// What the map of a symbol is, by the object's types.
+    /// Returns what the map of a symbol is, by the object's types.
     pub fn map(
         &self,
         alloc: Global,

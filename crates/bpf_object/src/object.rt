@@ -96,7 +96,7 @@ fn symbol_table(bytes: &[u8]) -> Result<u16, ObjectFault>
     }
 }
 
-/// Whether a section is whole symbols and has a string table.
+/// Returns whether a section is whole symbols and has a string table.
 fn has_symbols(bytes: &[u8], number: u16) -> bool
     requires elf { IsElf bytes.now }
     requires below { number < shnum bytes.now }

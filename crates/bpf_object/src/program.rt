@@ -16,7 +16,7 @@ use std::alloc::Global;
 
 /// A function's instructions, and the maps and constants that it refers to, by rising slots.
 #[derive(Drop)]
-pub struct Program<'a> {
+pub struct ObjectProgram<'a> {
     /// The bytes of its instructions: 8 bytes per slot.
     pub code: &'a [u8],
     /// The maps.
@@ -59,7 +59,7 @@ impl<'a> Object<'a> {
         }
     }
 
-    /// Whether a section is relocations of another.
+    /// Returns whether a section is relocations of another.
     fn applies_to(&self, target: u16, number: u16) -> bool
         requires { number < shnum self.now.bytes }
         ensures { IsTrue result ↔ AppliesTo self.now target number }
@@ -85,7 +85,7 @@ impl<'a> Object<'a> {
         None
     }
 
-    /// Whether a section is whole relocations without addends.
+    /// Returns whether a section is whole relocations without addends.
     fn is_table(&self, number: u16) -> bool
         requires { number < shnum self.now.bytes }
         ensures { IsTrue result ↔ IsTable self.now number }
@@ -123,7 +123,7 @@ impl<'a> Object<'a> {
         Ok(self.contents(first))
     }
 
-    /// Where the constant of a relocation lies in its section.
+    /// Returns where the constant of a relocation lies in its section.
     fn constant_place(&self, function: Symbol, code: &[u8], relocation: Relocation) -> u32
         requires within { function.value ≤ relocation.offset }
         requires code { code.now ≡ code_of self.now function }
@@ -136,7 +136,7 @@ impl<'a> Object<'a> {
         relocation.imm(function, code).wrapping_add(start)
     }
 
-    /// What the wide load of a constant's relocation refers to.
+    /// Returns what the wide load of a constant's relocation refers to.
     fn constant(
         &self,
         function: Symbol,
@@ -164,7 +164,7 @@ impl<'a> Object<'a> {
         }))
     }
 
-    /// What the wide load of a relocation refers to.
+    /// Returns what the wide load of a relocation refers to.
     fn target_of_load(
         &self,
         function: Symbol,
@@ -196,7 +196,7 @@ impl<'a> Object<'a> {
         Err(RelocationFault::Other)
     }
 
-    /// What a relocation refers to.
+    /// Returns what a relocation refers to.
     fn target(
         &self,
         function: Symbol,
@@ -218,7 +218,7 @@ impl<'a> Object<'a> {
         self.target_of_load(function, code, relocation)
     }
 
-    /// What a function refers to.
+    /// Returns what a function refers to.
     fn references(
         &self,
         alloc: Global,
@@ -250,7 +250,7 @@ impl<'a> Object<'a> {
     }
 
     /// The program that the function of this name is. Its memory is at most three times the relocations' of its section.
-    pub fn program(&self, alloc: Global, name: &[u8]) -> Result<Program<'a>, ProgramFault>
+    pub fn program(&self, alloc: Global, name: &[u8]) -> Result<ObjectProgram<'a>, ProgramFault>
         ensures ok { IfOk result (λ p. IsProgram self.now name.now p.code.now p.maps.items p.constants.items) }
         ensures maps { IfOk result (λ p. All (λ r. 8 * r.slot + 16 ≤ length p.code.now) p.maps.items) }
         ensures constants { IfOk result (λ p. All (λ r. 8 * r.slot + 16 ≤ length p.code.now) p.constants.items) }
@@ -265,7 +265,7 @@ impl<'a> Object<'a> {
         let rows = self.rows(function.section)?;
         check_order(rows)?;
         let references = self.references(alloc, function, code, rows)?;
-        Ok(Program {
+        Ok(ObjectProgram {
             code,
             maps: references.maps,
             constants: references.constants,

@@ -20,18 +20,18 @@ pub struct ConstantReference {
     pub slot: usize,
     /// The section of the constants.
     pub section: u16,
-    /// Where in it the address leads.
+    /// The place in it to which the address leads.
     pub place: u32,
 }
 
-/// What a wide load refers to.
+/// The target of a wide load.
 #[derive(Clone, Copy, Drop)]
 pub(crate) enum Target {
     Map(MapReference),
     Constant(ConstantReference),
 }
 
-/// What the wide loads of a function refer to, by rising slots.
+/// The targets of a function's wide loads, by rising slots.
 #[derive(Drop)]
 pub(crate) struct References {
     pub(crate) maps: Vec<MapReference>,

@@ -10,7 +10,7 @@ use crate::symbol::Symbol;
 /// A relocation without an addend.
 #[derive(Clone, Copy, Drop)]
 pub(crate) struct Relocation {
-    /// Where in the section it changes bytes.
+    /// The place in the section whose bytes it changes.
     pub(crate) offset: u64,
     /// Its type.
     pub(crate) kind: u32,
@@ -57,7 +57,7 @@ pub(crate) fn at(rows: &[u8], number: usize) -> Relocation
 }
 
 impl Relocation {
-    /// Whether it changes one of a function's bytes.
+    /// Returns whether it changes one of a function's bytes.
     pub(crate) fn is_within(&self, function: Symbol) -> bool
         requires { function.value + function.size < 2 ^ 64 }
         ensures { result ≡ is_within function self.now }
@@ -65,7 +65,7 @@ impl Relocation {
         function.value <= self.offset && self.offset < function.value + function.size
     }
 
-    /// Whether it changes a wide load of a number.
+    /// Returns whether it changes a wide load of a number.
     pub(crate) fn is_load(&self, function: Symbol, code: &[u8]) -> bool
         requires within { function.value ≤ self.now.offset }
         requires len { length code.now ≡ function.size }
@@ -79,7 +79,7 @@ impl Relocation {
             && code[start + 1] / 16 == 0
     }
 
-    /// Whether the number of its wide load is 0.
+    /// Returns whether the number of its wide load is 0.
     pub(crate) fn is_of_zero(&self, function: Symbol, code: &[u8]) -> bool
         requires within { function.value ≤ self.now.offset }
         requires len { length code.now ≡ function.size }

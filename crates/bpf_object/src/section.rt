@@ -8,11 +8,11 @@ use crate::bytes;
 /// A section's header, without what isn't used.
 #[derive(Clone, Copy, Drop)]
 pub(crate) struct Section {
-    /// Where its name is in the table of names.
+    /// The place of its name in the table of names.
     pub(crate) name: u32,
     /// Its type.
     pub(crate) kind: u32,
-    /// Where its bytes begin in the file.
+    /// The place at which its bytes begin in the file.
     pub(crate) offset: u64,
     /// Its length in bytes.
     pub(crate) size: u64,
@@ -70,7 +70,7 @@ pub(crate) fn at(bytes: &[u8], number: u16) -> Section
 }
 
 impl Section {
-    /// Whether its bytes lie in the file.
+    /// Returns whether its bytes lie in the file.
     pub(crate) fn is_inside(&self, bytes: &[u8]) -> bool
         ensures { IsTrue result ↔ IsInside bytes.now self.now }
     {

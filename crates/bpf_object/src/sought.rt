@@ -57,7 +57,7 @@ impl<'a> Sought<'a> {
         }
     }
 
-    /// Whether a place is known to be none of the name's.
+    /// Returns whether a place is known to be none of the name's.
     fn is_missed(&self, place: usize) -> bool
         ensures { IsTrue result → IsText self.now.table place self.now.name → ⊥ }
     {
@@ -74,7 +74,7 @@ impl<'a> Sought<'a> {
         }
     }
 
-    /// Whether the table has the name at a place.
+    /// Returns whether the table has the name at a place.
     pub(crate) fn is_at(&mut self, place: usize) -> bool
         ensures value { IsTrue result ↔ IsText self.old.table place self.old.name }
         ensures kept { self.new ≡ self.old }

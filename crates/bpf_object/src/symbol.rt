@@ -10,7 +10,7 @@ use crate::{bytes, section};
 /// A symbol, without what isn't used.
 #[derive(Clone, Copy, Drop)]
 pub(crate) struct Symbol {
-    /// Where its name is in the table of names.
+    /// The place of its name in the table of names.
     pub(crate) name: u32,
     /// Its binding.
     pub(crate) binding: u8,
@@ -18,7 +18,7 @@ pub(crate) struct Symbol {
     pub(crate) kind: u8,
     /// The section that it lies in.
     pub(crate) section: u16,
-    /// Where in the section it begins.
+    /// The place in the section at which it begins.
     pub(crate) value: u64,
     /// Its length in bytes.
     pub(crate) size: u64,
@@ -83,7 +83,7 @@ impl<'a> Object<'a> {
         read(self.symbols, SYMBOL_BYTES * number)
     }
 
-    /// Whether a symbol is a function of this name.
+    /// Returns whether a symbol is a function of this name.
     fn is_function(&self, name: &[u8], number: usize) -> bool
         requires { number < symbol_count self.now }
         ensures { IsTrue result ↔ IsFunction self.now name.now number }
@@ -108,7 +108,7 @@ impl<'a> Object<'a> {
         None
     }
 
-    /// Whether a section is that of maps.
+    /// Returns whether a section is that of maps.
     fn is_map_section(&self, number: u16) -> bool
         ensures { IsTrue result ↔ IsMapSection self.now number }
     {
@@ -120,7 +120,7 @@ impl<'a> Object<'a> {
             )
     }
 
-    /// Whether a symbol is a map.
+    /// Returns whether a symbol is a map.
     pub fn is_map(&self, number: usize) -> bool
         ensures { IsTrue result ↔ IsMap self.now number }
     {
@@ -131,7 +131,7 @@ impl<'a> Object<'a> {
         symbol.kind == OBJECT && self.is_map_section(symbol.section)
     }
 
-    /// Whether a section has this name, or one that begins so.
+    /// Returns whether a section has this name, or one that begins so.
     fn is_called(&self, number: u16, name: &[u8], beginning: &[u8]) -> bool
         ensures { IsTrue result ↔ IsCalled self.now number name.now beginning.now }
     {
@@ -142,7 +142,7 @@ impl<'a> Object<'a> {
         bytes::is_text(self.names, at, name) || bytes::begins(self.names, at, beginning)
     }
 
-    /// Whether a section has constants.
+    /// Returns whether a section has constants.
     pub(crate) fn is_of_constants(&self, number: u16) -> bool
         ensures { IsTrue result ↔ IsOfConstants self.now number }
     {
@@ -150,21 +150,21 @@ impl<'a> Object<'a> {
             && section::at(self.bytes, number).kind == PROGRAM_BITS
     }
 
-    /// Whether a section has globals.
+    /// Returns whether a section has globals.
     fn is_of_globals(&self, number: u16) -> bool
         ensures { IsTrue result ↔ IsOfGlobals self.now number }
     {
         self.is_called(number, DATA, MORE_DATA) || self.is_called(number, ZEROS, MORE_ZEROS)
     }
 
-    /// Whether a symbol lies among constants.
+    /// Returns whether a symbol lies among constants.
     pub(crate) fn is_constant(&self, number: usize) -> bool
         ensures { IsTrue result ↔ IsConstant self.now number }
     {
         number < self.symbol_count() && self.is_of_constants(self.symbol(number).section)
     }
 
-    /// Whether a symbol lies among globals.
+    /// Returns whether a symbol lies among globals.
     pub(crate) fn is_global(&self, number: usize) -> bool
         ensures { IsTrue result ↔ IsGlobal self.now number }
     {
@@ -187,7 +187,7 @@ impl<'a> Object<'a> {
         None
     }
 
-    /// Whether a symbol's bytes are whole slots of a section that holds code.
+    /// Returns whether a symbol's bytes are whole slots of a section that holds code.
     pub(crate) fn has_code(&self, symbol: Symbol) -> bool
         ensures { IsTrue result ↔ HasCode self.now symbol }
     {

@@ -13,9 +13,9 @@ use std::marker::Model;
 /// A type, without what isn't used.
 #[derive(Clone, Copy, Drop)]
 pub(crate) struct TypeRow {
-    /// Where it begins.
+    /// The place at which it begins.
     pub(crate) at: usize,
-    /// Where its name is in the table of names.
+    /// The place of its name in the table of names.
     pub(crate) name: u32,
     /// Its kind.
     pub(crate) kind: u8,
@@ -68,12 +68,12 @@ pub(crate) const ROW_BYTES: usize = 12;
 /// The size of a member.
 const MEMBER_BYTES: usize = 12;
 
-/// What a header begins with, and the one version.
+/// The first bytes of a header, and the one version.
 const MAGIC: u16 = 0xeb9f;
 
 const VERSION: u8 = 1;
 
-/// Where the types and the strings begin.
+/// Returns where the types and the strings begin.
 fn types_start(bytes: &[u8]) -> usize
     requires { 24 ≤ length bytes.now }
     ensures value { result ≡ types_start bytes.now }
@@ -90,7 +90,7 @@ fn strings_start(bytes: &[u8]) -> usize
     bytes::word(bytes, 4) as usize + bytes::word(bytes, 16) as usize
 }
 
-/// Whether a section begins with a header by which its parts lie in it.
+/// Returns whether a section begins with a header by which its parts lie in it.
 pub(crate) fn has_types(bytes: &[u8]) -> bool
     ensures { IsTrue result ↔ HasTypes bytes.now }
 {
@@ -132,7 +132,7 @@ fn read(bytes: &[u8], at: usize) -> TypeRow
     }
 }
 
-/// How many bytes follow what each type begins with: by the kind, and for each member.
+/// Returns the number of bytes that follow what each type begins with: by the kind, and for each member.
 fn fixed_bytes(kind: u8) -> usize
     ensures value { result ≡ fixed_bytes kind }
     ensures few { result ≤ 12 }
@@ -160,7 +160,7 @@ fn each_bytes(kind: u8) -> usize
 }
 
 impl TypeRow {
-    /// How many bytes it has in all.
+    /// Returns its number of bytes in all.
     #[tactic(auto, unfolding(crate::specs::Types::row_bytes))]
     fn bytes(&self) -> usize
         ensures value { result ≡ row_bytes self.now }
@@ -170,7 +170,7 @@ impl TypeRow {
         ROW_BYTES + fixed_bytes(self.kind) + each_bytes(self.kind) * self.count as usize
     }
 
-    /// Whether it says its size.
+    /// Returns whether it says its size.
     pub(crate) fn is_sized(&self) -> bool
         ensures { result ≡ is_sized self.now.kind }
     {
@@ -182,7 +182,7 @@ impl TypeRow {
             || self.kind == ENUM_64
     }
 
-    /// Whether it is a name or a qualifier of another type.
+    /// Returns whether it is a name or a qualifier of another type.
     pub(crate) fn is_alias(&self) -> bool
         ensures { result ≡ is_alias self.now.kind }
     {
@@ -238,7 +238,7 @@ pub(crate) fn second_number(bytes: &[u8], row: TypeRow, member: u16) -> u32
     )
 }
 
-/// Where each type begins.
+/// Returns where each type begins.
 #[tactic(auto, using(crate::proofs::TypeLemmas::none_first, crate::proofs::TypeLemmas::none_place, crate::proofs::TypeLemmas::first_more, crate::proofs::TypeLemmas::place_more, crate::proofs::TypeLemmas::length_more))]
 fn places(alloc: Global, bytes: &[u8]) -> Result<Vec<usize>, TypesFault>
     ensures ok { IfOk result (λ v. AreTypes bytes.now v.items) }

@@ -97,7 +97,7 @@ context_above low n s k z o d v short = λ a j e is.
 not_below : (start n x : ℕ) → x ≡ values_start + start + 8 * (n + 0) → values_start ≤ x
 not_below start n x e = omega (arith, e)
 
-value_bounds : (shapes : List Shape) (m x : ℕ) (o : Option Shape) → slice_get shapes m ≡ o → AreShapes shapes → length shapes ≤ most_maps → IsValueOf o m x → (values_start ≤ x) × (x < 0x80000000)
+pub value_bounds : (shapes : List Shape) (m x : ℕ) (o : Option Shape) → slice_get shapes m ≡ o → AreShapes shapes → length shapes ≤ most_maps → IsValueOf o m x → (values_start ≤ x) × (x < 0x80000000)
 value_bounds shapes m x None e all few h = absurd h
 value_bounds shapes m x (Some c) e all few h =
     let shape : IsShape c = all m c e in

@@ -31,7 +31,9 @@ use Rattle.bpf_same.proofs.StepLemmas.{held_register}
 use Rattle.bpf_same.proofs.ComputeLemmas.{added}
 use Rattle.bpf_same.proofs.TraceLemmas.{silently}
 use Rattle.bpf_same.proofs.ChangeLemmas.{jump_changes}
-use Rattle.bpf_same.proofs.SimulationLemmas.{step_at, jump_stepped}
+use Rattle.bpf_same.proofs.FoundLemmas.{jump_finds}
+use Rattle.bpf_same.proofs.SilentLemmas.{step_at}
+use Rattle.bpf_same.proofs.EstablishedLemmas.{jump_stepped}
 
 pub stays : (alone : Bool) (old : List Insn) (low : ℕ) (n : Facts) (e : Relation) (p : ℕ) → CatchesUp alone old low n e p e p
 stays alone old low n e p = λ s t known b r contain go. go t b contain
@@ -57,7 +59,7 @@ pub led_if : (old : List Insn) (n : Facts) (here : Place) (i : Insn) (o : Option
 led_if old n here i None at h = tt
 led_if old n here i (Some there) at h = led old n here there i at h
 
--- a form comes to a number where one with the same terms does
+-- the sum of a form's terms is known where that of another form with the same terms is
 there_of : (c d : ℕ) (o : Option ℕ) (x : ℕ) → plus (Some c) o ≡ Some x → (y : ℕ) × (plus (Some d) o ≡ Some y)
 there_of c d None x e = cc
 there_of c d (Some z) x e = ((d + z) % 2 ^ 64, refl)
@@ -151,7 +153,7 @@ no_jump : (s : State) → (cond : Condition) (wide : Bool) (dst : Register) (src
 no_jump s cond wide dst src off e = cc
 
 -- where the old program catches up with the witness, and the slot's relation follows there, it simulates the slot
-pub caught : (b : Candidate) (n : Facts) (e : Relation) (p q : ℕ) (witness : Witness) (d next : Relation) → slice_get b.witnesses q ≡ Some witness → slice_get b.relations q ≡ Some next → CatchesUp b.alone b.old b.low n e p d witness.at → Entails b.low n d next →
+pub caught : (b : Candidate) (n : Facts) (e : Relation) (p q : ℕ) (witness : Witness) (d next : Relation) → slice_get b.witnesses q ≡ Some witness → slice_get b.relations q ≡ Some next → CatchesUp b.alone b.old b.low n e p d witness.at → Entails b.alone b.low n d next →
     ((s : State) → Describes n s → IsKnown b.notes q s) → Meets b n e p q
 caught b n e p q witness d next here claimed up follows known = λ s t pc describes beside r contain go.
     up s t describes beside r contain (λ u there stands.
@@ -164,7 +166,7 @@ caught b n e p q witness d next here claimed up follows known = λ s t pc descri
       shapes = there.shapes;
       find = there.find;
       stack = there.stack;
-      relation = follows.preserves (held s) u.reg (held (at_slot s s.pc)) u.reg stepped there.relation;
+      relation = follows.preserves (held s) u.reg (held (at_slot s s.pc)) u.reg (numbers b.alone r s) stepped there.relation stands (jump_finds b.alone (Ja false (pos 0)) n (held s) (held (at_slot s s.pc)) (numbers b.alone r s) refl);
     } in
     go witness next u (ap (slice_get b.witnesses) pc ∙ here) (ap (slice_get b.relations) pc ∙ claimed) (subst (λ (q : ℕ). IsKnown b.notes q s) (sym pc) (known s describes)) related
     (λ k content small is. follows.contents k content small is (held s) u.reg (held (at_slot s s.pc)) u.reg (numbers b.alone r s) (numbers b.alone r (at_slot s s.pc)) stepped there.relation stands (jump_changes b.alone (Ja false (pos 0)) s s.pc r r refl refl)))

@@ -1,7 +1,8 @@
 -- What stands in counters after a step.
-use Rattle.std.proofs.Common.{ℕ, zero, suc, ◌+◌, ◌-◌, ◌%◌, ◌^◌, ◌≡◌, ◌≢◌, ◌<◌, refl, sym, ap, ◌∙◌, arith, ℤ, pos, Option, None, Some, Bool, true, false}
-use Rattle.std.specs.Prelude.{IfSome, if◌then◌else◌, ◌==◌}
+use Rattle.std.proofs.Common.{ℕ, zero, suc, ◌+◌, ◌-◌, ◌%◌, ◌^◌, ◌≡◌, ◌≢◌, ◌<◌, ◌≤◌, refl, sym, ap, ◌∙◌, arith, ℤ, pos, negsuc, Option, None, Some, Bool, true, false}
+use Rattle.std.specs.Prelude.{IfSome, if◌then◌else◌, ◌==◌, ◌≤ℤ◌}
 use Rattle.std.proofs.lemmas.Bool.Decides.{nat_tests}
+use Rattle.std.proofs.lemmas.Int.{ints}
 use Rattle.bpf_insn.specs.Register.{number}
 use Rattle.bpf_insn.specs.declared.register.Register.{Register}
 use Rattle.bpf_insn.specs.declared.size.Size.TheVariants.{Double}
@@ -15,7 +16,7 @@ use Rattle.bpf_same.specs.declared.relation.Relation.{Relation}
 use Rattle.bpf_same.specs.LinearForms.{plus, total, IsWord, Hold}
 use Rattle.bpf_same.specs.Moved.{address_in}
 use Rattle.bpf_same.specs.Stepped.{alters, IsPulledBack}
-use Rattle.bpf_same.specs.Contents.{Stands, Contain, is_addition, IsAdded, IsAddedStore, StandsAfter, IsApart, IsElsewhere, IsNoValue, PreservesContent, PreservesLoad}
+use Rattle.bpf_same.specs.Contents.{Stands, Contain, IsNewFound, IsOldFound, is_addition, IsAdded, IsAddedStore, StandsAfter, IsApart, IsElsewhere, IsNoValue, PreservesContent, PreservesLoad}
 use Rattle.bpf_same.proofs.LinearFormLemmas.{apart, total_small}
 
 some_same : {x y : ℕ} → Some x ≡ Some y → x ≡ y
@@ -153,3 +154,19 @@ forms_apart f s t a b same l m differ p q =
         by : (z : ℕ) → (x + (2 ^ 64 - y)) % 2 ^ 64 ≡ z → 0 < z
         by zero e = absurd (n (omega (arith, l, m, e)))
         by (suc z) e = omega arith
+
+-- what a load through the address of a map's value gives
+up_to : (off : ℤ) → (pos 0 ≤ℤ off) → (off ≤ℤ pos 32767) → (n : ℕ) × (off ≡ pos n) × (n ≤ 32767)
+up_to (pos n) l m = (n, refl, omega (arith, ints, m))
+up_to (negsuc n) l m = absurd (omega (arith, ints, l))
+
+pub found_form : (alone : Bool) (i : Insn) (stutters : Bool) (low : ℕ) (m : Facts) (e : Relation) (dst src : Register) (off : ℤ) (map : ℕ) (address there form here : LinearForm) → alone ≡ true → i ≡ Ldx Double false dst src off → (pos 0 ≤ℤ off) → (off ≤ℤ pos 32767) → alters i (number src) ≡ false → m.reg (number src) ≡ Value map →
+    ((f g : ℕ → Option ℕ) → Hold e f g → address_in f src off ≡ total f address) → ((f h : ℕ → Option ℕ) → Contain e f h → Stands f h address there) → IsPulledBack i stutters low m e form here → there ≡ here → IsNewFound alone i stutters low m e (number dst) form
+found_form alone i stutters low m e dst src off map address there form here is load from to left v at p q same = λ f g f' g' h t holds contain finds.
+    let n = up_to off from to in
+    let k = finds dst src map n.0 is (load ∙ ap (Ldx Double false dst src) n.1) n.2 left v in
+    let reached : total f address ≡ Some k.0 = sym (at f g holds) ∙ (ap (address_in f src) n.1 ∙ k.2) in
+    k.4 ∙ (sym (p f h contain k.0 k.1 reached k.3) ∙ (ap (total f) same ∙ sym (q f g f' g' t holds)))
+
+pub old_found : (alone : Bool) (i : Insn) (stutters : Bool) (low : ℕ) (m : Facts) (e : Relation) (k : ℕ) (s : LinearForm) → stutters ≡ false → alters i k ≡ true → k < 11 → IsNewFound alone i stutters low m e k s → IsOldFound alone i stutters low m e k s
+old_found alone i stutters low m e k s shared written small found = λ f g f' g' h t holds contain finds. t.alike k small shared written ∙ found f g f' g' h t holds contain finds

@@ -25,7 +25,7 @@ use Rattle.bpf_same.specs.Renumbered.{IsWitnessed, AreWitnessed, IsRenumbered, I
 use Rattle.bpf_same.specs.Stepped.{alters, AreAlike}
 use Rattle.bpf_same.proofs.PairLemmas.{parted, Behind, Pairs, pairs_lead, pairs_exit, operand_is, exec_pairs}
 use Rattle.bpf_same.proofs.StepLemmas.{needed_is, alike_of}
-use Rattle.bpf_same.proofs.SimulationLemmas.{jumped_exits, branch_exits}
+use Rattle.bpf_same.proofs.ExitLemmas.{jumped_exits, branch_exits}
 use Rattle.bpf_same.proofs.TraceLemmas.{in_front, before}
 use Rattle.bpf_same.proofs.TogetherLemmas.{all_shared, next_is}
 

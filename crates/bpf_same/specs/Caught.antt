@@ -11,12 +11,11 @@ use Rattle.bpf_same.specs.declared.linear_form.LinearForm.{LinearForm}
 use Rattle.bpf_same.specs.declared.relation.Relation.{Relation}
 use Rattle.bpf_same.specs.declared.caught.Place.{Place}
 use Rattle.bpf_same.specs.Traces.{Trace, Has, numbers}
-use Rattle.bpf_same.specs.Contents.{Contain, PreservesContents, content_of}
+use Rattle.bpf_same.specs.Contents.{Contain, Preserves, PreservesContents, content_of}
 use Rattle.bpf_same.specs.LinearForms.{bound_of, held, new_of, old_of, room_of, shifted_of, total, Hold}
 use Rattle.bpf_same.specs.Simulated.{IsRelated, IsSilent}
-use Rattle.bpf_same.specs.Stepped.{Preserves}
 
--- where this is known and the relation holds, a linear form comes to a number
+-- where this is known and the relation holds, each term of a linear form has a number, and x is their sum with the form's constant
 abbrev pub IsThere : Facts → Relation → LinearForm → Type 0
 IsThere n e form = (s : State) (g : ℕ → Option ℕ) → Describes n s → Hold e (held s) g → (x : ℕ) × (total (held s) form ≡ Some x)
 
@@ -59,6 +58,6 @@ LeadsOn i n here there =
     ((there.relation ≡ here.relation) × ((low : ℕ) → IsSilent i here.relation low n here.at there.at)) ⊎ ((there.at ≡ here.at + 1) × TakesAlone i here.relation n there.relation)
 
 -- one relation is followed by another one
-pub record Entails (low : ℕ) (n : Facts) (e d : Relation) : Type 0 where
-  pub preserves : Preserves (Ja false (pos 0)) true low n e d
+pub record Entails (alone : Bool) (low : ℕ) (n : Facts) (e d : Relation) : Type 0 where
+  pub preserves : Preserves alone (Ja false (pos 0)) true low n e d
   pub contents : PreservesContents (Ja false (pos 0)) true low n e d

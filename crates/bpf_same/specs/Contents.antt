@@ -1,6 +1,6 @@
 -- For proofs: no claim rests on this file.
 -- What stands in counters, by the linear forms of their addresses.
-use Rattle.std.specs.Prelude.{ℕ, ℤ, ◌%◌, ◌^◌, ◌+◌, ◌≡◌, ◌<◌, Option, Some, None, Bool, true, false, if◌then◌else◌, ◌==◌, slice_index_or}
+use Rattle.std.specs.Prelude.{ℕ, ℤ, pos, ◌%◌, ◌^◌, ◌+◌, ◌≡◌, ◌<◌, ◌≤◌, Option, Some, None, Bool, true, false, if◌then◌else◌, ◌==◌, slice_index_or}
 use Rattle.bpf_insn.specs.Register.{number}
 use Rattle.bpf_insn.specs.declared.register.Register.{Register}
 use Rattle.bpf_insn.specs.declared.size.Size.TheVariants.{Double}
@@ -13,7 +13,7 @@ use Rattle.bpf_same.specs.declared.linear_form.LinearForm.{LinearForm}
 use Rattle.bpf_same.specs.declared.relation.Relation.{Relation}
 use Rattle.bpf_same.specs.LinearForms.{plus, total, Hold}
 use Rattle.bpf_same.specs.Moved.{address_in}
-use Rattle.bpf_same.specs.Stepped.{Stepped}
+use Rattle.bpf_same.specs.Stepped.{alters, Stepped}
 
 abbrev pub content_of : Relation → ℕ → Option Content
 content_of e k = slice_index_or e.contents k None
@@ -36,6 +36,23 @@ pub record Changes (i : Insn) (f f' h h' : ℕ → Option ℕ) : Type 0 where
   pub added : (fetch : Bool) (dst src : Register) (off : ℤ) → i ≡ AddCounter fetch dst src off → (b : ℕ) × (v : ℕ) × (address_in f dst off ≡ Some b) × (f (number src) ≡ Some v) ×
       ((a : ℕ) → h' a ≡ (if a == b then plus (h a) (Some v) else h a))
   pub loaded : (dst src : Register) (off : ℤ) → i ≡ Ldx Double false dst src off → (a x : ℕ) → address_in f src off ≡ Some a → h a ≡ Some x → f' (number dst) ≡ Some x
+
+-- alone, a load through the address of a map's value gives what stands in a counter
+abbrev pub Finds : Bool → Insn → Facts → (ℕ → Option ℕ) → (ℕ → Option ℕ) → (ℕ → Option ℕ) → Type 0
+Finds alone i m f f' h = (dst src : Register) (map n : ℕ) → alone ≡ true → i ≡ Ldx Double false dst src (pos n) → n ≤ 32767 → alters i (number src) ≡ false → m.reg (number src) ≡ Value map →
+    (a : ℕ) × (x : ℕ) × (address_in f src (pos n) ≡ Some a) × (h a ≡ Some x) × (f' (number dst) ≡ Some x)
+
+-- after the step a term holds this linear form of what is held then, be it for what stands in a counter; the same of a register of the old
+-- program
+abbrev pub IsNewFound : Bool → Insn → Bool → ℕ → Facts → Relation → ℕ → LinearForm → Type 0
+IsNewFound alone i stutters low m e n s = (f g f' g' h : ℕ → Option ℕ) → Stepped i stutters low m f g f' g' → Hold e f g → Contain e f h → Finds alone i m f f' h → f' n ≡ total f' s
+
+abbrev pub IsOldFound : Bool → Insn → Bool → ℕ → Facts → Relation → ℕ → LinearForm → Type 0
+IsOldFound alone i stutters low m e k s = (f g f' g' h : ℕ → Option ℕ) → Stepped i stutters low m f g f' g' → Hold e f g → Contain e f h → Finds alone i m f f' h → g' k ≡ total f' s
+
+-- a relation that holds before the step is followed by another one
+abbrev pub Preserves : Bool → Insn → Bool → ℕ → Facts → Relation → Relation → Type 0
+Preserves alone i stutters low m e next = (f g f' g' h : ℕ → Option ℕ) → Stepped i stutters low m f g f' g' → Hold e f g → Contain e f h → Finds alone i m f f' h → Hold next f' g'
 
 -- before the step an addition's address is this linear form, and what it adds is that one
 abbrev pub IsAdded : Insn → Relation → LinearForm → LinearForm → Type 0

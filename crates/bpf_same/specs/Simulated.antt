@@ -22,9 +22,9 @@ use Rattle.bpf_same.specs.declared.witness.Witness.{Witness}
 use Rattle.bpf_same.specs.declared.relation.Relation.{Relation}
 use Rattle.bpf_same.specs.Decided.{IsDecided, on_way}
 use Rattle.bpf_same.specs.Traces.{Trace, Has, IsNext, numbers}
-use Rattle.bpf_same.specs.Contents.{content_of, Contain, IsAddedStore, PreservesContents}
+use Rattle.bpf_same.specs.Contents.{content_of, Contain, IsAddedStore, Preserves, PreservesContents}
 use Rattle.bpf_same.specs.LinearForms.{held, IsWord, Hold}
-use Rattle.bpf_same.specs.Stepped.{Preserves, ReadsAlike, Shares, IsOwnStep}
+use Rattle.bpf_same.specs.Stepped.{ReadsAlike, Shares, IsOwnStep}
 use Rattle.bpf_same.specs.Moved.{DoesAlike}
 
 abbrev pub Notes : Type 0
@@ -85,7 +85,7 @@ SimulatesFrom b n p q = (e : Relation) → slice_get b.relations q ≡ Some e �
 -- after the instruction a relation holds where the old program simulates slot q of the new one from slot p on
 pub record Establishes (b : Candidate) (i : Insn) (stutters : Bool) (e : Relation) (n : Facts) (p q : ℕ) : Type 0 where
   pub next : Relation
-  pub preserves : Preserves i stutters b.low n e next
+  pub preserves : Preserves b.alone i stutters b.low n e next
   pub contents : PreservesContents i stutters b.low n e next
   pub meets : Meets b n next p q
 
@@ -93,7 +93,7 @@ pub record Establishes (b : Candidate) (i : Insn) (stutters : Bool) (e : Relatio
 pub record PreservesAt (b : Candidate) (i : Insn) (stutters : Bool) (e : Relation) (n : Facts) (q : ℕ) : Type 0 where
   pub next : Relation
   pub here : slice_get b.relations q ≡ Some next
-  pub preserves : Preserves i stutters b.low n e next
+  pub preserves : Preserves b.alone i stutters b.low n e next
   pub contents : PreservesContents i stutters b.low n e next
 
 abbrev pub EstablishesAt : Candidate → Insn → Bool → Relation → Facts → Option ℕ → ℕ → Type 0

@@ -245,10 +245,6 @@ pub record BringsBack (op : AluOp) : Type 0 where
   pub reads : (o : Option ℕ) → first_operand op o ≡ o
   pub value : (x : ℕ) → x < 2 ^ 31 → computed op true (x * 2 ^ 32) 32 ≡ x
 
--- a relation that holds before the step is followed by another one
-abbrev pub Preserves : Insn → Bool → ℕ → Facts → Relation → Relation → Type 0
-Preserves i stutters low m e next = (f g f' g' : ℕ → Option ℕ) → Stepped i stutters low m f g f' g' → Hold e f g → Hold next f' g'
-
 -- a word of the new program's own is accessed
 pub record IsOwnAccess (base : Register) (off : ℤ) (low : ℕ) (n : Facts) : Type 0 where
   pub word : ℕ

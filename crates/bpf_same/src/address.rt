@@ -67,7 +67,7 @@ fn order_between(cond: Condition, dst: Register, src: Operand) -> Option<Order>
     }
 }
 
-/// What a jump that is taken says of two registers.
+/// Returns what a jump that is taken says of two registers.
 fn order_of(insn: Insn) -> Option<Order>
     ensures first { IfSome result (λ o. o.lesser < 11) }
     ensures second { IfSome result (λ o. o.greater < 11) }
@@ -151,7 +151,7 @@ impl Step<'_> {
         !alters(self.insn, register) && matches!(self.after.register(register), Val::PktEnd)
     }
 
-    /// How far from the packet's start a register at least is before the step.
+    /// Returns how far from the packet's start a register at least is before the step.
     fn least_distance(&self, register: u8) -> Option<u64>
         requires { register < 11 }
         ensures { IfSome result (IsDistance self.now.insn self.now.stutters self.now.low (facts self.now.after.now) self.now.before.now register) }

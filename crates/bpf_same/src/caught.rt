@@ -66,7 +66,7 @@ impl Relation {
         }
     }
 
-    /// Returns whether a form comes to a number: it differs by a constant from a register that has a value.
+    /// Returns whether each term of a form has a number: a register that is set holds the same but for a constant.
     fn is_there(&self, note: &Note, form: LinearForm, register: u8) -> bool
         requires { register < 11 }
         ensures { IsTrue result → IsThere (facts note.now) self.now form }
@@ -118,7 +118,7 @@ fn taken_alone(insn: Insn, relation: &Relation, note: &Note) -> Option<Relation>
     }
 }
 
-/// Where the old program comes by one instruction alone: a jump whose way is decided, or an addition.
+/// Returns where the old program comes by one instruction alone: a jump whose way is decided, or an addition.
 fn next_place(insn: Insn, here: &Place, note: &Note) -> Option<Place>
     requires { here.now.at < 4096 }
     ensures { IfSome result (LeadsOn insn (facts note.now) here.now) }
@@ -172,11 +172,12 @@ pub(crate) fn caught_up(old: &[Insn], from: &Place, note: &Note, to: u32) -> Opt
 impl Simulation<'_> {
     /// Returns whether another relation follows where this is known.
     fn entails(&self, relation: &Relation, next: &Relation, note: &Note) -> bool
-        ensures { IsTrue result → Entails self.now.low (facts note.now) relation.now next.now }
+        ensures { IsTrue result → Entails self.now.alone self.now.low (facts note.now) relation.now next.now }
     {
         let nothing = Step {
             insn: UNKNOWN,
             stutters: true,
+            alone: self.alone,
             low: self.low,
             before: relation,
             after: note,
@@ -216,11 +217,12 @@ impl Simulation<'_> {
         let step = Step {
             insn: before.insn,
             stutters,
+            alone: self.alone,
             low: self.low,
             before: before.relation,
             after: note,
         };
-        let relation = found_after(&step, self.alone);
+        let relation = found_after(&step);
         let place = Place { at: from, relation };
         if !step.preserves(&relation) {
             return false;

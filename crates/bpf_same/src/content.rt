@@ -1,7 +1,8 @@
 //! What is known to stand in counters, by the linear forms of their addresses.
 ghost use Rattle.std.specs.Prelude.{◌≡◌, ◌<◌, ℕ, Option, Some, None, true, false, if◌then◌else◌, ◌==◌, IsTrue, IfSome};
 ghost use Rattle.bpf_note.specs.Parts.{facts};
-ghost use Rattle.bpf_same.specs.Contents.{Contain, IsAdded, IsAddedStore, IsApart, IsElsewhere, IsNoValue, PreservesContent, PreservesContents, PreservesLoad, Stands, StandsAfter, content_of, is_addition};
+ghost use Rattle.bpf_insn.specs.Register.{number};
+ghost use Rattle.bpf_same.specs.Contents.{Contain, IsAdded, IsAddedStore, IsApart, IsElsewhere, IsNewFound, IsNoValue, PreservesContent, PreservesContents, PreservesLoad, Stands, StandsAfter, content_of, is_addition};
 ghost use Rattle.bpf_same.specs.LinearForms.{Hold, plus, total};
 ghost use Rattle.bpf_same.specs.Moved.{address_in};
 ghost use Rattle.bpf_same.specs.declared.content.Content.{Content as AContent};
@@ -201,6 +202,42 @@ impl Step<'_> {
         }
         let form = self.before.new_form(register);
         form.is(address)
+    }
+
+    /// Returns whether a form after a load through the address of a map's value is what stands in the counter there.
+    fn is_standing(&self, dst: Register, src: Register, off: i16, form: LinearForm) -> bool
+        requires { self.now.insn ≡ insns.Ldx sizes.Double false dst src off }
+        ensures { IsTrue result → IsNewFound self.now.alone self.now.insn self.now.stutters self.now.low (facts self.now.after.now) self.now.before.now (number dst) form }
+    {
+        if !self.alone || off < 0 || alters(self.insn, src.number()) {
+            return false;
+        }
+        let Val::Value { m: _ } = self.after.register(src.number()) else {
+            return false;
+        };
+        let Some(there) = self.before.content_at(self.before.address(src, off)) else {
+            return false;
+        };
+        let Some(here) = self.pulled_back(form) else {
+            return false;
+        };
+        there.is(here)
+    }
+
+    /// Returns whether the step, alone, has loaded into a register what stands in a counter, which is this form after it.
+    pub(crate) fn is_found(&self, register: u8, form: LinearForm) -> bool
+        ensures { IsTrue result → IsNewFound self.now.alone self.now.insn self.now.stutters self.now.low (facts self.now.after.now) self.now.before.now register form }
+    {
+        match self.insn {
+            Insn::Ldx {
+                size: Size::Double,
+                signed: false,
+                dst,
+                src,
+                off,
+            } => register == dst.number() && self.is_standing(dst, src, off, form),
+            _ => false,
+        }
     }
 
     /// Returns whether a form after the step is what it has loaded from an address.

@@ -3,7 +3,7 @@ ghost use Rattle.std.specs.Prelude.{◌<◌};
 
 use crate::after::{form_beside, moved, relation_after};
 use crate::content::{CONTENTS, Content};
-use crate::linear_form::{LinearForm, TERMS};
+use crate::linear_form::{LinearForm, REGISTERS, TERMS};
 use crate::meet::Meeting;
 use crate::relation::Relation;
 use crate::step::Step;
@@ -60,9 +60,27 @@ fn loaded_address(step: &Step) -> Option<LinearForm> {
     }
 }
 
-/// What stands in a counter that a step has loaded.
+/// Makes the register of a load what is known to stand in the counter.
+fn add_loaded_number(step: &Step, found: &mut Relation) -> Option<()> {
+    let number = step.before.content_at(loaded_address(step)?)?;
+    let form = form_moved(step, found, number)?;
+    for register in 0..REGISTERS {
+        if step.is_found(register, form) {
+            found.new[register as usize] = Some(form);
+            if !step.stutters {
+                found.old[register as usize] = Some(form);
+            }
+        }
+    }
+    Some(())
+}
+
+/// Returns what stands in a counter that a step has loaded, if nothing was known of it.
 fn content_loaded(step: &Step, found: &Relation) -> Option<Content> {
     let from = loaded_address(step)?;
+    if step.before.content_at(from).is_some() {
+        return None;
+    }
     let Insn::Ldx { dst, src, .. } = step.insn else {
         return None;
     };
@@ -89,10 +107,11 @@ fn add_contents_after(step: &Step, found: &mut Relation) {
     }
 }
 
-/// The relation after a step; `alone`: with what stands in counters.
-pub(crate) fn found_after(step: &Step, alone: bool) -> Relation {
+/// The relation after a step, with what stands in counters if nobody else has them.
+pub(crate) fn found_after(step: &Step) -> Relation {
     let mut found = relation_after(step);
-    if alone {
+    if step.alone {
+        add_loaded_number(step, &mut found);
         add_contents_after(step, &mut found);
     }
     found

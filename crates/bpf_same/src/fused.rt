@@ -19,10 +19,10 @@ use crate::live::{is_set, leaves, reads_within, with, without};
 use bpf_flow::{jump_target, next_slot};
 use bpf_insn::{AluOp, Insn, Operand, Register, Size};
 
-/// How many instructions a count has at most after its load.
+/// The most instructions that a count has after its load.
 pub(crate) const MOST_COUNTED: u32 = 64;
 
-/// What a slot is to a count.
+/// The role of a slot in a count.
 #[derive(Clone, Copy, Debug, PartialEq, Eq, Drop)]
 pub(crate) enum Role {
     /// Nothing: both programs have its instruction.

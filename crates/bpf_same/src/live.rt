@@ -26,7 +26,7 @@ const REGISTERS: [Register; 11] = [
     Register::R10,
 ];
 
-/// How often a program is gone through, from its end, until nothing is added.
+/// The number of times a program is gone through, from its end, until nothing is added.
 const MOST_PASSES: u32 = 64;
 
 /// Returns whether a register is in a mask.

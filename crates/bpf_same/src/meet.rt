@@ -113,7 +113,7 @@ fn add_rooms_of_terms(meeting: &Meeting, met: &mut Relation) {
     }
 }
 
-/// What is one linear form in both, by terms that hold themselves where they meet.
+/// The linear forms that are one in both, by terms that hold themselves where they meet.
 #[derive(Drop)]
 pub(crate) struct Meeting<'a> {
     pub(crate) one: &'a Relation,

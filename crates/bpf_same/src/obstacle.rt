@@ -13,7 +13,7 @@ use bpf_insn::Insn;
 use bpf_note::{MapShape, Note};
 use std::alloc::{AllocError, Global};
 
-/// Why a slot isn't shown to be simulated.
+/// The reason why a slot isn't shown to be simulated.
 #[derive(Clone, Copy, Debug, PartialEq, Eq, Drop)]
 pub enum ObstacleKind {
     /// The next slot has no witness, or the old program doesn't get there.
@@ -34,7 +34,7 @@ pub struct Obstacle {
     pub kind: ObstacleKind,
 }
 
-/// Where the old program is, and why it doesn't go on.
+/// The place of the old program, and the reason why it doesn't go on.
 #[derive(Clone, Copy, Drop)]
 struct Stop {
     old: u32,
@@ -46,7 +46,7 @@ fn stop_at(old: u32, kind: ObstacleKind) -> Option<Stop> {
 }
 
 impl Simulation<'_> {
-    /// Why silent steps from a slot don't reach another one.
+    /// Returns why silent steps from a slot don't reach another one.
     fn silent_stop(&self, relation: &Relation, note: &Note, from: u32, to: u32) -> Option<Stop>
         requires { length self.now.old.now ≤ 4096 }
     {
@@ -66,7 +66,7 @@ impl Simulation<'_> {
         }
     }
 
-    /// Why the old program, from a slot on, doesn't simulate a slot of the new one.
+    /// Returns why the old program, from a slot on, doesn't simulate a slot of the new one.
     fn stop_before(&self, old: u32, slot: u32, note: &Note) -> Option<Stop>
         requires { length self.now.old.now ≤ 4096 }
     {
@@ -105,7 +105,7 @@ impl Simulation<'_> {
         }
     }
 
-    /// Why a step that leads to one slot isn't simulated.
+    /// Returns why a step that leads to one slot isn't simulated.
     fn plain_stop(&self, before: &Point, there: &Successor) -> Option<Stop>
         requires { length self.now.old.now ≤ 4096 }
     {
@@ -125,7 +125,7 @@ impl Simulation<'_> {
         stop_at(old, ObstacleKind::Instruction)
     }
 
-    /// Why a way of a conditional jump isn't simulated.
+    /// Returns why a way of a conditional jump isn't simulated.
     fn way_stop(
         &self,
         before: &Point,
@@ -166,7 +166,7 @@ impl Simulation<'_> {
         Some((at + 1, target))
     }
 
-    /// Why a conditional jump isn't simulated.
+    /// Returns why a conditional jump isn't simulated.
     fn branch_stop(&self, before: &Point, next: &Successor, taken: &Successor) -> Option<Stop>
         requires { length self.now.old.now ≤ 4096 }
     {
@@ -180,7 +180,7 @@ impl Simulation<'_> {
         self.way_stop(before, true, target, taken)
     }
 
-    /// Why an instruction isn't simulated.
+    /// Returns why an instruction isn't simulated.
     fn insn_stop(
         &self,
         alloc: Global,
@@ -204,7 +204,7 @@ impl Simulation<'_> {
         }
     }
 
-    /// Why a slot isn't simulated.
+    /// Returns why a slot isn't simulated.
     fn slot_stop(
         &self,
         alloc: Global,
@@ -243,7 +243,7 @@ impl Simulation<'_> {
         Ok(None)
     }
 
-    /// Why the first slot isn't where both programs begin.
+    /// Returns why the first slot isn't where both programs begin.
     fn start_stop(&self, alloc: Global) -> Option<Stop>
         requires { length self.now.old.now ≤ 4096 }
     {

@@ -4,7 +4,8 @@ ghost use Rattle.bpf_insn.specs.declared.insn.Insn.TheVariants as insns;
 ghost use Rattle.bpf_insn.specs.declared.operand.Operand.TheVariants as operands;
 ghost use Rattle.bpf_note.specs.Parts.{facts};
 ghost use Rattle.bpf_same.specs.LinearForms.{new_of, old_of};
-ghost use Rattle.bpf_same.specs.Stepped.{IsPulledBack, IsWithTerm, IsOldAlike, Preserves, PreservesNew, PreservesOld};
+ghost use Rattle.bpf_same.specs.Contents.{IsNewFound, IsOldFound, Preserves};
+ghost use Rattle.bpf_same.specs.Stepped.{IsPulledBack, IsWithTerm, IsOldAlike, PreservesNew, PreservesOld};
 
 use crate::linear_form::{LinearForm, REGISTERS, TERMS};
 use crate::relation::Relation;
@@ -129,14 +130,47 @@ impl Step<'_> {
         there.is(here)
     }
 
+    /// Returns whether both programs, alone, have loaded into a register what stands in a counter, which is this form after the step.
+    fn is_old_found(&self, register: u8, form: LinearForm) -> bool
+        requires { register < 11 }
+        ensures { IsTrue result → IsOldFound self.now.alone self.now.insn self.now.stutters self.now.low (facts self.now.after.now) self.now.before.now register form }
+    {
+        if self.stutters || !alters(self.insn, register) {
+            return false;
+        }
+        self.is_found(register, form)
+    }
+
+    /// Returns whether a register of the old program holds this linear form after the step, be it for what stands in a counter.
+    fn holds_old(&self, register: u8, form: LinearForm) -> bool
+        requires { register < 11 }
+        ensures { IsTrue result → IsOldFound self.now.alone self.now.insn self.now.stutters self.now.low (facts self.now.after.now) self.now.before.now register form }
+    {
+        if self.preserves_old(register, form) {
+            return true;
+        }
+        self.is_old_found(register, form)
+    }
+
+    /// Returns whether a term of the new program does.
+    fn holds_new(&self, term: u8, form: LinearForm) -> bool
+        requires { term < 64 }
+        ensures { IsTrue result → IsNewFound self.now.alone self.now.insn self.now.stutters self.now.low (facts self.now.after.now) self.now.before.now term form }
+    {
+        if self.preserves_new(term, form) {
+            return true;
+        }
+        self.is_found(term, form)
+    }
+
     /// Returns whether the next relation holds of a register of the old program after the step.
     fn preserves_register(&self, next: &Relation, register: u8) -> bool
         requires { register < 11 }
         ensures { IsTrue result → (s : LinearForm) → old_of next.now register ≡ Some s →
-            PreservesOld self.now.insn self.now.stutters self.now.low (facts self.now.after.now) self.now.before.now register s }
+            IsOldFound self.now.alone self.now.insn self.now.stutters self.now.low (facts self.now.after.now) self.now.before.now register s }
     {
         match next.old_form(register) {
-            Some(form) => self.preserves_old(register, form),
+            Some(form) => self.holds_old(register, form),
             None => true,
         }
     }
@@ -145,17 +179,17 @@ impl Step<'_> {
     fn preserves_term(&self, next: &Relation, term: u8) -> bool
         requires { term < 64 }
         ensures { IsTrue result → (s : LinearForm) → new_of next.now term ≡ Some s →
-            PreservesNew self.now.insn self.now.stutters self.now.low (facts self.now.after.now) self.now.before.now term s }
+            IsNewFound self.now.alone self.now.insn self.now.stutters self.now.low (facts self.now.after.now) self.now.before.now term s }
     {
         match next.claimed(term) {
-            Some(form) => self.preserves_new(term, form),
+            Some(form) => self.holds_new(term, form),
             None => true,
         }
     }
 
     /// Returns whether the next relation holds after the step.
     pub(crate) fn preserves(&self, next: &Relation) -> bool
-        ensures { IsTrue result → Preserves self.now.insn self.now.stutters self.now.low (facts self.now.after.now) self.now.before.now next.now }
+        ensures { IsTrue result → Preserves self.now.alone self.now.insn self.now.stutters self.now.low (facts self.now.after.now) self.now.before.now next.now }
     {
         for register in 0..REGISTERS {
             if !self.preserves_register(next, register) {

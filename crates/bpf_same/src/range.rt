@@ -12,7 +12,7 @@ use crate::step::PACKET_START;
 use bpf_insn::Operand;
 use bpf_note::{Note, PACKET_ID, Val};
 
-/// How many bytes a packet has at most.
+/// The most bytes that a packet has.
 pub(crate) const MOST_BYTES: u32 = 65535;
 
 /// The numbers from one to another.
@@ -22,7 +22,7 @@ pub(crate) struct Range {
     pub(crate) high: u64,
 }
 
-/// How far from the packet's start an id's base is at most.
+/// Returns how far from the packet's start an id's base is at most.
 fn farthest(note: &Note, id: u16) -> u32
     ensures { IsFarthest (facts note.now) id result }
 {

@@ -23,7 +23,7 @@ use bpf_verify::Verified;
 use bpf_vm::accepted_programs_end;
 use std::alloc::{AllocError, Global};
 
-/// What a comparison of two programs shows.
+/// The answer of a comparison of two programs.
 #[derive(Clone, Copy, Debug, PartialEq, Eq, Drop)]
 pub enum Comparison {
     /// Each run of one is a run of the other.
@@ -38,7 +38,7 @@ pub enum Comparison {
     NotShown,
 }
 
-/// What is found of the new program.
+/// The findings about the new program.
 #[derive(Drop)]
 struct Findings {
     notes: Vec<Vec<Box<Note>>>,

@@ -88,7 +88,7 @@ fn is_between(mask: u64, bits: Bits) -> bool
     (1_u64 << bits.to).wrapping_sub(1 << bits.from) == mask
 }
 
-/// Which bits a mask has, if these are all from one place up to another.
+/// Returns which bits a mask has, if these are all from one place up to another.
 fn bits_of(mask: u64) -> Option<Bits>
     ensures { IfSome result (λ b. (b.from < b.to) × (b.to < 64) × (mask ≡ 2 ^ b.to - 2 ^ b.from)) }
 {

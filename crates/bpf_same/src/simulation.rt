@@ -172,6 +172,7 @@ impl Simulation<'_> {
         let step = Step {
             insn: before.insn,
             stutters,
+            alone: self.alone,
             low: self.low,
             before: before.relation,
             after: &there.note,

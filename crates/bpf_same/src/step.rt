@@ -13,7 +13,7 @@ use crate::relation::Relation;
 use bpf_insn::{AluOp, Insn, Operand, Register, Size};
 use bpf_note::{Note, PACKET_ID, Val};
 
-/// Where the packet begins.
+/// The address at which the packet begins.
 pub(crate) const PACKET_START: u64 = 0x10000000;
 
 /// The size of a word of the stack, in bytes.
@@ -126,11 +126,13 @@ fn is_register_store(insn: Insn) -> bool
     matches!(insn, Insn::Stx { .. })
 }
 
-/// A step, the relation before it, and the note after it. `stutters`: the old program doesn't take it.
+/// A step, the relation before it, and the note after it. `stutters`: the old program doesn't take it. `alone`: nobody else has the
+/// counters.
 #[derive(Clone, Copy, Drop)]
 pub(crate) struct Step<'a> {
     pub(crate) insn: Insn,
     pub(crate) stutters: bool,
+    pub(crate) alone: bool,
     pub(crate) low: u32,
     pub(crate) before: &'a Relation,
     pub(crate) after: &'a Note,

@@ -67,20 +67,33 @@ fn read_pair(alloc: Global, pair: &Pair) -> Option<Decoded> {
     read_pair_over(alloc, pair, shapes)
 }
 
-/// What [`compare`] answers for a pair. None if the new program isn't accepted, or if memory runs out.
+/// Returns what [`compare`] answers for a pair. None if the new program isn't accepted, or if memory runs out.
 pub fn compared(alloc: Global, pair: &Pair) -> Option<Comparison> {
     let pair = read_pair(alloc, pair)?;
     compare(alloc, &pair.new, &pair.old, pair.witnesses.as_slice()).ok()
 }
 
-/// What [`compare`] answers for a pair whose one map has this many bytes of constants.
-pub fn compared_with_constants(alloc: Global, pair: &Pair, bytes: u32) -> Option<Comparison> {
-    let shapes = [MapShape::keyed(MapKey::Constants(bytes), 1, 1)?];
-    let pair = read_pair_over(alloc, pair, &shapes)?;
+/// Returns what [`compare`] answers for a pair whose one map has this shape.
+fn compared_over(alloc: Global, pair: &Pair, shape: MapShape) -> Option<Comparison> {
+    let pair = read_pair_over(alloc, pair, &[shape])?;
     compare(alloc, &pair.new, &pair.old, pair.witnesses.as_slice()).ok()
 }
 
-/// What [`first_obstacle`] answers for a pair. None also if there is no obstacle.
+/// Returns what [`compare`] answers for a pair whose one map has this many bytes of constants.
+pub fn compared_with_constants(alloc: Global, pair: &Pair, bytes: u32) -> Option<Comparison> {
+    compared_over(
+        alloc,
+        pair,
+        MapShape::keyed(MapKey::Constants(bytes), 1, 1)?,
+    )
+}
+
+/// Returns what [`compare`] answers for a pair whose one map has this many counters in each of its four values.
+pub fn compared_with_counters(alloc: Global, pair: &Pair, counters: u32) -> Option<Comparison> {
+    compared_over(alloc, pair, MapShape::of(4, counters)?)
+}
+
+/// Returns what [`first_obstacle`] answers for a pair. None also if there is no obstacle.
 pub fn stopped(alloc: Global, pair: &Pair) -> Option<Obstacle> {
     let pair = read_pair(alloc, pair)?;
     first_obstacle(alloc, &pair.new, &pair.old, pair.witnesses.as_slice()).ok()?

@@ -7,6 +7,7 @@ mod counts_apart;
 mod counts_used;
 mod ends;
 mod jumps;
+mod loaded;
 mod moved;
 mod obstacles;
 mod own;

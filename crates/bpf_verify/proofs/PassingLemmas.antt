@@ -31,7 +31,7 @@ use Rattle.bpf_verify.proofs.SearchLemmas.{the_one}
 use Rattle.bpf_verify.proofs.LawLemmas.{contains_or}
 use Rattle.bpf_verify.specs.Paths as paths
 
--- a beginning of an order is an order, and the next slot was ready
+-- a prefix of an order is an order, and the next slot was ready
 pub record IsTaken (Edge : ℕ → ℕ → Type 0) (In : ℕ → Type 0) (taken : List ℕ) (p : ℕ) : Type 0 where
   pub takes : Takes Edge In taken
   pub ready : IsReady Edge In taken p

@@ -46,7 +46,7 @@ pub(crate) fn is_number(value: Val) -> bool
     matches!(value, Val::Num { .. })
 }
 
-/// Whether a register is a number at a successor.
+/// Returns whether a register is a number at a successor.
 fn is_number_at(successor: &Successor, register: Register) -> bool
     ensures { result ≡ is_number ((facts successor.now.note.value).reg (number register)) }
 {
@@ -80,7 +80,7 @@ fn last_write(code: &[Insn], pc: u32, register: Register) -> Option<u32>
     None
 }
 
-/// Whether the rule makes a register a number if a note gives it an address.
+/// Returns whether the rule makes a register a number if a note gives it an address.
 fn loses(
     alloc: Global,
     code: &[Insn],
@@ -138,8 +138,8 @@ fn first_lost(
     Ok(None)
 }
 
-/// Where a register was an address last: the last slot below `pc` that writes the register, if the second pass comes to it and
-/// the rule makes an address there a number. It follows the notes again up to that slot, and an `Err` is out of memory.
+/// Returns where a register was an address last: the last slot below `pc` that writes the register, if the second pass comes to it
+/// and the rule makes an address there a number. It follows the notes again up to that slot, and an `Err` is out of memory.
 pub fn lost_at(
     alloc: Global,
     code: &Code,

@@ -9,7 +9,7 @@ use std::alloc::{AllocError, Global};
 use std::marker::Model;
 use std::mem;
 
-/// How many notes a slot has at most.
+/// The most notes that a slot has.
 pub(crate) const MOST_NOTES: usize = 8;
 
 /// The notes at a slot, in the order in which they came.
@@ -29,7 +29,7 @@ impl Model for NoteList {
     ghost invariant = { λ l. length l.notes.items ≤ 8 };
 }
 
-/// Whether two notes say the same.
+/// Returns whether two notes say the same.
 fn say_the_same(a: &Note, b: &Note) -> bool
     ensures { IsTrue result ↔ (facts a.now ≡ facts b.now) }
 {
@@ -47,7 +47,7 @@ impl NoteList {
         }
     }
 
-    /// What is known at the entry.
+    /// Returns what is known at the entry.
     pub(crate) fn at_entry(alloc: Global) -> Result<NoteList, AllocError>
         ensures { IfOk result (λ l. map facts l ≡ entry ∷ []) }
     {
@@ -87,7 +87,7 @@ impl NoteList {
         }
     }
 
-    /// Whether a note of the list says the same as this one.
+    /// Returns whether a note of the list says the same as this one.
     fn holds(&self, note: &Note) -> bool
         ensures { IsTrue result ↔ Contains (map facts self.now) (facts note.now) }
     {

@@ -128,7 +128,7 @@ fn follow(
     Ok(())
 }
 
-/// What is known at the first slot, and nothing at the others.
+/// Returns what is known at the first slot, and nothing at the others.
 fn blank(alloc: Global, slots: usize) -> Result<Table, AllocError>
     requires { 0 < slots }
     ensures size { IfOk result (λ t. vec_len t.lists ≡ slots) }

@@ -4,7 +4,7 @@ ghost use Rattle.bpf_verify.specs.Structure.{begins, falls_through, jump_of, lan
 
 use bpf_insn::Insn;
 
-/// Whether a slot holds an instruction.
+/// Returns whether a slot holds an instruction.
 pub(crate) fn begins(slot: Option<Insn>) -> bool
     ensures { result ≡ begins slot }
 {

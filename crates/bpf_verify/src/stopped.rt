@@ -25,7 +25,7 @@ impl From<Refusal> for Stopped {
     }
 }
 
-/// Whether the rule for an instruction may answer the cause.
+/// Returns whether the rule for an instruction may answer the cause.
 pub(crate) fn is_rule_cause(cause: Cause) -> bool
     ensures { IsTrue result ↔ IsRuleCause cause }
 {

@@ -43,7 +43,7 @@ fn lacks_map(maps: u32, insn: Insn) -> bool
     }
 }
 
-/// What is wrong first with the structure at a slot, where `insn` stands. `ordered` tells that no jump closes a cycle.
+/// Returns what is wrong first with the structure at a slot, where `insn` stands. `ordered` tells that no jump closes a cycle.
 fn fault_of(
     alloc: Global,
     code: &[Insn],

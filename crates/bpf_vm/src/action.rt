@@ -10,7 +10,7 @@ pub const XDP_PASS: u32 = 2;
 /// The number of TX, as `XDP_TX` of bpf.h.
 pub const XDP_TX: u32 = 3;
 
-/// What becomes of a packet: the actions of XDP (Linux's uapi/linux/bpf.h, `enum xdp_action`).
+/// The fate of a packet: the actions of XDP (Linux's uapi/linux/bpf.h, `enum xdp_action`).
 #[derive(Clone, Copy, Debug, PartialEq, Eq, Drop)]
 pub enum Action {
     /// The packet is dropped as after a fault.

@@ -2,7 +2,7 @@
 
 use crate::packet::PacketBuf;
 
-/// What a run left: the action's number, the packet, and how many instructions were done, the exit included.
+/// The outcome of a run: the action's number, the packet, and how many instructions were done, the exit included.
 #[derive(Drop)]
 pub struct Ended<'b> {
     pub number: u32,

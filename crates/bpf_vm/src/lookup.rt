@@ -29,8 +29,8 @@ fn map_near(at: u64) -> u64
     }
 }
 
-/// How far past the first value of its map a counter lies, which is this many bytes past the first of all. The address alone
-/// says it, so that the map's shape isn't waited for.
+/// Returns how far past the first value of its map a counter lies, which is this many bytes past the first of all. The address
+/// alone says it, so that the map's shape isn't waited for.
 #[inline(always)]
 fn past_map(at: u64) -> u64
     ensures { result ≡ (if nat_lt at 0x400000 then at % 0x10000 else at % 0x400000) }
@@ -42,7 +42,7 @@ fn past_map(at: u64) -> u64
     }
 }
 
-/// How far past the first of all values those of map `m` begin.
+/// Returns how far past the first of all values those of map `m` begin.
 #[inline(always)]
 fn map_offset(shape: &MapShape, m: u64) -> u64
     requires { m < most_maps }
@@ -94,7 +94,7 @@ fn byte_at(bytes: &[u8], key: &[u8]) -> Option<u64>
     }
 }
 
-/// What a list has for a key.
+/// Returns what a list has for a key.
 pub(crate) fn listed_in(list: &MapList, key: &[u8]) -> Option<u64>
     ensures { result ≡ listed_in list.now key.now }
 {

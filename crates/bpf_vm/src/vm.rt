@@ -14,7 +14,7 @@ ghost use Rattle.bpf_vm.specs.Wants.{IsLoad, IsAdd, IsNoStep, Waits};
 use crate::ended::Ended;
 use crate::machine::Machine;
 use crate::packet::PacketBuf;
-use crate::turn::{Stop, Turn};
+use crate::turn::{InsnFlow, Stop};
 use crate::want::VmWant;
 use bpf_insn::Register;
 use bpf_lists::MapList;
@@ -72,7 +72,7 @@ impl<'p, 'b> Vm<'p, 'b> {
         }
     }
 
-    /// What comes next.
+    /// Returns what comes next.
     pub fn want(&self) -> VmWant
         ensures { IsWantOf result self.now }
     {
@@ -109,12 +109,12 @@ impl<'p, 'b> Vm<'p, 'b> {
     {
         let insn = self.program.insn(self.pc);
         match self.machine.turn(self.pc, insn) {
-            Turn::Goes(to) => {
+            InsnFlow::Goes(to) => {
                 self.machine.are_numbers();
                 self.pc = to;
                 self.count += 1;
             }
-            Turn::Waits(_) => unreachable!(),
+            InsnFlow::Waits(_) => unreachable!(),
         }
     }
 
@@ -146,7 +146,7 @@ impl<'p, 'b> Vm<'p, 'b> {
         self.resume(old);
     }
 
-    /// How many instructions are done, a wanted exit included.
+    /// Returns the number of instructions that are done, a wanted exit included.
     pub fn count(&self) -> u32
         ensures count { result ≡ self.now.count + exits (now self.now) }
         ensures bound { result ≤ instructions self.now.program.code }

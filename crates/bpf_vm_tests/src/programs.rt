@@ -56,7 +56,7 @@ pub fn bytes_of(alloc: Global, slots: &[[u8; 8]]) -> Result<Vec<u8>, AllocError>
     bytes_after(alloc, 0, slots)
 }
 
-/// What [`verify`] answers of bytes.
+/// Returns what [`verify`] answers of bytes.
 pub fn answer(alloc: Global, bytes: &[u8], shapes: &[MapShape]) -> Result<Verified, Refusal>
     requires { length shapes.now ≤ most_maps }
     ensures { IfOk result (λ v. v.shapes ≡ shapes.now) }
@@ -64,7 +64,7 @@ pub fn answer(alloc: Global, bytes: &[u8], shapes: &[MapShape]) -> Result<Verifi
     verify(alloc, decode(alloc, bytes)?, shapes)
 }
 
-/// What [`verify`] answers of a program.
+/// Returns what [`verify`] answers of a program.
 pub fn verified(alloc: Global, slots: &[[u8; 8]], shapes: &[MapShape]) -> Result<Verified, Refusal>
     requires { length shapes.now ≤ most_maps }
     ensures { IfOk result (λ v. v.shapes ≡ shapes.now) }
@@ -95,7 +95,7 @@ pub fn ready(alloc: Global, slots: &[[u8; 8]], shapes: &[MapShape]) -> Option<(V
     }
 }
 
-/// How many instructions an accepted program has, how many slots, and how many maps.
+/// Returns how many instructions an accepted program has, how many slots, and how many maps.
 pub fn counts(program: &Verified) -> (u32, u32, usize) {
     (
         program.instructions(),
@@ -126,8 +126,8 @@ pub fn code(alloc: Global, slots: &[[u8; 8]]) -> Option<Code> {
     }
 }
 
-/// What [`explain`] says of a program that it refuses, over one map of a value. The program is `count` times `r0 = 2`,
-/// and then these slots.
+/// Returns what [`explain`] says of a program that it refuses, over one map of a value. The program is `count` times `r0 = 2`, and
+/// then these slots.
 pub fn explained(alloc: Global, count: usize, slots: &[[u8; 8]]) -> Option<Explained> {
     let shape = MapShape::of(1, 1)?;
     let code = match bytes_after(alloc, count, slots) {

@@ -5,7 +5,7 @@ use std::alloc::{AllocError, Global};
 use std::sync::atomic::{AtomicU32, Ordering};
 use xen_page::{Bus, Place, WORDS};
 
-/// How many frames there are.
+/// The number of frames.
 pub const FRAMES: u32 = 5;
 
 /// The words of all frames. A host has the memory that it maps in their place.

@@ -4,7 +4,7 @@ use std::alloc::AllocError;
 use std::io;
 use xen_page::GrantFault;
 
-/// Why a turn wasn't made, or wasn't told.
+/// The reason why a turn wasn't made, or wasn't told.
 #[derive(Drop)]
 pub enum Fault {
     Memory,

@@ -18,7 +18,7 @@ pub const RX: u32 = 3;
 
 const PAGE: u32 = 4;
 
-/// Who owns each frame.
+/// The owner of each frame.
 pub const OWNERS: [u16; 5] = [BACK, FRONT, FRONT, FRONT, FRONT];
 
 /// The words before a ring's slots: two producers, and two event indices.

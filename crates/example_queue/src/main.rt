@@ -30,10 +30,10 @@ use xen_ring::{Port, Ports};
 /// `r0 = 2` and `exit`: each packet passes.
 const PASSES: &[u8] = b"\xb7\x00\x00\x00\x02\x00\x00\x00\x95\x00\x00\x00\x00\x00\x00\x00";
 
-/// What the host answers the guest: an Ethernet header.
+/// The host's answer to the guest: an Ethernet header.
 const ANSWER: &[u8] = b"\x02\x00\x00\x00\x00\x01\x02\x00\x00\x00\x00\x02\x88\xb5";
 
-/// What a host does with a turn: this one prints it.
+/// Returns what a host does with a turn: this one prints it.
 fn take(rt: &HostRuntime, turn: Turn<'_>) -> io::Result<()> {
     match turn {
         Turn::Ran { action, packet, .. } => {

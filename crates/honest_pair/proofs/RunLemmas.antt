@@ -11,7 +11,7 @@ use Rattle.xen_turns.specs.declared.state.State.{State as BackState}
 use Rattle.xen_turns.specs.declared.turn.Halt.{Halt}
 use Rattle.xen_turns.proofs.TurnRuns.{runs_turn}
 use Rattle.xen_front.specs.Fronts.{state_of as front_state, wiring_of as front_wiring}
-use Rattle.xen_front.specs.declared.state.State.{State as FrontState}
+use Rattle.xen_front.specs.declared.state.FrontState.{FrontState}
 use Rattle.xen_steps.specs.Drive.{LedBy}
 use Rattle.xen_steps.specs.Steps.{Runs}
 use Rattle.honest_pair.specs.Machine.Law.{AreFit, Honest, IsBytes, PairLaw}
@@ -33,7 +33,7 @@ use Rattle.std.specs.Prelude.{if◌then◌else◌, ◌==◌}
 use Rattle.std.proofs.lemmas.List.{append-nil, append_assoc}
 use Rattle.xen_steps.specs.Event.{Event}
 use Rattle.xen_turns.specs.declared.wiring.Wiring.{Wiring as BackWiring}
-use Rattle.xen_buffers.specs.declared.wiring.Wiring.{Wiring as FrontWiring}
+use Rattle.xen_buffers.specs.declared.wiring.FrontWiring.{FrontWiring}
 use Rattle.honest_pair.specs.Machine.Log.{LogLaw, back_asks, back_item, back_items, log, logged}
 use Rattle.honest_pair.specs.Machine.Pair.{Await, BackStep, Deliver, FrontStep, Pair, PairEvent, Poll, Post, Send, opening, run, step, turns_of}
 use Rattle.honest_pair.specs.Machine.Traces.{Follows, Traced}

@@ -11,7 +11,7 @@ use Rattle.xen_turns.specs.Turns.{IsTurn}
 use Rattle.xen_turns.specs.declared.delivery.wait.Awaited.{Awaited}
 use Rattle.xen_turns.specs.declared.delivery.delivering.Delivery.{Delivery}
 use Rattle.xen_turns.specs.declared.state.State.{State}
-use Rattle.xen_turns.specs.declared.turn.Refusal.TheVariants as refusal
+use Rattle.xen_turns.specs.declared.turn.PacketRefusal.TheVariants as refusal
 use Rattle.xen_turns.specs.declared.wiring.Wiring.{Wiring}
 use Rattle.xdp_world.specs.Activities.{Deed, DeliveryOf, Given, Item, SlotsAwaited, TurnOf, WaitOf}
 use Rattle.xdp_world.specs.Activities.{all_came, deliveries_in, turns_in, waits_in}
@@ -68,7 +68,7 @@ pub data IsLast (w : Wiring) (s : State) : List Item → List (List ℕ) → Typ
       IsLast w s (all_came front) (out.packet ∷ [])
   delivers : (packet : List ℕ) (front : List Event) → IsLast w s (Given packet ∷ all_came front) (packet ∷ [])
 
--- The turns' copies are a beginning of what was sent, in order and once each; what was received is a beginning of what the turns
+-- The turns' copies are a prefix of what was sent, in order and once each; what was received is a prefix of what the turns
 -- sent back and the host delivered, joined in order, and of what an unfinished turn's run gave or an unfinished delivery has, in order
 -- and once each. `end` is the state after the last turn, delivery or wait.
 pub record Delivers (w : Wiring) (start : ℕ) (items : List Item) (turns : List Kept) (deliveries : List Delivered) (waits : List Waited)

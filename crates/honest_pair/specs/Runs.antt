@@ -4,8 +4,8 @@ use Rattle.bpf_maps.specs.Beginning.{given}
 use Rattle.std.specs.Prelude.{ℕ, ◌≡◌, ◌<◌, ◌^◌, List, [], ◌∷◌, length, map}
 use Rattle.bpf_verify.specs.Consistent.{Accepted}
 use Rattle.xen_turns.specs.declared.wiring.Wiring.{Wiring as BackWiring}
-use Rattle.xen_buffers.specs.declared.wiring.Wiring.{Wiring as FrontWiring}
-use Rattle.xen_front.specs.declared.state.State.{State as FrontState}
+use Rattle.xen_buffers.specs.declared.wiring.FrontWiring.{FrontWiring}
+use Rattle.xen_front.specs.declared.state.FrontState.{FrontState}
 use Rattle.honest_pair.specs.Machine.Acts.{HasActed, front_of}
 use Rattle.honest_pair.specs.Machine.Law.{Honest, IsNewFront}
 use Rattle.honest_pair.specs.Machine.Layout.{IsBack, IsFront}
@@ -52,7 +52,7 @@ pub record IsCallRun (program : Accepted) (start : ℕ) (calls : List Call) (r :
 --   core, alone, own: the back's events, the packets of its deliveries and the numbers of its waits, and no others, are a run of its queue
 --     with the report's turns, deliveries, waits, history and totals.
 --   plain: if no event is a delivery or a wait, the calls are the entries of a core run.
---   acts: the front's events are the traces of its sends, posts and polls, each a row of its table, and a beginning of one more; what was
+--   acts: the front's events are the traces of its sends, posts and polls, each a row of its table, and a prefix of one more; what was
 --     sent is what they took, and what was received what they gave.
 --   faithful: each read of either end answers what was last written to its place, else its opening word.
 --   honest: neither end is halted, and a back that sleeps with no notice pending, while the front is inside no send, has answered all;

@@ -15,11 +15,11 @@ use Rattle.xen_back.specs.declared.delivery.underway.Delivering.{Delivering as C
 use Rattle.xen_back.specs.declared.queue.Queue.{Queue}
 use Rattle.xen_turns.specs.declared.state.State.{State as BackState}
 use Rattle.xen_turns.specs.declared.wiring.Wiring.{Wiring as BackWiring}
-use Rattle.xen_buffers.specs.declared.wiring.Wiring.{Wiring as FrontWiring}
+use Rattle.xen_buffers.specs.declared.wiring.FrontWiring.{FrontWiring}
 use Rattle.xen_front.specs.Fronts.{busy, rest as front_rest, state_of as front_state, wiring_of as front_wiring}
 use Rattle.xen_front.specs.Given.{Given}
 use Rattle.xen_front.specs.declared.front.Front.{Front}
-use Rattle.xen_front.specs.declared.state.State.{State as FrontState}
+use Rattle.xen_front.specs.declared.state.FrontState.{FrontState}
 use Rattle.honest_pair.specs.Machine.Halves.{Half, Over, HasRun, second_half}
 use Rattle.honest_pair.specs.Machine.Law.{IsBytes}
 use Rattle.honest_pair.specs.Machine.Log.{back_item, back_items, log}

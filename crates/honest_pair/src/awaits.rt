@@ -1,6 +1,6 @@
 //! What the back has asked of the front.
 
-/// Which posted buffers the back is to be told of: `pages` rx slots from `index` on.
+/// The posted buffers of which the back is to be told: `pages` rx slots from `index` on.
 #[derive(Clone, Copy, Debug, PartialEq, Eq)]
 pub enum Awaits {
     /// None, or a notice was taken since.

@@ -1,6 +1,6 @@
 //! What the back does for its host.
 
-/// What the back does for its host, between turns or in its sleep.
+/// A call of the back's host, between turns or in its sleep.
 #[derive(Clone, Copy, Debug, PartialEq, Eq)]
 pub enum Calling {
     Nothing,

@@ -11,7 +11,7 @@ use std::alloc::AllocError;
 use xdp_world::{Begun, WaitBegun, Waited};
 use xen_back::Awaited;
 
-/// What the back does for its host after an event of a call that goes on, or doesn't.
+/// Returns what the back does for its host after an event of a call that goes on, or doesn't.
 fn calls_while(call: Calling, going: bool) -> Calling
     ensures { result ≡ calls_while_spec call going }
 {
@@ -28,7 +28,7 @@ fn answer_at(waits: &[Waited], at: usize) -> Option<Awaited>
     }
 }
 
-/// What the back awaits after an event of a wait for `pages` slots from `index` on.
+/// Returns what the back awaits after an event of a wait for `pages` slots from `index` on.
 fn awaits_after(index: u32, pages: u32, answer: Option<Awaited>) -> Awaits
     ensures { result ≡ awaits_after_spec index pages answer }
 {
@@ -40,7 +40,7 @@ fn awaits_after(index: u32, pages: u32, answer: Option<Awaited>) -> Awaits
     }
 }
 
-/// Whether a wait goes on.
+/// Returns whether a wait goes on.
 fn is_unanswered(answer: &Option<Awaited>) -> bool
     ensures { result ≡ is_none answer.now }
 {
@@ -49,7 +49,7 @@ fn is_unanswered(answer: &Option<Awaited>) -> bool
 
 impl Pair<'_, '_, '_> {
     /// The next event of the back's delivery. If it is over by that, the back is as before it, asleep or awake.
-    pub(crate) fn carry_on(&mut self) -> Result<(), AllocError>
+    pub(crate) fn step_delivery(&mut self) -> Result<(), AllocError>
         requires { self.old.calling ≡ Calling.Delivery }
         ensures { OnOk result (Does self.old self.new BackStep) }
     {
@@ -62,7 +62,7 @@ impl Pair<'_, '_, '_> {
     }
 
     /// The next event of the back's wait. If it is over by that, the back is as before it, asleep or awake.
-    pub(crate) fn look_on(&mut self, pages: u32) -> Result<(), AllocError>
+    pub(crate) fn step_wait(&mut self, pages: u32) -> Result<(), AllocError>
         requires { self.old.calling ≡ Calling.Wait pages }
         ensures { OnOk result (Does self.old self.new BackStep) }
     {

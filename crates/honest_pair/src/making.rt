@@ -5,15 +5,15 @@ ghost use Rattle.xdp_world.specs.Buffers.{granted_from};
 
 use std::alloc::{AllocError, Global};
 use xdp_world::{BACK, Layout};
-use xen_front::{ACCEPTS_WHOLE, Buffer, Front, FrontDesc};
+use xen_front::{ACCEPTS_WHOLE, Front, FrontDesc, GrantedPage};
 use xen_ring::Port;
 
 /// The front of a pair, over these buffers.
 pub(crate) fn front<'p>(
     alloc: Global,
     layout: &'p Layout,
-    tx: &'p [Buffer],
-    rx: &'p [Buffer],
+    tx: &'p [GrantedPage],
+    rx: &'p [GrantedPage],
     start: u32,
 ) -> Result<Front<'p>, AllocError>
     requires layout { layout.now.queues ≡ 1 }

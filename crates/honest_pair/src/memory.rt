@@ -8,9 +8,9 @@ use xen_page::Place;
 use xen_ring::{REQ_EVENT, REQ_PROD, RSP_EVENT, RSP_PROD};
 use xen_steps::header;
 
-/// How many words a frame has.
+/// The number of words that a frame has.
 const WORDS: u32 = 1024;
-/// How many words there are: 531 frames, the back's, sixteen of the grant table, two rings and 512 buffers.
+/// The number of words: 531 frames, the back's, sixteen of the grant table, two rings and 512 buffers.
 const TOTAL: usize = 543_744;
 /// The frames of the two rings.
 const TX_RING: u32 = 17;
@@ -139,7 +139,7 @@ impl Memory {
         }
     }
 
-    /// Whether the back's port was pending, which it is no longer. A back that was woken by it awaits nothing.
+    /// Clears the back's port, and returns whether it was pending. A back that was woken by it awaits nothing.
     pub fn take(&mut self) -> bool
         ensures was { result ≡ (memory_in self.old).pending }
         ensures now { memory_in self.new ≡ taken (memory_in self.old) }
@@ -152,7 +152,7 @@ impl Memory {
         pending
     }
 
-    /// What the back awaits from now on.
+    /// Sets what the back awaits from now on.
     pub fn awaits(&mut self, awaits: Awaits)
         ensures { memory_in self.new ≡ record (memory_in self.old) { awaits = awaits } }
     {

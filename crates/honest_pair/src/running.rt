@@ -15,7 +15,7 @@ use bpf_vm::Buffer;
 use std::alloc::{AllocError, Global};
 use xdp_world::{Layout, Report, World, buffers_from};
 
-/// What a run of a pair gave: the back's report, and the packets that the front received.
+/// The outcome of a run of a pair: the back's report, and the packets that the front received.
 #[derive(Drop)]
 pub struct PairRun {
     pub report: Report,

@@ -13,10 +13,10 @@ use crate::pair::Pair;
 use std::alloc::AllocError;
 use xdp_world::Kept;
 use xen_back::Want;
-use xen_front::{Buffer, RxTurn};
+use xen_front::{GrantedPage, RxTurn};
 use xen_page::Table;
 
-/// Whether this turn is there and is idle.
+/// Returns whether this turn is there and is idle.
 fn is_idle(turns: &[Kept], at: usize) -> bool
     ensures { result ≡ is_idle_spec (slice_get turns.now at) }
 {
@@ -26,7 +26,7 @@ fn is_idle(turns: &[Kept], at: usize) -> bool
     }
 }
 
-/// What is known of every list of bytes. A law, empty at run time.
+/// A law of every list of bytes, empty at run time.
 fn are_bytes(bytes: &[u8])
     ensures { All IsByte bytes.now }
 {
@@ -41,7 +41,7 @@ impl Pair<'_, '_, '_> {
     {
         // The borrow checker has to see these types in the body.
         let _table: Option<&Table> = None;
-        let _buffer: Option<&Buffer> = None;
+        let _buffer: Option<&GrantedPage> = None;
         let alloc = *self.received.allocator();
         match self.front.received() {
             RxTurn::Packet { bytes, .. } => {
@@ -62,7 +62,7 @@ impl Pair<'_, '_, '_> {
     {
         // The borrow checker has to see these types in the body.
         let _table: Option<&Table> = None;
-        let _buffer: Option<&Buffer> = None;
+        let _buffer: Option<&GrantedPage> = None;
         let want = self.front.want();
         match want {
             Want::Done => return Ok(()),
@@ -88,7 +88,7 @@ impl Pair<'_, '_, '_> {
     }
 
     /// The next event of the back's turn, and a halted back's none.
-    fn go_on(&mut self) -> Result<(), AllocError>
+    fn step_turn(&mut self) -> Result<(), AllocError>
         requires asleep { self.old.asleep ≡ false }
         requires calls { self.old.calling ≡ Calling.Nothing }
         ensures { OnOk result (Does self.old self.new BackStep) }
@@ -101,7 +101,7 @@ impl Pair<'_, '_, '_> {
     }
 
     /// The next event of a back that does nothing for its host.
-    fn rest_or_go_on(&mut self) -> Result<(), AllocError>
+    fn wake_or_step_turn(&mut self) -> Result<(), AllocError>
         requires { self.old.calling ≡ Calling.Nothing }
         ensures { OnOk result (Does self.old self.new BackStep) }
     {
@@ -109,7 +109,7 @@ impl Pair<'_, '_, '_> {
             self.wake();
             Ok(())
         } else {
-            self.go_on()
+            self.step_turn()
         }
     }
 
@@ -118,9 +118,9 @@ impl Pair<'_, '_, '_> {
         ensures { OnOk result (Does self.old self.new BackStep) }
     {
         match self.calling {
-            Calling::Delivery => self.carry_on(),
-            Calling::Wait { pages } => self.look_on(pages),
-            Calling::Nothing => self.rest_or_go_on(),
+            Calling::Delivery => self.step_delivery(),
+            Calling::Wait { pages } => self.step_wait(pages),
+            Calling::Nothing => self.wake_or_step_turn(),
         }
     }
 }

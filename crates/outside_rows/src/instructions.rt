@@ -22,8 +22,8 @@ fn text(alloc: Global, hex: &str) -> Result<String, AllocError> {
     }
 }
 
-/// What an instruction of arithmetic leaves in a destination that held `dst`, or whether a jump is taken; `src` is in
-/// the source register.
+/// Returns what an instruction of arithmetic leaves in a destination that held `dst`, or whether a jump is taken; `src` is in the
+/// source register.
 fn computed(insn: Insn, dst: u64, src: u64) -> Option<u64> {
     let value = |operand| match operand {
         Operand::Register(_) => src,

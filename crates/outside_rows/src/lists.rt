@@ -1,14 +1,14 @@
 //! Questions about the rows of keyed maps: whether they are taken, and which is found.
 
 use bpf_lists::KeyedRows;
-use bpf_note::Kind;
+use bpf_note::KeyKind;
 use std::alloc::{AllocError, Global};
 
-fn kind_of(word: &str, bytes: &str) -> Option<Kind> {
+fn kind_of(word: &str, bytes: &str) -> Option<KeyKind> {
     let bytes = bytes.parse().ok()?;
     match word {
-        "exact" => Some(Kind::Exact(bytes)),
-        "prefix" => Some(Kind::Prefix(bytes)),
+        "exact" => Some(KeyKind::Exact(bytes)),
+        "prefix" => Some(KeyKind::Prefix(bytes)),
         _ => None,
     }
 }

@@ -11,7 +11,7 @@ use xen_ring::{
 };
 use xen_steps::responses_shown;
 
-/// How many entries a producer shows.
+/// Returns the number of entries that a producer shows.
 fn shown(alloc: Global, count: Option<u32>) -> Result<String, AllocError>
     ensures { IfOk result (λ s. string_bytes s ≡ shown count) }
 {

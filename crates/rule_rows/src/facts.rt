@@ -1,7 +1,7 @@
 //! What is known before and after an instruction, as in a row: facts, a blank apart.
 
 use crate::values::{id, value};
-use bpf_note::{Kind, MapKey, MapShape, Note, Val};
+use bpf_note::{KeyKind, MapKey, MapShape, Note, Val};
 use std::alloc::Global;
 
 /// A fact of a note.
@@ -69,7 +69,7 @@ pub fn say_all(note: &mut Note, facts: &str) -> Option<()> {
     Some(())
 }
 
-/// What is known at a program's start, and those facts.
+/// Returns what is known at a program's start, and those facts.
 pub fn known(alloc: Global, facts: &str) -> Option<Note> {
     let mut note = Note::entry(alloc);
     say_all(&mut note, facts)?;
@@ -79,13 +79,13 @@ pub fn known(alloc: Global, facts: &str) -> Option<Note> {
 /// By what a list is looked up, as in `exact6` or `prefix4`, or how many constants there are, as in `constants64`.
 fn key(text: &str) -> Option<MapKey> {
     if let Some(bytes) = text.strip_prefix("exact") {
-        return Some(MapKey::Listed(Kind::Exact(bytes.parse().ok()?)));
+        return Some(MapKey::Listed(KeyKind::Exact(bytes.parse().ok()?)));
     }
     if let Some(bytes) = text.strip_prefix("constants") {
         return Some(MapKey::Constants(bytes.parse().ok()?));
     }
     let bytes = text.strip_prefix("prefix")?;
-    Some(MapKey::Listed(Kind::Prefix(bytes.parse().ok()?)))
+    Some(MapKey::Listed(KeyKind::Prefix(bytes.parse().ok()?)))
 }
 
 /// The entries of a map, and the counters of an entry.

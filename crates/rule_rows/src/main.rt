@@ -13,7 +13,7 @@ use crate::row::{Outcome, outcome_of};
 use std::alloc::{AllocError, Global};
 use std::io;
 
-/// What is said of a row, if it comes out otherwise than the row says.
+/// Returns what is said of a row, if it comes out otherwise than the row says.
 fn complaint(alloc: Global, number: u32, row: &str) -> Result<Option<String>, AllocError> {
     Ok(match outcome_of(alloc, row) {
         Outcome::AsWanted => None,

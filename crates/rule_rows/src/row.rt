@@ -9,7 +9,7 @@ use std::alloc::Global;
 /// The slot of each row's instruction.
 const SLOT: u32 = 7;
 
-/// What comes of a row.
+/// The outcome of a row.
 pub enum Outcome {
     AsWanted,
     Otherwise,
@@ -43,7 +43,7 @@ fn instruction(alloc: Global, text: &str) -> Option<Insn> {
     }
 }
 
-/// Where the instruction leads, if the rule speaks of it.
+/// Returns where the instruction leads, if the rule speaks of it.
 fn answer(
     alloc: Global,
     insn: &Insn,
@@ -59,7 +59,7 @@ fn answer(
     }
 }
 
-/// Whether one way leads to the slot of a text, with what was known and the facts of the text: `8 r2=5`.
+/// Returns whether one way leads to the slot of a text, with what was known and the facts of the text: `8 r2=5`.
 fn is_way(alloc: Global, text: &str, note: &Note, way: &Successor) -> Option<bool> {
     let (slot, facts) = text.split_once(' ').unwrap_or((text, ""));
     let slot: u32 = slot.parse().ok()?;
@@ -68,7 +68,7 @@ fn is_way(alloc: Global, text: &str, note: &Note, way: &Successor) -> Option<boo
     Some(slot == way.pc && way.note.same_as(&wanted))
 }
 
-/// Whether both ways are those of two texts.
+/// Returns whether both ways are those of two texts.
 fn are_ways(
     alloc: Global,
     texts: (&str, &str),
@@ -80,7 +80,7 @@ fn are_ways(
     Some(is_next && is_target)
 }
 
-/// Whether an answer is the one of a text: a cause, as `V7`, `none`, a way, or two, as `8 r2=0..4, 10 r2=5..9`.
+/// Returns whether an answer is the one of a text: a cause, as `V7`, `none`, a way, or two, as `8 r2=0..4, 10 r2=5..9`.
 fn is_wanted(
     alloc: Global,
     text: &str,
@@ -101,7 +101,7 @@ fn is_wanted(
     }
 }
 
-/// What comes of the row of an instruction.
+/// Returns what comes of the row of an instruction.
 fn of_instruction(alloc: Global, before: &str, insn: &str, wanted: &str) -> Option<bool> {
     let (shapes, facts) = maps(alloc, before)?;
     let note = known(alloc, facts)?;
@@ -110,13 +110,13 @@ fn of_instruction(alloc: Global, before: &str, insn: &str, wanted: &str) -> Opti
     is_wanted(alloc, wanted, &note, &answer)
 }
 
-/// What comes of the row of a join.
+/// Returns what comes of the row of a join.
 fn of_join(alloc: Global, left: &str, right: &str, wanted: &str) -> Option<bool> {
     let joined = join(alloc, &known(alloc, left)?, &known(alloc, right)?).ok()?;
     Some(joined.same_as(&known(alloc, wanted)?))
 }
 
-/// What comes of the row of whether a note covers another.
+/// Returns what comes of the row of whether a note covers another.
 fn of_covers(alloc: Global, left: &str, right: &str, wanted: &str) -> Option<bool> {
     let is_covered = covers(&known(alloc, left)?, &known(alloc, right)?);
     match wanted {
@@ -146,7 +146,7 @@ fn judged(alloc: Global, row: &str) -> Option<bool> {
     of_instruction(alloc, before, insn, wanted)
 }
 
-/// What comes of a row.
+/// Returns what comes of a row.
 pub fn outcome_of(alloc: Global, row: &str) -> Outcome {
     match judged(alloc, row) {
         Some(is_wanted) => Outcome::from(is_wanted),

@@ -68,7 +68,7 @@ fn word(text: &str) -> Option<Val> {
     }
 }
 
-/// What is known of a register or of a kept stack slot.
+/// Returns what is known of a register or of a kept stack slot.
 pub fn value(text: &str) -> Option<Val> {
     if let Some(known) = word(text) {
         return Some(known);

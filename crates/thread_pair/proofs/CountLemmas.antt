@@ -10,8 +10,8 @@ use Rattle.xen_turns.specs.declared.turn.Turn.{Turn}
 use Rattle.xen_turns.specs.declared.turn.Turn.TheVariants as shown
 use Rattle.thread_pair.specs.Answering.{reply, shown_reply, answer_to}
 use Rattle.thread_pair.specs.Rounds.{IsRest, Round, counted, delivered, halt_in, is_few, is_lost, is_refusal, is_run, is_sent, next_after, next_of, slots_by, slots_in, with_delivery, with_turn}
-use Rattle.thread_pair.specs.declared.host.Host.{Host}
-use Rattle.thread_pair.specs.declared.host.Host.TheVariants as host
+use Rattle.thread_pair.specs.declared.host.OnPass.{OnPass}
+use Rattle.thread_pair.specs.declared.host.OnPass.TheVariants as host
 use Rattle.thread_pair.specs.declared.next.Next.{Next}
 use Rattle.thread_pair.specs.declared.next.Next.TheVariants as next
 use Rattle.thread_pair.specs.declared.report.BackRow.{BackRow}
@@ -152,7 +152,7 @@ counts_few rs row is =
     (omega (arith, c, c'), omega (arith, f, f'), omega (arith, s, s'), omega (arith, n, n'), omega (arith, l, l'))
 
 -- what is sent because of a turn is what the host that sees it sends
-pub reply_shown : (h : Host) (u : Turned) (s : Turn) → Shows u s → shown_reply h s ≡ reply h u
+pub reply_shown : (h : OnPass) (u : Turned) (s : Turn) → Shows u s → shown_reply h s ≡ reply h u
 reply_shown host.Takes u s h = refl
 reply_shown host.Answers Idle shown.Idle h = refl
 reply_shown host.Answers (Ran number packet ops slots) (shown.Ran a n b o k) h = ap (λ x. answer_to x b.now) h.0 ∙ ap (answer_to _) h.2

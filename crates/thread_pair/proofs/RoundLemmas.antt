@@ -15,12 +15,12 @@ use Rattle.xen_page.proofs.AccessLemmas.{performs_none, performs_then}
 use Rattle.xen_steps.specs.Drive.{accesses}
 use Rattle.thread_pair.specs.Answering.{shown_reply}
 use Rattle.thread_pair.specs.Rounds.{IsRoundOver, silent, answered, next_of, slots_in, with_delivery, with_turn}
-use Rattle.thread_pair.specs.declared.host.Host.{Host}
+use Rattle.thread_pair.specs.declared.host.OnPass.{OnPass}
 use Rattle.thread_pair.specs.declared.next.Next.{Next}
 use Rattle.thread_pair.specs.declared.report.BackRow.{BackRow}
 use Rattle.thread_pair.proofs.CountLemmas.{counts_answer, counts_more, next_shown, reply_shown, slots_shown}
 
-pub silent_round : {S : Type 0} (log : S → Option (List Access)) (gives : S → Access → S → Type 0) (h : Host) (old new : Queue) (row row' : BackRow) (n : Next) (slots : ℕ) (bus bus' : S) (ops ops' : List Op) (s : Turn) →
+pub silent_round : {S : Type 0} (log : S → Option (List Access)) (gives : S → Access → S → Type 0) (h : OnPass) (old new : Queue) (row row' : BackRow) (n : Next) (slots : ℕ) (bus bus' : S) (ops ops' : List Op) (s : Turn) →
     IsTurnOver log gives old new s bus bus' ops ops' → row' ≡ with_turn s row → n ≡ next_of s → slots ≡ slots_in s → shown_reply h s ≡ None →
     IsRoundOver log gives h old new row row' n slots bus bus' ops ops'
 silent_round log gives h old new row row' n slots bus bus' ops ops' s o counts goes done none = record {
@@ -38,7 +38,7 @@ silent_round log gives h old new row row' n slots bus bus' ops ops' s o counts g
   same = o.same;
 }
 
-pub answered_round : {S : Type 0} (log : S → Option (List Access)) (gives : S → Access → S → Type 0) (h : Host) (old mid new : Queue) (row told row' : BackRow) (n : Next) (slots : ℕ) (bus between bus' : S) (ops ops' : List Op) (s : Turn)
+pub answered_round : {S : Type 0} (log : S → Option (List Access)) (gives : S → Access → S → Type 0) (h : OnPass) (old mid new : Queue) (row told row' : BackRow) (n : Next) (slots : ℕ) (bus between bus' : S) (ops ops' : List Op) (s : Turn)
     (packet : List ℕ) (d : Delivery) → IsTurnOver log gives old mid s bus between ops ops' → told ≡ with_turn s row → n ≡ next_of s → slots ≡ slots_in s → shown_reply h s ≡ Some packet →
     IsDelivered log gives mid new Whole packet d between bus' → row' ≡ with_delivery d told → IsRoundOver log gives h old new row row' n slots bus bus' ops ops'
 answered_round log gives h old mid new row told row' n slots bus between bus' ops ops' s packet d o counts goes done some sent noted = record {

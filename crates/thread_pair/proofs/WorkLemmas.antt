@@ -15,10 +15,10 @@ use Rattle.xen_steps.specs.Drive.{accesses}
 use Rattle.xen_steps.specs.Event.{Event}
 use Rattle.thread_pair.specs.Rounds.{IsRound, Round, counted}
 use Rattle.thread_pair.specs.Working.{IsAtRest, IsWiredFor, IsWorkOver, Task, Works, more}
-use Rattle.thread_pair.specs.declared.host.Host.{Host}
+use Rattle.thread_pair.specs.declared.host.OnPass.{OnPass}
 use Rattle.thread_pair.specs.declared.report.BackRow.{BackRow}
 
-pub next_round : (h : Host) (old new : Queue) (start n : ℕ) (ops ops' : List Op) (xs : List Access) (t p : List Event) (u : Turned) (sent : Option Delivery) →
+pub next_round : (h : OnPass) (old new : Queue) (start n : ℕ) (ops ops' : List Op) (xs : List Access) (t p : List Event) (u : Turned) (sent : Option Delivery) →
     IsRound h (wiring_of old) (state_of old) t p (state_of new) u sent → ops' ≡ ops ++ labels t → wiring_of new ≡ wiring_of old → (rs : List Round) → length rs ≡ n →
     Works h (wiring_of old) (started_at start) rs ops xs (state_of old) →
     (length ((u, sent) ∷ rs) ≡ n + 1) × Works h (wiring_of new) (started_at start) ((u, sent) ∷ rs) ops' (xs ++ (accesses t ++ accesses p)) (state_of new)

@@ -8,8 +8,8 @@ use Rattle.xen_turns.specs.Delivered.{is_frame}
 use Rattle.xen_turns.specs.Turned.{Turned, Ran}
 use Rattle.xen_turns.specs.declared.turn.Turn.{Turn}
 use Rattle.xen_turns.specs.declared.turn.Turn.TheVariants as shown
-use Rattle.thread_pair.specs.declared.host.Host.{Host}
-use Rattle.thread_pair.specs.declared.host.Host.TheVariants as host
+use Rattle.thread_pair.specs.declared.host.OnPass.{OnPass}
+use Rattle.thread_pair.specs.declared.host.OnPass.TheVariants as host
 
 -- a packet, the two addresses of its Ethernet header, of six bytes each, exchanged
 abbrev pub exchanged : List ℕ → List ℕ
@@ -27,11 +27,11 @@ answer_to action.Drop packet = None
 answer_to action.Tx packet = None
 
 -- what is sent because of a turn: nothing by a host that takes what it is passed
-abbrev pub reply : Host → Turned → Option (List ℕ)
+abbrev pub reply : OnPass → Turned → Option (List ℕ)
 reply host.Answers (Ran number packet ops slots) = answer_to (action_of number) packet
 reply h u = None
 
 -- what is sent because of a turn as a host sees it
-abbrev pub shown_reply : Host → Turn → Option (List ℕ)
+abbrev pub shown_reply : OnPass → Turn → Option (List ℕ)
 shown_reply host.Answers (shown.Ran a number packet ops slots) = answer_to a packet.now
 shown_reply h u = None

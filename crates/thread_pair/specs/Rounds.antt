@@ -21,7 +21,7 @@ use Rattle.xen_page.specs.declared.access.Access.{Access}
 use Rattle.xen_steps.specs.Drive.{accesses}
 use Rattle.xen_steps.specs.Event.{Event}
 use Rattle.thread_pair.specs.Answering.{reply}
-use Rattle.thread_pair.specs.declared.host.Host.{Host}
+use Rattle.thread_pair.specs.declared.host.OnPass.{OnPass}
 use Rattle.thread_pair.specs.declared.next.Next.{Next}
 use Rattle.thread_pair.specs.declared.next.Next.TheVariants as next
 use Rattle.thread_pair.specs.declared.report.BackRow.{BackRow}
@@ -33,7 +33,7 @@ Round = Turned × Option Delivery
 
 -- A round from a state: the turn's trace, the trace of the answer's delivery, and the state after both. Each packet that calls for an
 -- answer gets it before the next turn begins, and nothing else is delivered.
-pub data IsRound (h : Host) (w : Wiring) (s : State) : List Event → List Event → State → Turned → Option Delivery → Type 0 where
+pub data IsRound (h : OnPass) (w : Wiring) (s : State) : List Event → List Event → State → Turned → Option Delivery → Type 0 where
   silent : (t : List Event) (end : State) (u : Turned) → IsTurn w s t end u → reply h u ≡ None → IsRound h w s t [] end u None
   answered : (t p : List Event) (mid end : State) (u : Turned) (packet : List ℕ) (d : Delivery) → IsTurn w s t mid u →
       reply h u ≡ Some packet →
@@ -151,7 +151,7 @@ CanCount d = (d.sent < 4294967295) × (d.few < 4294967295) × (d.refused < 42949
 -- A round is over: its traces are a round's, the bus went through its accesses, its labels are what the seat's operations grew by,
 -- the row counts it, and its turn says what comes next and how many slots are done with.
 pub record IsRoundOver {S : Type 0} (log : S → Option (List Access)) (gives : S → Access → S →
-    Type 0) (h : Host) (old new : Queue) (row row' : BackRow)
+    Type 0) (h : OnPass) (old new : Queue) (row row' : BackRow)
     (n : Next) (slots : ℕ) (bus bus' : S) (ops ops' : List Op) : Type 0 where
   pub trace : List Event
   pub sending : List Event

@@ -1,11 +1,11 @@
 -- For proofs: no claim rests on this file.
 -- What a front has still to send.
 use Rattle.std.specs.Prelude.{ℕ, ◌++◌, ◌-◌, ◌<◌, ◌≡◌, List, [], ◌∷◌, nat_eq, if◌then◌else◌, IfSome, replicate, slice_get}
-use Rattle.xdp_load.specs.declared.packets.Packet.{Packet}
+use Rattle.xdp_load.specs.declared.packets.SentPacket.{SentPacket}
 use Rattle.thread_pair.specs.declared.outbox.Outbox.{Outbox}
 
 -- What a queue has still to send of these packets, in order, if it has sent the first so often.
-abbrev pub left_of : (queue sent : ℕ) → List Packet → List (List ℕ)
+abbrev pub left_of : (queue sent : ℕ) → List SentPacket → List (List ℕ)
 left_of queue sent [] = []
 left_of queue sent (p ∷ ps) = (if nat_eq p.queue queue then replicate (p.times - sent) p.bytes.items else []) ++ left_of queue 0 ps
 

@@ -18,7 +18,7 @@ use Rattle.xen_page.specs.declared.access.Access.{Access}
 use Rattle.xen_steps.specs.Drive.{accesses}
 use Rattle.xen_steps.specs.Event.{Event}
 use Rattle.thread_pair.specs.Rounds.{IsRest, IsRound, Round, counted}
-use Rattle.thread_pair.specs.declared.host.Host.{Host}
+use Rattle.thread_pair.specs.declared.host.OnPass.{OnPass}
 use Rattle.thread_pair.specs.declared.report.BackRow.{BackRow}
 use Rattle.thread_pair.specs.declared.shared.Shared.{Shared}
 
@@ -30,7 +30,7 @@ pub record Task : Type 0 where
   pub queues : ℕ
   pub ifindex : ℕ
   pub start : ℕ
-  pub host : Host
+  pub host : OnPass
 
 abbrev pub task_of : Accepted → List (Option MapList) → Shared → Task
 task_of program lists shared = record {
@@ -43,7 +43,7 @@ task_of program lists shared = record {
 }
 
 -- The task that a setup with lists gives, and what the host does.
-abbrev pub task_for : Accepted → Listed → Host → Task
+abbrev pub task_for : Accepted → Listed → OnPass → Task
 task_for program listed h = record {
   program = program;
   lists = listed.lists.items;
@@ -72,7 +72,7 @@ pub record IsWiredFor (task : Task) (n : ℕ) (w : Wiring) : Type 0 where
   pub number : w.queue ≡ n
 
 -- Rounds from a state on, each from the last's, the latest first, and the counter operations and the accesses of them all.
-pub data Works (h : Host) (w : Wiring) (s : State) : List Round → List Op → List Access → State → Type 0 where
+pub data Works (h : OnPass) (w : Wiring) (s : State) : List Round → List Op → List Access → State → Type 0 where
   nothing : Works h w s [] [] [] s
   more : (rs : List Round) (ops : List Op) (xs : List Access) (mid end : State) (t p : List Event) (u : Turned)
       (sent : Option Delivery) → Works h w s rs ops xs mid →

@@ -3,7 +3,7 @@ ghost use Rattle.std.specs.Prelude.{◌≡◌, ◌≤◌, ◌+◌, ◌++◌, ◌
 ghost use Rattle.xen_turns.specs.Delivered.{is_frame};
 ghost use Rattle.thread_pair.specs.Answering.{answer_to, exchanged, frame_answer, shown_reply};
 
-use crate::host::Host;
+use crate::host::OnPass;
 use bpf_vm::Action;
 use std::alloc::{AllocError, Global};
 use xen_back::Turn;
@@ -50,7 +50,7 @@ fn exchange(bytes: &mut Vec<u8>, packet: &[u8])
     add(bytes, rest);
 }
 
-/// Whether a packet has an Ethernet header, and no more bytes than a packet can have.
+/// Returns whether a packet has an Ethernet header, and no more bytes than a packet can have.
 fn is_frame(packet: &[u8]) -> bool
     ensures { result ≡ is_frame packet.now }
 {
@@ -94,13 +94,13 @@ impl Answer {
     }
 
     /// Writes what the host answers to a turn, if it answers.
-    pub fn write(&mut self, host: Host, turn: &Turn<'_>) -> bool
+    pub fn write(&mut self, host: OnPass, turn: &Turn<'_>) -> bool
         ensures written { result ≡ true → shown_reply host turn.now ≡ Some self.new.bytes.items }
         ensures none { result ≡ false → shown_reply host turn.now ≡ None }
     {
         match host {
-            Host::Takes => false,
-            Host::Answers => match turn {
+            OnPass::Takes => false,
+            OnPass::Answers => match turn {
                 Turn::Ran { action, packet, .. } => self.write_to(*action, packet),
                 Turn::Idle | Turn::Refused { .. } | Turn::Halted { .. } => false,
             },

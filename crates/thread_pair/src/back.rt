@@ -10,7 +10,7 @@ ghost use Rattle.thread_pair.specs.Resources.{IsBackOf};
 ghost use Rattle.thread_pair.specs.Working.{IsWiredFor, IsWork, IsWorkOver, task_of};
 
 use crate::gate::Gate;
-use crate::host::Host;
+use crate::host::OnPass;
 use crate::next::Next;
 use crate::report::BackRow;
 use crate::resources::BackResources;
@@ -47,7 +47,7 @@ pub(crate) struct SeatBack {
     pub queues: usize,
     pub ifindex: u32,
     pub start: u32,
-    pub host: Host,
+    pub host: OnPass,
     pub turns: u32,
 }
 

@@ -5,7 +5,7 @@ use crossbeam_utils::sync::{Parker, Unparker};
 use std::sync::Wait;
 use std::sync::atomic::{AtomicBool, Ordering};
 
-/// How often a worker looks before it sleeps: seven times after ever longer spins, and then giving up its processor.
+/// The number of times a worker looks before it sleeps: seven times after ever longer spins, and then giving up its processor.
 const LOOKS: u32 = 11;
 
 /// A worker's bell, which its peer rings once there is something for it to do. Sleep and wake-up cost far more than a

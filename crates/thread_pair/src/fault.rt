@@ -5,7 +5,7 @@ ghost use Rattle.thread_pair.specs.declared.fault.PairFault.TheVariants.{Memory}
 use std::alloc::{AllocError, AllocFailed};
 use thiserror::Error;
 
-/// Why queues were not run to their end.
+/// The reason why queues were not run to their end.
 #[derive(Clone, Copy, Debug, PartialEq, Eq, Error)]
 pub enum PairFault {
     #[error("out of memory")]

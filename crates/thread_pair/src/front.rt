@@ -11,12 +11,12 @@ use crate::resources::FrontResources;
 use crate::shared::Shared;
 use std::sync::Wait;
 use std::thread::JoinHandle;
-use xdp_load::Packet;
+use xdp_load::SentPacket;
 use xen_front::{Front, RxTurn};
 use xen_page::{Bus, PageBus};
 use xen_ring::Ports;
 
-/// How many rx requests a front keeps posted.
+/// The number of rx requests that a front keeps posted.
 const POSTED: u32 = 16;
 
 /// The bytes of a page.
@@ -25,7 +25,7 @@ const PAGE: usize = 4096;
 /// The thread of a front.
 pub(crate) type FrontThread = JoinHandle<FrontRow>;
 
-/// What a poll gave.
+/// The outcome of a poll.
 enum Polled {
     Idle,
     Packet,
@@ -38,16 +38,16 @@ struct Desk<'p> {
     queue: usize,
     outbox: Outbox<'p>,
     row: FrontRow,
-    /// How many tx slots were taken for packets, modulo 2^32.
+    /// The number of tx slots that were taken for packets, modulo 2^32.
     taken: u32,
-    /// How many of them were on their way at the last idle poll, and are since then.
+    /// The number of them that were on their way at the last idle poll, and are since then.
     on_way: u32,
     /// Posted rx slots that no packet on its way can need.
     spare: u32,
 }
 
 impl<'p> Desk<'p> {
-    fn new(queue: usize, packets: &'p [Packet]) -> Desk<'p> {
+    fn new(queue: usize, packets: &'p [SentPacket]) -> Desk<'p> {
         Desk {
             queue,
             outbox: Outbox::new(queue, packets),
@@ -61,8 +61,8 @@ impl<'p> Desk<'p> {
         }
     }
 
-    /// What comes after a poll that gave nothing: the end, a rest, or another round. `open` and `posted` are the unanswered tx
-    /// requests and the posted rx slots now, `settled` the tx slots that the back had done with before the poll; for the others
+    /// Returns what comes after a poll that gave nothing: the end, a rest, or another round. `open` and `posted` are the unanswered
+    /// tx requests and the posted rx slots now, `settled` the tx slots that the back had done with before the poll; for the others
     /// a packet may still come.
     fn after_idle(&mut self, open: u32, posted: u32, settled: u32, last: bool) -> Next {
         let on_way = open.max(self.taken.wrapping_sub(settled));
@@ -82,7 +82,7 @@ impl<'p> Desk<'p> {
     }
 }
 
-/// How many slots a packet takes, in either direction. All of them can be posted.
+/// Returns the number of slots that a packet takes, in either direction. All of them can be posted.
 fn slots_of(packet: &[u8]) -> usize
     ensures { length packet.now ≤ 65535 → result ≤ POSTED }
 {
@@ -183,7 +183,7 @@ fn act<B: Bus, I: Inbox>(
 pub(crate) fn work_front<R: Wait, I: Inbox>(
     rt: &R,
     inbox: &I,
-    packets: &[Packet],
+    packets: &[SentPacket],
     shared: &Shared,
     own: FrontResources<'_>,
 ) -> FrontRow

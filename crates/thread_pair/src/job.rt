@@ -4,7 +4,7 @@ use crate::shared::Shared;
 use bpf_verify::Verified;
 use xdp_load::Listed;
 
-/// What the threads of a run work on, and who hears of it.
+/// The work of the threads of a run, and those who hear of it.
 #[derive(Drop)]
 pub struct Job<'a, G, I> {
     /// The queues, the packets that each front sends, and the lists of the program's maps.
@@ -12,9 +12,9 @@ pub struct Job<'a, G, I> {
     pub program: &'a Verified,
     /// The most turns that a back makes.
     pub turns: u32,
-    /// What each back passes before a turn.
+    /// The gate that each back passes before a turn.
     pub gate: &'a G,
-    /// What is given each packet that comes back to a front.
+    /// The inbox that is given each packet that comes back to a front.
     pub inbox: &'a I,
     /// The bytes of a front thread's stack.
     pub stack: usize,

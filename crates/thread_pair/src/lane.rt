@@ -11,7 +11,8 @@ pub(crate) struct Lane {
     pub back: Bell,
     front_ended: AtomicBool,
     back_ended: AtomicBool,
-    /// How many tx slots the back has done with, modulo 2^32: their packet was answered, and what it sends for it is sent.
+    /// The number of tx slots with which the back has done, modulo 2^32: their packet was answered, and what it sends for it is
+    /// sent.
     settled: AtomicU32,
 }
 
@@ -34,7 +35,7 @@ impl Lane {
         self.back_ended.load(Ordering::SeqCst)
     }
 
-    /// How many tx slots the back has done with, modulo 2^32.
+    /// Returns the number of tx slots with which the back has done, modulo 2^32.
     pub fn settled(&self) -> u32 {
         self.settled.load(Ordering::SeqCst)
     }

@@ -32,7 +32,7 @@ mod starting;
 
 pub use fault::PairFault;
 pub use gate::{Gate, Open};
-pub use host::Host;
+pub use host::OnPass;
 pub use inbox::{Discard, Inbox};
 pub use job::Job;
 pub use pairing::{STACK, pair_over, pair_with};

@@ -1,6 +1,6 @@
 //! What a worker does after a turn or an activity.
 
-/// What comes next.
+/// The next act of a worker.
 pub(crate) enum Next {
     /// Another round, at once.
     Goes,

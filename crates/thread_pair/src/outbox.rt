@@ -2,19 +2,19 @@
 ghost use Rattle.std.specs.Prelude.{◌≡◌, ◌<◌, IsSome, drop, option_map, slice_get};
 ghost use Rattle.thread_pair.specs.Sending.{IsNext, left_of, still_to_send};
 
-use xdp_load::Packet;
+use xdp_load::SentPacket;
 
 /// The packets of a queue, in order, each as often as it is to be sent.
 #[derive(Drop)]
 pub(crate) struct Outbox<'p> {
     queue: usize,
-    left: &'p [Packet],
-    /// How often the first of them was sent.
+    left: &'p [SentPacket],
+    /// The number of times the first of them was sent.
     sent: u32,
 }
 
 impl<'p> Outbox<'p> {
-    pub fn new(queue: usize, packets: &'p [Packet]) -> Outbox<'p>
+    pub fn new(queue: usize, packets: &'p [SentPacket]) -> Outbox<'p>
         ensures { still_to_send result ≡ left_of queue 0 packets.now }
     {
         Outbox {

@@ -10,7 +10,7 @@ ghost use Rattle.thread_pair.specs.Working.{task_for, task_of, values_in};
 
 use crate::fault::PairFault;
 use crate::gate::Gate;
-use crate::host::Host;
+use crate::host::OnPass;
 use crate::inbox::{Discard, Inbox};
 use crate::job::Job;
 use crate::joining::{empty_rows, join_backs, join_fronts};
@@ -120,7 +120,7 @@ pub fn pair_with<R: Threads + Wait + Sync, G: Gate + Sync>(
     alloc: Global,
     listed: &Listed,
     program: &Verified,
-    host: Host,
+    host: OnPass,
     turns: u32,
     gate: &G,
 ) -> Result<PairReport, PairFault>

@@ -3,7 +3,7 @@
 use bpf_maps::Totals;
 use xen_back::Halt;
 
-/// What became of the host's answers to packets that the program passed on.
+/// The fate of the host's answers to packets that the program passed on.
 #[derive(Clone, Copy, Debug, PartialEq, Eq)]
 pub struct Deliveries {
     /// Answers that lie in buffers of the front.
@@ -23,8 +23,8 @@ impl Deliveries {
     };
 }
 
-/// What a back did: the packets that were copied, on which the program ran, those that were refused, why it has
-/// halted, if it has, and what became of the host's answers.
+/// The report of a back: the packets that were copied, on which the program ran, those that were refused, why it has halted, if it
+/// has, and what became of the host's answers.
 #[derive(Clone, Copy, Debug, PartialEq, Eq)]
 pub(crate) struct BackRow {
     pub copied: u64,
@@ -33,14 +33,14 @@ pub(crate) struct BackRow {
     pub deliveries: Deliveries,
 }
 
-/// What a front did: the packets that it sent, and those that came to it.
+/// The report of a front: the packets that it sent, and those that came to it.
 #[derive(Clone, Copy, Debug, PartialEq, Eq)]
 pub(crate) struct FrontRow {
     pub sent: u64,
     pub received: u64,
 }
 
-/// What one queue did.
+/// The report of one queue.
 #[derive(Clone, Copy, Debug, PartialEq, Eq)]
 pub struct PairRow {
     /// Packets that the front sent.
@@ -49,15 +49,15 @@ pub struct PairRow {
     pub copied: u64,
     /// Packets that the back refused.
     pub refused: u64,
-    /// Why the back has halted, if it has.
+    /// The reason why the back has halted, if it has.
     pub halted: Option<Halt>,
     /// Packets that came to the front: those that the program sent back, and the host's answers.
     pub received: u64,
-    /// What became of the host's answers.
+    /// The fate of the host's answers.
     pub deliveries: Deliveries,
 }
 
-/// What all queues did, in their order, and the counters that they leave.
+/// The reports of all queues, in their order, and the counters that they leave.
 #[derive(Drop)]
 pub struct PairReport {
     pub rows: Vec<PairRow>,

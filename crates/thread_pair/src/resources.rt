@@ -11,11 +11,11 @@ use crate::fault::PairFault;
 use crate::rings::{FIRST_GRANTED, make_ring};
 use crate::shared::Shared;
 use bpf_maps::CounterSeat;
-use bpf_vm::Buffer as PacketRoom;
+use bpf_vm::Buffer;
 use crossbeam_utils::sync::Parker;
 use std::alloc::{AllocError, Global};
 use xdp_world::{BACK, REFERENCES, buffers_from};
-use xen_front::{ACCEPTS_WHOLE, Buffer, Front, FrontDesc};
+use xen_front::{ACCEPTS_WHOLE, Front, FrontDesc, GrantedPage};
 use xen_page::Mapped;
 use xen_ring::Port;
 
@@ -24,20 +24,20 @@ const TX_BUFFERS: u32 = 2;
 
 const RX_BUFFERS: u32 = 258;
 
-/// What the back thread of a queue is given: its rings, room for a packet and for an answer, what it sleeps on, and its
-/// seat at the counters.
+/// The resources of a queue's back thread: its rings, room for a packet and for an answer, what it sleeps on, and its seat at the
+/// counters.
 #[derive(Drop)]
 pub(crate) struct BackResources {
     pub queue: usize,
     pub tx: Mapped,
     pub rx: Mapped,
-    pub room: PacketRoom,
+    pub room: Buffer,
     pub answer: Answer,
     pub parker: Parker,
     pub seat: CounterSeat,
 }
 
-/// What the front thread of a queue is given.
+/// The resources of a queue's front thread.
 #[derive(Drop)]
 pub(crate) struct FrontResources<'p> {
     pub queue: usize,
@@ -49,13 +49,13 @@ pub(crate) struct FrontResources<'p> {
 #[derive(Drop)]
 pub(crate) struct FrontPages {
     pub queue: usize,
-    pub tx: Vec<Buffer>,
-    pub rx: Vec<Buffer>,
+    pub tx: Vec<GrantedPage>,
+    pub rx: Vec<GrantedPage>,
     ghost tx_granted: { tx.items ≡ granted_from (514 * queue + 2) },
     ghost rx_granted: { rx.items ≡ granted_from (514 * queue + 258) },
 }
 
-/// What each back is given. Its rings are mapped.
+/// Returns what each back is given. Its rings are mapped.
 pub(crate) fn make_backs(
     alloc: Global,
     shared: &Shared,
@@ -77,7 +77,7 @@ pub(crate) fn make_backs(
         let first = REFERENCES * queue as u32;
         let tx = make_ring(shared, first)?;
         let rx = make_ring(shared, first + 1)?;
-        let room = PacketRoom::make(alloc)?;
+        let room = Buffer::make(alloc)?;
         let answer = Answer::make(alloc)?;
         backs.push(BackResources {
             queue,
@@ -139,7 +139,7 @@ fn make_front<'p>(
     Front::make(alloc, desc, ACCEPTS_WHOLE)
 }
 
-/// What each front is given.
+/// Returns what each front is given.
 pub(crate) fn make_fronts<'p>(
     alloc: Global,
     shared: &'p Shared,

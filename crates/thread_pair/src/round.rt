@@ -13,7 +13,7 @@ use xen_back::{Queue, Turn};
 use xen_netif::RxOffload;
 use xen_page::Bus;
 
-/// What comes after a round, and how many tx slots it answered.
+/// The next act after a round, and the number of tx slots that it answered.
 pub(crate) struct Round {
     pub next: Next,
     pub slots: u32,

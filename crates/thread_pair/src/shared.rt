@@ -4,7 +4,7 @@ ghost use Rattle.xdp_world.specs.Frames.{owners_of};
 ghost use Rattle.thread_pair.specs.declared.fault.PairFault.TheVariants.{Thread};
 
 use crate::fault::PairFault;
-use crate::host::Host;
+use crate::host::OnPass;
 use crate::lane::Lane;
 use crossbeam_utils::sync::Parker;
 use std::alloc::{AllocError, Global};
@@ -25,12 +25,12 @@ pub struct Shared {
     pub ifindex: u32,
     /// The index at which each ring begins.
     pub start: u32,
-    pub host: Host,
+    pub host: OnPass,
     ghost sized: { frames ≡ length (owners_of layout.queues) },
     ghost laned: { vec_len lanes ≡ layout.queues },
 }
 
-/// What the workers sleep on, in the queues' order.
+/// The parkers on which the workers sleep, in the queues' order.
 #[derive(Drop)]
 pub struct Parkers {
     pub fronts: Vec<Parker>,
@@ -57,7 +57,7 @@ fn make_lanes(alloc: Global, count: usize) -> Result<(Vec<Lane>, Parkers), Alloc
 
 impl Shared {
     /// Pages of zeros for the setup's queues, and what their workers sleep on.
-    pub fn make(alloc: Global, setup: &Setup, host: Host) -> Result<(Shared, Parkers), AllocError>
+    pub fn make(alloc: Global, setup: &Setup, host: OnPass) -> Result<(Shared, Parkers), AllocError>
         requires { setup.now.queues ≤ 8 }
         ensures queues { IfOk result (λ r. r.0.layout.queues ≡ setup.now.queues) }
         ensures numbers { IfOk result (λ r. (r.0.ifindex ≡ setup.now.ifindex) × (r.0.start ≡ setup.now.start)) }
@@ -79,7 +79,7 @@ impl Shared {
         Ok((shared, parkers))
     }
 
-    /// Whether the back of this queue has ended. It never has if there is no such queue.
+    /// Returns whether the back of this queue has ended. It never has if there is no such queue.
     pub fn has_back_ended(&self, queue: usize) -> bool {
         match self.lanes.get(queue) {
             Some(lane) => lane.has_back_ended(),

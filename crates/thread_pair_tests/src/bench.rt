@@ -6,8 +6,8 @@ use bpf_insn::decode;
 use bpf_maps::MapShape;
 use bpf_verify::{Verified, verify};
 use std::alloc::{AllocError, Global};
-use thread_pair::{Deliveries, Host, PairRow, Parkers, Shared};
-use xdp_load::{Listed, Packet, Setup};
+use thread_pair::{Deliveries, OnPass, PairRow, Parkers, Shared};
+use xdp_load::{Listed, SentPacket, Setup};
 use xen_page::{Bus, PageBus, Place};
 
 /// Adds the number of the queue and 1 to counter 1 of a map of two values, and passes the packet on. Its relocation is applied.
@@ -91,7 +91,7 @@ pub fn program(alloc: Global, slots: &[&str], shapes: &[MapShape]) -> Option<Ver
 }
 
 /// A setup of these packets alone.
-pub fn setup(alloc: Global, queues: usize, start: u32, packets: Vec<Packet>) -> Setup
+pub fn setup(alloc: Global, queues: usize, start: u32, packets: Vec<SentPacket>) -> Setup
     ensures { result.queues ≡ queues }
 {
     Setup {
@@ -111,9 +111,13 @@ pub fn setup(alloc: Global, queues: usize, start: u32, packets: Vec<Packet>) -> 
 const BYTES: [u8; 14] = [0, 1, 2, 3, 4, 5, 6, 7, 8, 9, 10, 11, 12, 13];
 
 /// Adds packets of 14 bytes, as many for each queue as `times` says.
-fn add_packets(alloc: Global, packets: &mut Vec<Packet>, times: &[u32]) -> Result<(), AllocError> {
+fn add_packets(
+    alloc: Global,
+    packets: &mut Vec<SentPacket>,
+    times: &[u32],
+) -> Result<(), AllocError> {
     for (queue, times) in times.iter().enumerate() {
-        packets.push(Packet {
+        packets.push(SentPacket {
             queue,
             bytes: Vec::from_slice(alloc, &BYTES)?,
             times: *times,
@@ -133,7 +137,7 @@ pub fn setup_of(alloc: Global, times: &[u32], start: u32) -> Option<Setup>
     }
 }
 
-/// What a run is over: a setup without lists, and its pages. Its threads' parkers are apart.
+/// The inputs of a run: a setup without lists, and its pages. Its threads' parkers are apart.
 #[derive(Drop)]
 pub struct Bench {
     pub listed: Listed,
@@ -149,10 +153,10 @@ impl Bench {
         requires { (1 ≤ setup.queues) × (setup.queues ≤ 8) }
         ensures { IfSome result (λ r. (vec_len r.1.fronts ≡ r.0.listed.setup.queues) × (vec_len r.1.backs ≡ r.0.listed.setup.queues)) }
     {
-        Bench::with_host(alloc, setup, Host::Takes)
+        Bench::with_host(alloc, setup, OnPass::Takes)
     }
 
-    pub fn with_host(alloc: Global, setup: Setup, host: Host) -> Option<(Bench, Parkers)>
+    pub fn with_host(alloc: Global, setup: Setup, host: OnPass) -> Option<(Bench, Parkers)>
         requires { (1 ≤ setup.queues) × (setup.queues ≤ 8) }
         ensures { IfSome result (λ r. (vec_len r.1.fronts ≡ r.0.listed.setup.queues) × (vec_len r.1.backs ≡ r.0.listed.setup.queues)) }
     {

@@ -4,7 +4,7 @@ use crate::fault::Fault;
 use crate::packet::Packets;
 use std::alloc::Global;
 
-/// What the pages are made of.
+/// The memory of which the pages are made.
 #[derive(Clone, Copy, Debug, PartialEq, Eq, Drop)]
 pub enum Memory {
     /// Words that threads may share, as a `PageBus` reaches them.
@@ -13,7 +13,7 @@ pub enum Memory {
     Plain,
 }
 
-/// What a line asks for, and how many times.
+/// The work that a line asks for, and the number of times.
 #[derive(Drop)]
 pub enum Work {
     /// `turn SIZE TIMES PROGRAM [SLOTS]`, or `plain-turn`: turns of packets of `size` bytes in that many
@@ -52,7 +52,7 @@ fn bytes(alloc: Global, word: Option<&str>) -> Result<Vec<u8>, Fault> {
     hex::decode(alloc, word).map_err(|_| Fault::Line)
 }
 
-/// What a line of turns asks for, by its words after the first.
+/// Returns what a line of turns asks for, by its words after the first.
 fn turns(alloc: Global, memory: Memory, words: [Option<&str>; 4]) -> Result<Work, Fault> {
     let [size, times, program, slots] = words;
     let slots = match slots {
@@ -67,7 +67,7 @@ fn turns(alloc: Global, memory: Memory, words: [Option<&str>; 4]) -> Result<Work
     })
 }
 
-/// What a line of deliveries asks for, by its words after the first.
+/// Returns what a line of deliveries asks for, by its words after the first.
 fn deliveries(memory: Memory, words: [Option<&str>; 2]) -> Result<Work, Fault> {
     let [size, times] = words;
     Ok(Work::Deliveries {

@@ -1,7 +1,7 @@
 //! The packets that a frontend publishes.
 ghost use Rattle.std.specs.Prelude.{◌≤◌};
 
-/// How many turns or deliveries are timed at once, if the ring has room for their packets.
+/// The number of turns or deliveries that are timed at once, if the ring has room for their packets.
 const BATCH: u32 = 16;
 
 /// The entries of a ring.
@@ -20,7 +20,7 @@ pub struct Packets {
     pub slots: u32,
 }
 
-/// How many pages as many bytes take, 1 to 16.
+/// Returns the number of pages that as many bytes take, 1 to 16.
 pub fn pages_of(size: usize) -> u32
     ensures { result ≤ 16 }
 {
@@ -35,7 +35,7 @@ impl Packets {
         Packets { size, slots }
     }
 
-    /// How many are published at once.
+    /// Returns the number that is published at once.
     pub fn batch(self) -> u32 {
         BATCH.min(RING / self.slots.max(1))
     }

@@ -19,7 +19,7 @@ pub const TX: u32 = 2;
 pub const RX: u32 = 3;
 
 const FIRST_PAGE: u32 = 4;
-/// How many pages packets lie in.
+/// The number of pages in which packets lie.
 const PAGES: u32 = FRAMES as u32 - FIRST_PAGE;
 /// The most slots that a packet takes, which netback allows (`XEN_NETBK_LEGACY_SLOTS_MAX` of Linux).
 const MOST_SLOTS: u32 = 18;

@@ -6,7 +6,7 @@ use crate::fault::Fault;
 use std::alloc::{AllocError, Global};
 use std::time::{Clock, Instant};
 
-/// How often something was done, and in how many nanoseconds; none if nothing was timed.
+/// The number of times something was done, and the nanoseconds that it took; none if nothing was timed.
 #[derive(Clone, Copy, Debug, PartialEq, Eq)]
 pub struct Timed {
     pub done: u32,

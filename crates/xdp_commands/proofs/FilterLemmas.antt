@@ -9,7 +9,7 @@ use Rattle.bpf_verify.specs.Consistent.{Accepted as Program}
 use Rattle.xdp_load.specs.Setup.{Packet}
 use Rattle.xdp_load.specs.SetupSeen.{packet_view}
 use Rattle.xdp_load.specs.Sound.{IsPacket}
-use Rattle.xdp_load.specs.declared.packets.Packet.{Packet as CodePacket}
+use Rattle.xdp_load.specs.declared.packets.SentPacket.{SentPacket as CodePacket}
 use Rattle.xdp_program.specs.Ran.{Ran}
 use Rattle.xdp_commands.specs.Filtering.{AreRuns, HasFiltered, Passed, inputs_of, passed_lines, passed_text}
 

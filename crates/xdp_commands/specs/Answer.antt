@@ -11,8 +11,8 @@ use Rattle.xdp_load.specs.Spot.{Refused as RefusedAt}
 use Rattle.xdp_load.specs.Spots.{IsSpotText}
 use Rattle.xdp_load.specs.Original.{IsRewritingFault, IsRewritingOf, RewrittenView}
 use Rattle.xdp_load.specs.Setup.{SetupView, text_of}
-use Rattle.xdp_load.specs.declared.fault.LoadFault.{LoadFault}
-use Rattle.xdp_load.specs.declared.fault.LoadFault.TheVariants.{Memory, Refused}
+use Rattle.xdp_load.specs.declared.fault.TextFault.{TextFault}
+use Rattle.xdp_load.specs.declared.fault.TextFault.TheVariants.{Memory, Refused}
 use Rattle.xdp_program.specs.Settings.{IsFirstFault, IsSetupOf}
 use Rattle.xdp_world.specs.declared.report.Report.{Report}
 use Rattle.xdp_commands.specs.declared.answer.Question.{Question}
@@ -30,7 +30,7 @@ use Rattle.xdp_commands.specs.Lines.{checked_text, executed_text, ran_text, sett
 use Rattle.xdp_commands.specs.PairLines.{paired_status, paired_text}
 use Rattle.xdp_commands.specs.Pairing.{IsPaired}
 use Rattle.xdp_commands.specs.declared.pairing.Paired.{Paired}
-use Rattle.thread_pair.specs.declared.host.Host.{Host}
+use Rattle.thread_pair.specs.declared.host.OnPass.{OnPass}
 use Rattle.xdp_commands.specs.Words.{Wanted, exec, check, explain, same, run, filter, pair, help, version}
 
 -- a text, and an exit status
@@ -71,7 +71,7 @@ BytesAnswer (Some program) (Some packet) said = PacketAnswer program packet said
 abbrev pub ExecAnswer : List ℕ → List ℕ → Said → Type 0
 ExecAnswer program packet said = BytesAnswer (hex_bytes program) (hex_bytes packet) said
 
-abbrev pub settings_refused : LoadFault → Said
+abbrev pub settings_refused : TextFault → Said
 settings_refused f = (settings_text f, 2)
 
 abbrev pub checked_answer : Result Accepted Refusal → Said
@@ -109,11 +109,11 @@ filtered_answer s c = (filtered_text s.names s.shapes c, program_status c)
 abbrev pub FilterAnswer : ListedView → Said → Type 0
 FilterAnswer x said = (c : Result Filtered Refusal) × Filters x c × (said ≡ filtered_answer x.setup c)
 
-abbrev pub paired_answer : Host → List (List ℕ) → Paired → Said
+abbrev pub paired_answer : OnPass → List (List ℕ) → Paired → Said
 paired_answer h names p = (paired_text h names p, paired_status p)
 
 -- the answer to a setup: by a run of its queues on threads, with its lists and at most `turns` turns each, beside host h
-abbrev pub PairAnswer : ℕ → Host → ListedView → Said → Type 0
+abbrev pub PairAnswer : ℕ → OnPass → ListedView → Said → Type 0
 PairAnswer turns h x said = (p : Paired) × IsPaired x turns h p × (said ≡ paired_answer h x.setup.names p)
 
 -- the answer to a setup of which this is asked
@@ -170,7 +170,7 @@ abbrev pub InputAnswer : Question → Option (List ℕ) → Option (List ℕ) �
 InputAnswer q old new said = (settings : List ℕ) × IsSettings old new settings × SettingsAnswer (AnswerTo q) (RefusedTo q) settings said
 
 -- the answer to the settings that a reader gives: by a run of their queues on threads
-abbrev pub InputPair : ℕ → Host → Option (List ℕ) → Option (List ℕ) → Said → Type 0
+abbrev pub InputPair : ℕ → OnPass → Option (List ℕ) → Option (List ℕ) → Said → Type 0
 InputPair turns h old new said = (settings : List ℕ) × IsSettings old new settings × SettingsAnswer (PairAnswer turns h) RefusedAnswer settings said
 
 -- the answer to what the words ask for, over a reader before and after
@@ -216,7 +216,7 @@ MayFailToRead (Some (pair turns h)) = Unit {0}
 MayFailToRead (Some (help t)) = ⊥
 MayFailToRead (Some version) = ⊥
 
--- the text is printed and the status given; or a write failed, the status is 4, and a beginning of the text is printed
+-- the text is printed and the status given; or a write failed, the status is 4, and a prefix of the text is printed
 abbrev pub Prints : Option (List ℕ) → Option (List ℕ) → Said → ℕ → Type 0
 Prints held written said status =
     ((status ≡ said.1) × Appends held written said.0) ⊎

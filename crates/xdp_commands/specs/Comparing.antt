@@ -16,7 +16,7 @@ use Rattle.bpf_same.specs.declared.witness.Witness.{Witness}
 use Rattle.bpf_verify.specs.Consistent.{Accepted as Program}
 use Rattle.xdp_load.specs.Original.{Place, RewrittenView}
 use Rattle.xdp_load.specs.OriginalSeen.{place_view}
-use Rattle.xdp_load.specs.declared.original.Place.{Place as Read}
+use Rattle.xdp_load.specs.declared.original.OriginalPlace.{OriginalPlace as Read}
 use Rattle.xdp_commands.specs.Executing.{IsProgramOfBytes, IsRefusalOfBytes}
 use Rattle.xdp_commands.specs.Lines.{refused_text}
 use Rattle.xdp_commands.specs.declared.comparing.Compared.{Compared}

@@ -7,7 +7,7 @@ use Rattle.bpf_insn.specs.declared.refusal.Refusal.{Refusal}
 use Rattle.bpf_vm.specs.Actions.{action_name, action_of}
 use Rattle.bpf_vm.specs.declared.ended.Ended.{Ended}
 use Rattle.xdp_load.specs.FaultNumber.{fault_number}
-use Rattle.xdp_load.specs.declared.fault.LoadFault.{LoadFault}
+use Rattle.xdp_load.specs.declared.fault.TextFault.{TextFault}
 use Rattle.xdp_world.specs.declared.report.Report.{Report}
 use Rattle.xdp_commands.specs.CounterLines.{totals_text}
 use Rattle.xdp_commands.specs.TurnLines.{queues_text}
@@ -34,7 +34,7 @@ checked_text (Ok a) = codes "accepted, " ++ (decimal a.instructions ++ (codes " 
 checked_text (Err r) = refused_text r
 
 -- the line of refused settings
-abbrev pub settings_text : LoadFault → List ℕ
+abbrev pub settings_text : TextFault → List ℕ
 settings_text f = codes "settings refused L" ++ (decimal (fault_number f) ++ codes "\n")
 
 -- the lines of a run of queues whose maps have these names: the turns, then the counters

@@ -3,8 +3,8 @@
 use Rattle.std.specs.Prelude.{ℕ, ◌+◌, List, [], ◌∷◌, ◌++◌, codes, decimal, Option, None, Some}
 use Rattle.xen_turns.specs.Causes.{halt_number}
 use Rattle.xen_turns.specs.declared.turn.Halt.{Halt}
-use Rattle.thread_pair.specs.declared.host.Host.{Host}
-use Rattle.thread_pair.specs.declared.host.Host.TheVariants as host
+use Rattle.thread_pair.specs.declared.host.OnPass.{OnPass}
+use Rattle.thread_pair.specs.declared.host.OnPass.TheVariants as host
 use Rattle.thread_pair.specs.declared.report.Deliveries.{Deliveries}
 use Rattle.thread_pair.specs.declared.report.PairReport.{PairReport}
 use Rattle.thread_pair.specs.declared.report.PairRow.{PairRow}
@@ -30,25 +30,25 @@ row_text queue r = codes "queue " ++ (decimal queue
     ++ (codes " sent " ++ (decimal r.sent ++ (codes " copied " ++ (decimal r.copied ++ ends_text r)))))
 
 -- what became of the answers of a host that answers: sent, too few slots, a grant that failed
-abbrev pub delivered_text : Host → ℕ → Deliveries → List ℕ
+abbrev pub delivered_text : OnPass → ℕ → Deliveries → List ℕ
 delivered_text host.Takes queue d = []
 delivered_text host.Answers queue d =
     codes "queue " ++ (decimal queue ++ (codes " delivered "
     ++ (decimal d.sent ++ (codes " few " ++ (decimal d.few ++ (codes " refused " ++ (decimal d.refused ++ codes "\n")))))))
 
-abbrev pub queue_text : Host → ℕ → PairRow → List ℕ
+abbrev pub queue_text : OnPass → ℕ → PairRow → List ℕ
 queue_text h queue r = row_text queue r ++ delivered_text h queue r.deliveries
 
 -- the lines of queues, the first of which is this one
-abbrev pub rows_text : Host → ℕ → List PairRow → List ℕ
+abbrev pub rows_text : OnPass → ℕ → List PairRow → List ℕ
 rows_text h queue [] = []
 rows_text h queue (r ∷ rs) = queue_text h queue r ++ rows_text h (queue + 1) rs
 
 -- the lines of the queues, then the counters of maps with these names
-abbrev pub pair_text : Host → List (List ℕ) → PairReport → List ℕ
+abbrev pub pair_text : OnPass → List (List ℕ) → PairReport → List ℕ
 pair_text h names r = rows_text h 0 r.rows.items ++ totals_text names r.totals
 
-abbrev pub paired_text : Host → List (List ℕ) → Paired → List ℕ
+abbrev pub paired_text : OnPass → List (List ℕ) → Paired → List ℕ
 paired_text h names (paired.Ran report) = pair_text h names report
 paired_text h names (paired.Refused r) = refused_text r
 paired_text h names paired.NotMapped = codes "mapping refused\n"

@@ -9,7 +9,7 @@ use Rattle.thread_pair.specs.Leaving.{AreLeft}
 use Rattle.thread_pair.specs.Working.{Task}
 use Rattle.thread_pair.specs.declared.fault.PairFault.{PairFault}
 use Rattle.thread_pair.specs.declared.fault.PairFault.TheVariants as fault
-use Rattle.thread_pair.specs.declared.host.Host.{Host}
+use Rattle.thread_pair.specs.declared.host.OnPass.{OnPass}
 use Rattle.thread_pair.specs.declared.report.PairReport.{PairReport}
 use Rattle.xdp_commands.specs.Executing.{IsProgramOfBytes, IsRefusalOfBytes}
 use Rattle.xdp_commands.specs.declared.pairing.Paired.{Paired}
@@ -20,7 +20,7 @@ abbrev pub IsAcceptedSetup : SetupView → Type 0
 IsAcceptedSetup s = (p : Program) × IsProgramOfBytes s.program s.shapes p
 
 -- what the setup's backs have in common, with an accepted program and the lists of its maps, beside a host that does so
-abbrev pub task_with : ListedView → Program → Host → Task
+abbrev pub task_with : ListedView → Program → OnPass → Task
 task_with x p h = record {
   program = p;
   lists = x.lists;
@@ -32,7 +32,7 @@ task_with x p h = record {
 
 -- a row for each queue, counters of the setup's maps, and what at most `turns` turns of the accepted program, with the setup's lists, left in
 -- both
-pub record IsPairOfSetup (x : ListedView) (turns : ℕ) (h : Host) (r : PairReport) : Type 0 where
+pub record IsPairOfSetup (x : ListedView) (turns : ℕ) (h : OnPass) (r : PairReport) : Type 0 where
   pub program : Program
   pub accepted : IsProgramOfBytes x.setup.program x.setup.shapes program
   pub rows : vec_len r.rows ≡ x.setup.queues
@@ -41,7 +41,7 @@ pub record IsPairOfSetup (x : ListedView) (turns : ℕ) (h : Host) (r : PairRepo
 
 -- the queues of an accepted program ran, at most `turns` turns each, or their rings couldn't be mapped, or a thread couldn't
 -- be started; or the program is refused
-abbrev pub IsPaired : ListedView → ℕ → Host → Paired → Type 0
+abbrev pub IsPaired : ListedView → ℕ → OnPass → Paired → Type 0
 IsPaired x turns h (paired.Ran report) = IsPairOfSetup x turns h report
 IsPaired x turns h (paired.Refused refusal) = IsRefusalOfBytes x.setup.program x.setup.shapes refusal
 IsPaired x turns h paired.NotMapped = IsAcceptedSetup x.setup

@@ -13,8 +13,8 @@ use Rattle.clap.specs.declared.builder.action.ArgAction.TheVariants.{SetTrue}
 use Rattle.clap.specs.declared.builder.value_parser.ValueParser.TheVariants.{Signed}
 use Rattle.xdp_commands.specs.declared.help.Topic.{Topic}
 use Rattle.xdp_commands.specs.declared.help.Topic.TheVariants as topic
-use Rattle.thread_pair.specs.declared.host.Host.{Host}
-use Rattle.thread_pair.specs.declared.host.Host.TheVariants as host
+use Rattle.thread_pair.specs.declared.host.OnPass.{OnPass}
+use Rattle.thread_pair.specs.declared.host.OnPass.TheVariants as host
 
 -- a word that has to be there
 abbrev pub wanted : List ℕ → Rule
@@ -95,7 +95,7 @@ pub data Wanted : Type 0 where
   run : Wanted
   filter : Wanted
   -- at most that many turns of each queue, and what the host does
-  pair : ℕ → Host → Wanted
+  pair : ℕ → OnPass → Wanted
   help : Topic → Wanted
   version : Wanted
 
@@ -115,11 +115,11 @@ turns_number text =
     if is_decimal digits && nat_lt (digits_value 10 digits) 4294967296 then Some (digits_value 10 digits) else None
 
 -- the host answers if the flag was found
-abbrev pub host_of_word : Option Text → Host
+abbrev pub host_of_word : Option Text → OnPass
 host_of_word None = host.Takes
 host_of_word (Some word) = if bytes_eq word (codes "true") then host.Answers else host.Takes
 
-abbrev pub host_of : List Row → Host
+abbrev pub host_of : List Row → OnPass
 host_of rows = host_of_word (first_of (codes "answer") rows)
 
 -- `pair`, by what was found for its options

@@ -32,9 +32,9 @@ use std::alloc::{AllocError, Global};
 use std::io::Read;
 use std::sync::Wait;
 use std::thread::Threads;
-use thread_pair::Host;
+use thread_pair::OnPass;
 use xdp_load::{
-    Listed, LoadError, LoadFault, Refused, Rewritten, Setup, fault_text, load_rewritten,
+    Listed, LoadError, Refused, Rewritten, Setup, TextFault, fault_text, load_rewritten,
 };
 
 /// A text that is printed, and the exit status.
@@ -124,7 +124,7 @@ fn checked_answer(alloc: Global, checked: &Result<Accepted, Refusal>) -> Result<
 }
 
 /// The answer to settings that are refused.
-fn settings_refused(alloc: Global, fault: LoadFault) -> Result<Answer, AllocError>
+fn settings_refused(alloc: Global, fault: TextFault) -> Result<Answer, AllocError>
     ensures { IfOk result (λ a. said_of a ≡ settings_refused fault) }
 {
     let text = settings_text(alloc, fault)?;
@@ -135,22 +135,22 @@ fn settings_refused(alloc: Global, fault: LoadFault) -> Result<Answer, AllocErro
 fn placed_answer(alloc: Global, settings: &[u8], refused: &Refused) -> Result<Answer, AllocError>
     ensures { IfOk result (λ a. PlacedAnswer settings.now (refused_seen refused.now) (said_of a)) }
 {
-    let mut text = settings_text(alloc, LoadFault::Refused(refused.fault))?;
+    let mut text = settings_text(alloc, TextFault::Refused(refused.fault))?;
     let line = fault_text(alloc, &refused.spot, settings)?;
     text.push_str(line.as_str())?;
     Ok(Answer { text, status: 2 })
 }
 
-/// What is asked of settings.
+/// A question about settings.
 #[derive(Clone, Copy)]
 enum Question {
-    /// Whether the program is accepted.
+    /// Asks whether the program is accepted.
     Check,
-    /// Why the program is refused.
+    /// Asks why the program is refused.
     Explain,
-    /// What the queues do in the steps of the script.
+    /// Asks what the queues do in the steps of the script.
     Run,
-    /// What the program makes of the packets.
+    /// Asks what the program makes of the packets.
     Filter,
 }
 
@@ -231,7 +231,7 @@ fn pair_answer<T: Threads + Wait + Sync>(
     rt: &T,
     alloc: Global,
     listed: &Listed,
-    host: Host,
+    host: OnPass,
     turns: u32,
 ) -> Result<Answer, AllocError>
     requires { IsListedSound (listed_view listed.now) }
@@ -276,7 +276,7 @@ fn fault_answer(
 {
     match question {
         Question::Explain => placed_answer(alloc, settings, refused),
-        _ => settings_refused(alloc, LoadFault::Refused(refused.fault)),
+        _ => settings_refused(alloc, TextFault::Refused(refused.fault)),
     }
 }
 
@@ -286,7 +286,7 @@ fn settings_answer(alloc: Global, question: Question, settings: &[u8]) -> Result
 {
     match xdp_program::read_settings(alloc, settings) {
         Ok(listed) => setup_answer(alloc, question, &listed),
-        Err(LoadError::Memory) => settings_refused(alloc, LoadFault::Memory),
+        Err(LoadError::Memory) => settings_refused(alloc, TextFault::Memory),
         Err(LoadError::Refused(refused)) => fault_answer(alloc, question, settings, &refused),
     }
 }
@@ -297,9 +297,9 @@ fn rewritten_answer(alloc: Global, settings: &[u8]) -> Result<Answer, AllocError
 {
     match load_rewritten(alloc, settings) {
         Ok(rewritten) => same_answer(alloc, &rewritten),
-        Err(LoadError::Memory) => settings_refused(alloc, LoadFault::Memory),
+        Err(LoadError::Memory) => settings_refused(alloc, TextFault::Memory),
         Err(LoadError::Refused(refused)) => {
-            settings_refused(alloc, LoadFault::Refused(refused.fault))
+            settings_refused(alloc, TextFault::Refused(refused.fault))
         }
     }
 }
@@ -308,7 +308,7 @@ fn rewritten_answer(alloc: Global, settings: &[u8]) -> Result<Answer, AllocError
 fn threads_answer<T: Threads + Wait + Sync>(
     rt: &T,
     alloc: Global,
-    host: Host,
+    host: OnPass,
     turns: u32,
     settings: &[u8],
 ) -> Result<Answer, AllocError>
@@ -316,9 +316,9 @@ fn threads_answer<T: Threads + Wait + Sync>(
 {
     match xdp_program::read_settings(alloc, settings) {
         Ok(listed) => pair_answer(rt, alloc, &listed, host, turns),
-        Err(LoadError::Memory) => settings_refused(alloc, LoadFault::Memory),
+        Err(LoadError::Memory) => settings_refused(alloc, TextFault::Memory),
         Err(LoadError::Refused(refused)) => {
-            settings_refused(alloc, LoadFault::Refused(refused.fault))
+            settings_refused(alloc, TextFault::Refused(refused.fault))
         }
     }
 }
@@ -345,7 +345,7 @@ fn input_same<R: Read>(alloc: Global, input: &mut R) -> Result<Answer, Stop>
 fn input_pair<T: Threads + Wait + Sync, R: Read>(
     rt: &T,
     alloc: Global,
-    host: Host,
+    host: OnPass,
     turns: u32,
     input: &mut R,
 ) -> Result<Answer, Stop>

@@ -16,7 +16,7 @@ fn exec_command<'a>(alloc: Global) -> Result<Command<'a>, AllocError>
     Command::new(alloc, "exec").arg(program)?.arg(packet)
 }
 
-/// How many turns each queue makes at most, if no word says it.
+/// The most turns that each queue makes, if no word says it.
 const TURNS: &str = "100000";
 
 /// The greatest number of turns that can be asked for.

@@ -15,7 +15,7 @@ use bpf_verify::Verified;
 use std::alloc::{AllocError, Global};
 use xdp_load::Rewritten;
 
-/// What becomes of a setup's program beside the one that it was made of.
+/// The answer of a comparison of a setup's program with the one that it was made of.
 #[derive(Drop)]
 pub enum Compared {
     /// Each run of one is a run of the other. The program has `slots` slots, and the original has `originals`.
@@ -34,7 +34,10 @@ pub enum Compared {
 }
 
 /// The settings' places, as witnesses to be tried.
-fn witnesses_of(alloc: Global, places: &[xdp_load::Place]) -> Result<Vec<Witness>, AllocError>
+fn witnesses_of(
+    alloc: Global,
+    places: &[xdp_load::OriginalPlace],
+) -> Result<Vec<Witness>, AllocError>
     ensures { IfOk result (λ v. v.items ≡ map tried_of places.now) }
 {
     places

@@ -34,7 +34,7 @@ pub fn execute<'b>(
     Ok(run_to_end(&verified, packet, 0, 0))
 }
 
-/// How large an accepted program is.
+/// The size of an accepted program.
 #[derive(Clone, Copy, Debug, PartialEq, Eq)]
 pub struct Accepted {
     pub instructions: u32,

@@ -15,7 +15,7 @@ use bpf_insn::{Cause, Code, Refusal, Register, decode};
 use bpf_verify::{Explained, Lost, MapShape, Verified, explain, joined_at, lost_at};
 use std::alloc::{AllocError, Global};
 
-/// Where a register's address went.
+/// The place at which a register lost its address.
 #[derive(Drop)]
 pub enum Loss {
     /// An instruction made it a number.
@@ -25,7 +25,7 @@ pub enum Loss {
     ByJoining(usize),
 }
 
-/// What becomes of a program's bytes.
+/// The answer to a program's bytes.
 #[derive(Drop)]
 pub enum Outcome {
     /// The program is accepted.
@@ -49,7 +49,8 @@ fn lost_register(explained: &Explained) -> Option<Register>
     }
 }
 
-/// Where a register's address went: an instruction took it, or else more ways meet at the refused slot than notes keep apart.
+/// Returns where a register's address went: an instruction took it, or else more ways meet at the refused slot than notes keep
+/// apart.
 fn register_loss(
     alloc: Global,
     explained: &Explained,
@@ -142,7 +143,7 @@ fn loss_line(
     }
 }
 
-/// That line, if there is one.
+/// Returns that line, if there is one.
 fn loss_text(
     alloc: Global,
     names: &[String],

@@ -14,7 +14,7 @@ use bpf_maps::Totals;
 use bpf_verify::Verified;
 use bpf_vm::{Action, Buffer, PacketBuf};
 use std::alloc::{AllocError, Global};
-use xdp_load::{Listed, Packet};
+use xdp_load::{Listed, SentPacket};
 use xdp_program::run_on;
 
 /// The lines of the runs so far, and the words of the counters.
@@ -40,7 +40,7 @@ fn run_once(
     program: &Verified,
     lists: &[Option<MapList>],
     ifindex: u32,
-    packet: &Packet,
+    packet: &SentPacket,
     buffer: &mut Buffer,
     filtered: &mut Filtered,
 ) -> Result<(), AllocError>
@@ -67,7 +67,7 @@ fn run_times(
     program: &Verified,
     lists: &[Option<MapList>],
     ifindex: u32,
-    packet: &Packet,
+    packet: &SentPacket,
     buffer: &mut Buffer,
     filtered: &mut Filtered,
 ) -> Result<(), AllocError>

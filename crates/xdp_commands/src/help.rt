@@ -4,7 +4,7 @@ ghost use Rattle.xdp_commands.specs.Help.{help_lines, version_line};
 
 use std::alloc::{AllocError, Global};
 
-/// What help is about.
+/// A topic of help.
 #[derive(Clone, Copy, Debug, PartialEq, Eq)]
 pub enum Topic {
     /// All commands.

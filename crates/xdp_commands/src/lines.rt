@@ -14,7 +14,7 @@ use bpf_insn::Refusal;
 use bpf_note::MapShape;
 use bpf_vm::{Action, Ended};
 use std::alloc::{AllocError, Global};
-use xdp_load::LoadFault;
+use xdp_load::TextFault;
 use xdp_world::Report;
 
 /// The two lines of a run.
@@ -68,7 +68,7 @@ pub fn checked_text(
 }
 
 /// The line of refused settings.
-pub fn settings_text(alloc: Global, fault: LoadFault) -> Result<String, AllocError>
+pub fn settings_text(alloc: Global, fault: TextFault) -> Result<String, AllocError>
     ensures { IfOk result (λ s. string_bytes s ≡ settings_text fault) }
 {
     let number = fault.number();

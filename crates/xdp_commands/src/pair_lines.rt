@@ -11,7 +11,7 @@ use crate::output::FAILED;
 use crate::pairing::Paired;
 use bpf_note::MapShape;
 use std::alloc::{AllocError, Global};
-use thread_pair::{Deliveries, Host, PairReport, PairRow};
+use thread_pair::{Deliveries, OnPass, PairReport, PairRow};
 use xen_back::Halt;
 
 /// The number of a queue's halt, 0 if it wasn't halted.
@@ -46,7 +46,7 @@ fn row_text(alloc: Global, queue: usize, row: &PairRow) -> Result<String, AllocE
 /// The line of what became of the answers of a host that answers.
 fn delivered_text(
     alloc: Global,
-    host: Host,
+    host: OnPass,
     queue: usize,
     deliveries: &Deliveries,
 ) -> Result<String, AllocError>
@@ -56,15 +56,20 @@ fn delivered_text(
     let few = deliveries.few;
     let refused = deliveries.refused;
     match host {
-        Host::Takes => Ok(String::new(alloc)),
-        Host::Answers => {
+        OnPass::Takes => Ok(String::new(alloc)),
+        OnPass::Answers => {
             format!(in alloc; "queue {queue} delivered {sent} few {few} refused {refused}\n")
         }
     }
 }
 
 /// The lines of a queue.
-fn queue_text(alloc: Global, host: Host, queue: usize, row: &PairRow) -> Result<String, AllocError>
+fn queue_text(
+    alloc: Global,
+    host: OnPass,
+    queue: usize,
+    row: &PairRow,
+) -> Result<String, AllocError>
     ensures { IfOk result (λ s. string_bytes s ≡ queue_text host queue row.now) }
 {
     let line = row_text(alloc, queue, row)?;
@@ -76,7 +81,7 @@ fn queue_text(alloc: Global, host: Host, queue: usize, row: &PairRow) -> Result<
 fn add_rows(
     alloc: Global,
     text: &mut String,
-    host: Host,
+    host: OnPass,
     rows: &[PairRow],
 ) -> Result<(), AllocError>
     ensures { OnOk result (string_bytes text.new ≡ string_bytes text.old ++ rows_text host 0 rows.now) }
@@ -93,7 +98,7 @@ fn add_rows(
 /// The lines of a report, whose maps have these names and shapes.
 fn report_text(
     alloc: Global,
-    host: Host,
+    host: OnPass,
     names: &[String],
     shapes: &[MapShape],
     report: &PairReport,
@@ -112,7 +117,7 @@ fn report_text(
 /// The lines of `pair`, beside a host that does so.
 pub fn paired_text(
     alloc: Global,
-    host: Host,
+    host: OnPass,
     names: &[String],
     shapes: &[MapShape],
     paired: &Paired,

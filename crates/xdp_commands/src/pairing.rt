@@ -11,10 +11,10 @@ use bpf_verify::Verified;
 use std::alloc::{AllocError, Global};
 use std::sync::Wait;
 use std::thread::Threads;
-use thread_pair::{Host, Open, PairFault, PairReport, pair_with};
+use thread_pair::{OnPass, Open, PairFault, PairReport, pair_with};
 use xdp_load::Listed;
 
-/// What became of a setup whose queues were to run on threads.
+/// The outcome of a setup whose queues were to run on threads.
 #[derive(Drop)]
 pub enum Paired {
     /// They ran.
@@ -27,7 +27,7 @@ pub enum Paired {
     NotStarted,
 }
 
-/// What becomes of a setup by a run of its queues.
+/// Returns what becomes of a setup by a run of its queues.
 pub fn outcome(ran: Result<PairReport, PairFault>) -> Result<Paired, AllocError>
     ensures { IfOk result (Comes ran) }
 {
@@ -45,7 +45,7 @@ fn run_pairs<T: Threads + Wait + Sync>(
     alloc: Global,
     listed: &Listed,
     program: &Verified,
-    host: Host,
+    host: OnPass,
     turns: u32,
 ) -> Result<Paired, AllocError>
     requires sound { IsListedSound (listed_view listed.now) }
@@ -61,7 +61,7 @@ pub fn pair<T: Threads + Wait + Sync>(
     rt: &T,
     alloc: Global,
     listed: &Listed,
-    host: Host,
+    host: OnPass,
     turns: u32,
 ) -> Result<Paired, AllocError>
     requires { IsListedSound (listed_view listed.now) }

@@ -10,25 +10,25 @@ use clap::error::ErrorKind;
 use clap::{ArgMatches, Error};
 use std::alloc::{AllocError, Global};
 use std::convert::AsStr;
-use thread_pair::Host;
+use thread_pair::OnPass;
 
-/// What a call asks for.
+/// The request of a call.
 #[derive(Clone, Copy)]
 pub enum Request<'a> {
     /// A run of a program on a packet, both in hex.
     Exec { program: &'a str, packet: &'a str },
-    /// Whether the program of the settings is accepted.
+    /// Asks whether the program of the settings is accepted.
     Check,
-    /// Why the program of the settings is refused.
+    /// Asks why the program of the settings is refused.
     Explain,
-    /// Whether the program of the settings has the runs of the one that it was made of.
+    /// Asks whether the program of the settings has the runs of the one that it was made of.
     Same,
-    /// What the queues of the settings do in the steps of their script.
+    /// Asks what the queues of the settings do in the steps of their script.
     Run,
-    /// What the program of the settings makes of their packets.
+    /// Asks what the program of the settings makes of their packets.
     Filter,
-    /// What the queues of the settings do on threads, in at most `turns` turns each, beside this host.
-    Pair { turns: u32, host: Host },
+    /// Asks what the queues of the settings do on threads, in at most `turns` turns each, beside this host.
+    Pair { turns: u32, host: OnPass },
     /// The lines on a command, or on all.
     Help(Topic),
     /// The version.
@@ -58,13 +58,13 @@ fn exec_in<'a>(matches: &ArgMatches<'a>) -> Option<Request<'a>>
     Some(Request::Exec { program, packet })
 }
 
-/// What the host does: it answers if the flag was found.
-fn host_in(matches: &ArgMatches<'_>) -> Host
+/// Returns what the host does: it answers if the flag was found.
+fn host_in(matches: &ArgMatches<'_>) -> OnPass
     ensures { result ≡ host_of (rows_of (found_of matches.now)) }
 {
     match word_at(matches, "answer") {
-        Some(word) if word == "true" => Host::Answers,
-        _ => Host::Takes,
+        Some(word) if word == "true" => OnPass::Answers,
+        _ => OnPass::Takes,
     }
 }
 
@@ -121,7 +121,7 @@ fn help_in<'a>(matches: &ArgMatches<'a>) -> Option<Request<'a>>
     }
 }
 
-/// What the matches ask for.
+/// Returns what the matches ask for.
 fn request_in<'a>(matches: &ArgMatches<'a>) -> Option<Request<'a>>
     ensures { option_map wanted_of result ≡ option_and_then wanted_by (subcommand_rows_of matches.now) }
 {
@@ -156,14 +156,14 @@ fn request_in<'a>(matches: &ArgMatches<'a>) -> Option<Request<'a>>
     None
 }
 
-/// Whether memory ran out.
+/// Returns whether memory ran out.
 fn is_memory(error: &Error) -> bool
     ensures { IsTrue result ↔ (kind_of error.now ≡ ErrorKind.OutOfMemory) }
 {
     error.kind() == ErrorKind::OutOfMemory
 }
 
-/// What the words ask for, the first of them being the program's own name; nothing if the command line refuses them.
+/// Returns what the words ask for, the first of them being the program's own name; nothing if the command line refuses them.
 pub fn read_words<'a, S: AsStr>(
     alloc: Global,
     words: &'a [S],

@@ -4,7 +4,7 @@ ghost use Rattle.xdp_commands.specs.declared.stop.Stop.TheVariants.{Memory};
 
 use std::alloc::AllocError;
 
-/// Why a call has no answer.
+/// The reason why a call has no answer.
 #[derive(Clone, Copy, Debug, PartialEq, Eq)]
 pub enum Stop {
     /// Memory ran out.

@@ -12,7 +12,7 @@ fn answered_text(alloc: Global, slots: u32, ops: u32) -> Result<String, AllocErr
     format!(in alloc; " slots {slots} operations {ops}\n")
 }
 
-/// What a line says of a turn.
+/// Returns what a line says of a turn.
 fn kept_text(alloc: Global, kept: &Kept) -> Result<String, AllocError>
     ensures { IfOk result (λ s. string_bytes s ≡ kept_text kept.now) }
 {

@@ -8,7 +8,7 @@ use Rattle.bpf_note.specs.declared.key.MapKey.TheVariants.{Index}
 use Rattle.bpf_note.specs.Shape.{Shape, IsNarrow}
 use Rattle.bpf_verify.specs.Consistent.{Accepted, instructions}
 use Rattle.bpf_verify.specs.FirstRefusal.{IsFaultless}
-use Rattle.xdp_load.specs.declared.fault.LoadFault.TheVariants as text
+use Rattle.xdp_load.specs.declared.fault.TextFault.TheVariants as text
 use Rattle.xdp_program.specs.Refused.{IsRefused}
 use Rattle.xdp_program.specs.Settings.{IsProgramOf, IsSettingsFault}
 use Rattle.xdp_program.specs.declared.fault.LoadFault.TheVariants as load

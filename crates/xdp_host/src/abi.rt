@@ -18,7 +18,7 @@ pub struct XdpMap {
     pub counters: u32,
 }
 
-/// What became of a program or of its lists: the header says what the numbers mean. None is made but of a fault, or of a program's
+/// The verdict on a program or on its lists: the header says what the numbers mean. None is made but of a fault, or of a program's
 /// number of instructions.
 #[repr(C)]
 #[derive(Clone, Copy, Debug, PartialEq, Eq, Drop)]
@@ -74,7 +74,7 @@ impl From<RelistFault> for XdpVerdict {
     }
 }
 
-/// Where a fault is, in the bits that C gets.
+/// Returns where a fault is, in the bits that C gets.
 fn bounded(place: usize) -> u32
     ensures { result ≡ min place 4294967295 }
 {
@@ -96,7 +96,7 @@ impl From<ObjectFault> for XdpVerdict {
     }
 }
 
-/// How a run ended. Nothing was run if no instruction was done.
+/// The end of a run. Nothing was run if no instruction was done.
 #[repr(C)]
 #[derive(Clone, Copy, Debug, PartialEq, Eq, Drop)]
 pub struct XdpRun {

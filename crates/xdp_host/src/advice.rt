@@ -39,7 +39,7 @@ fn cause_of(number: u32) -> Option<Cause>
     }
 }
 
-/// What to write instead.
+/// Returns what to write instead.
 fn advice(cause: Option<Cause>) -> &'static str
     ensures { result.now ≡ advice_or cause }
 {

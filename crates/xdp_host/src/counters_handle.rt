@@ -48,7 +48,7 @@ impl Slot {
         }
     }
 
-    /// What the box holds, where it lies.
+    /// Returns what the box holds, where it lies.
     fn lend(&mut self) -> &mut SharedCounters
         requires { IsSome self.old.held }
         ensures* writes_back { sem 𝓛 (LendsSlot self.entry result) }
@@ -103,7 +103,7 @@ impl XdpCounters {
         }
     }
 
-    /// What the box holds, where it lies, if there is one.
+    /// Returns what the box holds, where it lies, if there is one.
     pub fn held_mut(&mut self) -> Option<&mut SharedCounters>
         ensures* writes_back { sem 𝓛 (LendsHeld self.entry result) }
         ensures value { option_map (λ r. r.now) result ≡ self.old.slot.held }
@@ -163,10 +163,10 @@ impl Drop for XdpCounters {
     }
 }
 
-fn crosses<T: Send>() {}
+fn assert_send<T: Send>() {}
 
 /// Shared counters, and a handle of them, may be handed to another thread, or this call isn't proved.
 pub fn counters_cross_threads() {
-    crosses::<XdpCounters>();
-    crosses::<SharedCounters>()
+    assert_send::<XdpCounters>();
+    assert_send::<SharedCounters>()
 }

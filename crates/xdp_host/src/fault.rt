@@ -3,7 +3,7 @@ use bpf_insn::{Cause, Refusal};
 use std::alloc::{AllocError, AllocFailed};
 use xdp_program::TextFault;
 
-/// Why there is no program.
+/// The reason why there is no program.
 #[derive(Clone, Copy, Debug, PartialEq, Eq, Drop)]
 pub enum Fault {
     /// The decoder or the verifier refuses it. Out of memory is V0.

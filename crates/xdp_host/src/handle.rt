@@ -51,7 +51,7 @@ impl Slot {
         }
     }
 
-    /// What the box holds, where it lies.
+    /// Returns what the box holds, where it lies.
     fn lend(&mut self) -> &mut LoadedProgram
         requires { IsSome self.old.held }
         ensures* writes_back { sem 𝓛 (LendsSlot self.entry result) }
@@ -106,7 +106,7 @@ impl XdpProgram {
         }
     }
 
-    /// What the box holds, where it lies, if there is one.
+    /// Returns what the box holds, where it lies, if there is one.
     pub fn held_mut(&mut self) -> Option<&mut LoadedProgram>
         ensures* writes_back { sem 𝓛 (LendsHeld self.entry result) }
         ensures value { option_map (λ r. r.now) result ≡ self.old.slot.held }
@@ -171,10 +171,10 @@ impl Drop for XdpProgram {
     }
 }
 
-fn crosses<T: Send>() {}
+fn assert_send<T: Send>() {}
 
 /// A program, and a handle of one, may be handed to another thread, or this call isn't proved.
 pub fn programs_cross_threads() {
-    crosses::<XdpProgram>();
-    crosses::<LoadedProgram>()
+    assert_send::<XdpProgram>();
+    assert_send::<LoadedProgram>()
 }

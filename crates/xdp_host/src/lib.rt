@@ -82,12 +82,12 @@ pub use shared_calls::{
     laxonje_queue_share,
 };
 use std::alloc::Global;
-use xen_host::{FrameOwners, Op, RxOffload};
+use xen_host::{FrameOwners, HostOp, RxOffload};
 
 /// The version of `include/laxonje.h`.
 const VERSION: u32 = 3;
 
-/// Whether a program is accepted with its maps.
+/// Returns whether a program is accepted with its maps.
 #[unsafe(no_mangle)]
 pub extern "C" fn laxonje_check(alloc: Global, program: &[u8], maps: &[XdpMap]) -> XdpVerdict
     ensures answers { ((p : Accepted) × Accepts program.now maps.now p result) ⊎ Refuses program.now maps.now result }
@@ -198,7 +198,11 @@ pub extern "C" fn laxonje_queue_make(
 /// Begins a turn, with what was read of the tx producer, and says its first ops. How many: none if there is no queue,
 /// something is under way, or there is no room, and nothing changes then.
 #[unsafe(no_mangle)]
-pub extern "C" fn laxonje_queue_turn(queue: &mut XdpQueue, producer: u32, ops: &mut [Op]) -> usize
+pub extern "C" fn laxonje_queue_turn(
+    queue: &mut XdpQueue,
+    producer: u32,
+    ops: &mut [HostOp],
+) -> usize
     ensures there { IfNone queue.old.slot.held (queue.new.slot.held ≡ None) }
     ensures none { IfNone queue.old.slot.held ((result ≡ 0) × (ops.new ≡ ops.old)) }
     ensures begun { IfSome queue.old.slot.held (λ q. IsSome (resting q) → 1 ≤ length ops.old →
@@ -220,7 +224,7 @@ pub extern "C" fn laxonje_queue_step(
     queue: &mut XdpQueue,
     words: &mut [u32],
     counters: &mut [u64],
-    ops: &mut [Op],
+    ops: &mut [HostOp],
 ) -> usize
     ensures there { IfNone queue.old.slot.held (queue.new.slot.held ≡ None) }
     ensures none { IfNone queue.old.slot.held (IsUnsaid result words.old words.new counters.old counters.new ops.old ops.new) }
@@ -273,7 +277,7 @@ pub extern "C" fn laxonje_queue_packet(queue: &mut XdpQueue, out: &mut [u8]) -> 
     }
 }
 
-/// Where a queue stands between two turns. None if there is no queue, or inside a turn.
+/// Returns where a queue stands between two turns. None if there is no queue, or inside a turn.
 #[unsafe(no_mangle)]
 pub extern "C" fn laxonje_queue_state(queue: &mut XdpQueue) -> XdpQueueState
     ensures kept { queue.new.slot.held ≡ queue.old.slot.held }

@@ -30,7 +30,7 @@ fn map_size(program: &Program, number: u32) -> XdpMap
     size_of(program.verified().shapes().get(number as usize).copied())
 }
 
-/// How many maps a program has. With no program, none.
+/// Returns the number of maps that a program has. With no program, none.
 #[unsafe(no_mangle)]
 pub extern "C" fn laxonje_map_count(program: &mut XdpProgram) -> usize
     ensures kept { program.new.slot.held ≡ program.old.slot.held }

@@ -2,7 +2,7 @@
 use crate::fault::Fault;
 use xdp_object::SetupFault;
 
-/// Why an object's function is no program here.
+/// The reason why an object's function is no program here.
 #[derive(Clone, Copy, Debug, PartialEq, Eq, Drop)]
 pub enum ObjectFault {
     /// The object has no setup of the function.

@@ -9,10 +9,10 @@ use crate::queue_handle::XdpQueue;
 use crate::segment_calls::{UNKNOWN_OFFER, has_bit, types_of};
 use xen_host::{Accepting, Accepts, GsoType, Queue, RxOffload, Segments};
 
-/// What is answered if what a packet leaves has no name.
+/// The answer if what a packet leaves has no name.
 const UNKNOWN_OFFLOAD: u32 = 7;
 
-/// What a guest takes by these bits, if each has a name.
+/// Returns what a guest takes by these bits, if each has a name.
 fn accepts_of(bits: u32) -> Option<Accepts>
     ensures { result ≡ accepts_of bits }
 {
@@ -69,7 +69,7 @@ fn segmented(kind: GsoType, size: u32) -> Option<RxOffload>
     }
 }
 
-/// What a packet leaves, by its number of the header and the size of a segment.
+/// Returns what a packet leaves, by its number of the header and the size of a segment.
 fn offload_of(number: u32, segment_size: u32) -> Option<RxOffload>
     ensures { result ≡ offload_of number segment_size }
 {

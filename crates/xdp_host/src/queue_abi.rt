@@ -5,8 +5,8 @@ ghost use Rattle.xdp_host.specs.Ops.{no_state, state_of};
 
 use xen_host::{Begin, State};
 
-/// What a queue is made of beside its lists: the frames of its rings, two domains, a port, what the program is told, and the
-/// indices at which the rings are gone on with.
+/// The parts of a queue beside its lists: the frames of its rings, two domains, a port, what the program is told, and the indices
+/// at which the rings are gone on with.
 #[repr(C)]
 #[derive(Clone, Copy, Debug, PartialEq, Eq, Drop)]
 pub struct XdpQueueDesc {
@@ -21,7 +21,7 @@ pub struct XdpQueueDesc {
     pub rx_index: u32,
 }
 
-/// Where a queue stands between two turns.
+/// The state of a queue between two turns.
 #[repr(C)]
 #[derive(Clone, Copy, Debug, PartialEq, Eq, Drop)]
 pub struct XdpQueueState {
@@ -61,13 +61,13 @@ impl XdpQueueState {
     }
 }
 
-/// What a call that begins something answers if there is no queue.
+/// The answer of a call that begins something if there is no queue.
 pub const NO_QUEUE: u32 = 1;
 
-/// What a wait for more slots than a ring has is answered.
+/// The answer to a wait for more slots than a ring has.
 pub const TOO_MANY_SLOTS: u32 = 4;
 
-/// What C is told of what is to be begun.
+/// Returns what C is told of what is to be begun.
 pub fn begin_number(answer: Begin) -> u32
     ensures { result ≡ begin_number answer }
 {

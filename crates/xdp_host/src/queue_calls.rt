@@ -9,7 +9,7 @@ ghost use Rattle.xdp_host.specs.Begins.{DeliverAnswers};
 
 use crate::queue_abi::{XdpQueueDesc, begin_number};
 use std::alloc::Global;
-use xen_host::{FrameOwners, Lists, MakeFault, Op, Program, Queue, QueueParts, RxOffload};
+use xen_host::{FrameOwners, HostOp, Lists, MakeFault, Program, Queue, QueueParts, RxOffload};
 use xen_netif::{ACCEPTS_WHOLE, NO_OFFERS};
 
 /// A queue of what C gives, in a box.
@@ -46,7 +46,12 @@ pub fn boxed(
 
 /// A queue's step, with its counters where they are.
 #[inline(always)]
-pub fn stepped(queue: &mut Queue, words: &mut [u32], counters: &mut [u64], ops: &mut [Op]) -> usize
+pub fn stepped(
+    queue: &mut Queue,
+    words: &mut [u32],
+    counters: &mut [u64],
+    ops: &mut [HostOp],
+) -> usize
     ensures few { queue.old.share ≡ None → AreFew queue.old words.old counters.old ops.old →
         IsNothing queue.old queue.new words.old words.new counters.old counters.new ops.old ops.new result }
     ensures stepped { queue.old.share ≡ None → AreEnough queue.old words.old counters.old ops.old →

@@ -4,10 +4,10 @@ ghost use Rattle.xdp_host.specs.Made.{fault_number};
 
 use xen_host::MakeFault;
 
-/// What `laxonje_queue_make` answers if a queue was made.
+/// The answer of `laxonje_queue_make` if a queue was made.
 pub const MADE: u32 = 0;
 
-/// Why no queue was made.
+/// The reason why no queue was made.
 #[derive(Clone, Copy, Debug, PartialEq, Eq, Drop)]
 pub enum QueueFault {
     /// Memory ran out, or a part is wrong.

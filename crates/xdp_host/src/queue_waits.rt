@@ -8,7 +8,7 @@ use crate::queue_abi::{NO_QUEUE, TOO_MANY_SLOTS, begin_number};
 use crate::queue_handle::XdpQueue;
 use xen_host::Queue;
 
-/// How many slots the rx ring has.
+/// The number of slots that the rx ring has.
 const RING_SLOTS: u32 = 256;
 
 /// Begins a wait of a queue, unless it would never end.
@@ -49,7 +49,7 @@ pub extern "C" fn laxonje_queue_flags(queue: &mut XdpQueue) -> u32
     }
 }
 
-/// How many words of counters a queue's steps want: none if it shares its counters.
+/// Returns the number of words of counters that a queue's steps want: none if it shares its counters.
 fn lent_counters(queue: &Queue) -> usize
     ensures { result ≡ words_of queue.now }
 {
@@ -60,8 +60,8 @@ fn lent_counters(queue: &Queue) -> usize
     }
 }
 
-/// How many words the counters of a queue's program are, and 0 if it shares its counters: with fewer no step of it does anything.
-/// The greatest number with no queue.
+/// Returns the number of words that the counters of a queue's program are, and 0 if it shares its counters: with fewer no step of
+/// it does anything. The greatest number with no queue.
 #[unsafe(no_mangle)]
 pub extern "C" fn laxonje_queue_counters(queue: &mut XdpQueue) -> usize
     ensures kept { queue.new.slot.held ≡ queue.old.slot.held }

@@ -13,13 +13,13 @@ use crate::queue_handle::XdpQueue;
 use std::alloc::Global;
 use xen_host::{Queue, Relist};
 
-/// What is answered if the program's maps aren't the queue's.
+/// The answer if the program's maps aren't the queue's.
 const OTHER_MAPS: u32 = 3;
 
-/// What is answered if memory ran out.
+/// The answer if memory ran out.
 const NO_MEMORY: u32 = 4;
 
-/// What is answered if there is no program.
+/// The answer if there is no program.
 const NO_PROGRAM: u32 = 5;
 
 /// The number of the answer to lists that are to become a queue's.

@@ -63,7 +63,7 @@ pub extern "C" fn laxonje_run_batch(
     }
 }
 
-/// How many words a program's counters are. With no program, none.
+/// Returns the number of words that a program's counters are. With no program, none.
 #[unsafe(no_mangle)]
 pub extern "C" fn laxonje_counters(program: &mut XdpProgram) -> usize
     ensures kept { program.new.slot.held ≡ program.old.slot.held }
@@ -75,7 +75,7 @@ pub extern "C" fn laxonje_counters(program: &mut XdpProgram) -> usize
     }
 }
 
-/// Which of a program's words a counter is: the greatest number if there is no such counter, or no program.
+/// Returns which of a program's words a counter is: the greatest number if there is no such counter, or no program.
 #[unsafe(no_mangle)]
 pub extern "C" fn laxonje_place(
     program: &mut XdpProgram,

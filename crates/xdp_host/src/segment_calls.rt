@@ -8,10 +8,10 @@ use crate::queue_abi::NO_QUEUE;
 use crate::queue_handle::XdpQueue;
 use xen_host::{Offering, Offers, Queue, Segments};
 
-/// What is answered if a bit has no name.
+/// The answer if a bit has no name.
 pub const UNKNOWN_OFFER: u32 = 3;
 
-/// Whether a bit is set.
+/// Returns whether a bit is set.
 pub fn has_bit(bits: u32, index: u32) -> bool
     requires { index < 32 }
     ensures { result ≡ is_set bits index }
@@ -90,8 +90,8 @@ fn size_number(segments: Option<Segments>) -> u32
     }
 }
 
-/// What kind of segments the packet of the turn that is under way or over is to make. 0 with no queue, before its chain is whole, and of a
-/// packet that isn't to be segmented.
+/// Returns what kind of segments the packet of the turn that is under way or over is to make. 0 with no queue, before its chain is
+/// whole, and of a packet that isn't to be segmented.
 #[unsafe(no_mangle)]
 pub extern "C" fn laxonje_queue_segment_type(queue: &mut XdpQueue) -> u32
     ensures kept { queue.new.slot.held ≡ queue.old.slot.held }

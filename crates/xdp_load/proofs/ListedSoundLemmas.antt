@@ -11,8 +11,8 @@ use Rattle.std.proofs.Math.Nat.{add_comm, mul-div_left, mul-mod_left, suc-mul}
 use Rattle.bpf_lists.specs.declared.list.MapList.{MapList}
 use Rattle.bpf_note.specs.Keys.{IsKey, IsKind, size}
 use Rattle.bpf_note.specs.Shape.{IsShape, Shape, most_maps}
-use Rattle.bpf_note.specs.declared.key.Kind.{Kind}
-use Rattle.bpf_note.specs.declared.key.Kind.TheVariants.{Exact, Prefix}
+use Rattle.bpf_note.specs.declared.key.KeyKind.{KeyKind}
+use Rattle.bpf_note.specs.declared.key.KeyKind.TheVariants.{Exact, Prefix}
 use Rattle.bpf_note.specs.declared.key.MapKey.{MapKey}
 use Rattle.bpf_note.specs.declared.key.MapKey.TheVariants.{Index, Listed, Constants}
 use Rattle.toml.specs.Data.{Members}
@@ -138,7 +138,7 @@ rows_long z n (t ∷ ts) keys h e =
     let made : bytes ++ others ≡ keys = same_Ok _ _ same in
     sym (ap length made) ∙ length-append bytes others ∙ ap (λ k. k + length others) (sym count ∙ one) ∙ ap (λ k. z + k) tail ∙ sym (one_more z (length ts))))
 
-size_some : (kind : Kind) → IsKind kind → 0 < size kind
+size_some : (kind : KeyKind) → IsKind kind → 0 < size kind
 size_some (Exact bytes) h = h.0
 size_some (Prefix bytes) h = omega arith
 

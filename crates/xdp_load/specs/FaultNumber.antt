@@ -2,10 +2,10 @@
 -- The number after the L.
 use Rattle.std.specs.Prelude.{ℕ}
 use Rattle.xdp_load.specs.declared.fault.Fault.TheVariants.{Text, Syntax, Key, Limit, Name, Hex, Relocation, Rows}
-use Rattle.xdp_load.specs.declared.fault.LoadFault.{LoadFault}
-use Rattle.xdp_load.specs.declared.fault.LoadFault.TheVariants.{Memory, Refused}
+use Rattle.xdp_load.specs.declared.fault.TextFault.{TextFault}
+use Rattle.xdp_load.specs.declared.fault.TextFault.TheVariants.{Memory, Refused}
 
-abbrev pub fault_number : LoadFault → ℕ
+abbrev pub fault_number : TextFault → ℕ
 fault_number Memory = 0
 fault_number (Refused Text) = 1
 fault_number (Refused Syntax) = 2

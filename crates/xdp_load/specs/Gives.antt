@@ -4,8 +4,8 @@ use Rattle.std.specs.Prelude.{ℕ, suc, ◌≡◌, List, [], ◌∷◌, Option, 
 use Rattle.xdp_load.specs.declared.fault.Fault.{Fault}
 use Rattle.xdp_load.specs.declared.fault.LoadError.{LoadError}
 use Rattle.xdp_load.specs.declared.fault.LoadError.TheVariants as error
-use Rattle.xdp_load.specs.declared.fault.LoadFault.{LoadFault}
-use Rattle.xdp_load.specs.declared.fault.LoadFault.TheVariants as fault
+use Rattle.xdp_load.specs.declared.fault.TextFault.{TextFault}
+use Rattle.xdp_load.specs.declared.fault.TextFault.TheVariants as fault
 use Rattle.xdp_load.specs.declared.fault.Part.TheVariants.{Original}
 use Rattle.xdp_load.specs.declared.key.Key.{Key}
 use Rattle.xdp_load.specs.Spot.{Refused, Spot, at, refused, row}
@@ -27,12 +27,12 @@ IsError f error.Memory = ⊥
 IsError f (error.Refused r) = refused_seen r ≡ f
 
 -- the fault alone
-abbrev pub fault_of : LoadError → LoadFault
+abbrev pub fault_of : LoadError → TextFault
 fault_of error.Memory = fault.Memory
 fault_of (error.Refused r) = fault.Refused r.fault
 
 -- reading gives this fault, at some spot, or memory ran out
-abbrev pub HasFault : {Y : Type 0} → LoadFault → Result Y Refused → Type 0
+abbrev pub HasFault : {Y : Type 0} → TextFault → Result Y Refused → Type 0
 HasFault fault.Memory read = Unit {0}
 HasFault (fault.Refused f) read = (r : Refused) × (read ≡ Err r) × (r.fault ≡ f)
 

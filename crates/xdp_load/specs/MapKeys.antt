@@ -7,7 +7,7 @@ use Rattle.std.specs.Option.{option_map_or}
 use Rattle.std.specs.Ordering.{int_eq}
 use Rattle.std.specs.Str.{bytes_eq}
 use Rattle.bpf_note.specs.Keys.{size}
-use Rattle.bpf_note.specs.declared.key.Kind.TheVariants.{Exact, Prefix}
+use Rattle.bpf_note.specs.declared.key.KeyKind.TheVariants.{Exact, Prefix}
 use Rattle.bpf_note.specs.declared.key.MapKey.{MapKey}
 use Rattle.bpf_note.specs.declared.key.MapKey.TheVariants.{Index, Listed, Constants}
 use Rattle.toml.specs.Data.{Data, Members, as_bool, as_str, as_table}

@@ -1,7 +1,7 @@
 -- Stated: claims rest on this file.
 -- What settings with an original stand for.
 use Rattle.std.specs.Prelude.{map, List, ℕ}
-use Rattle.xdp_load.specs.declared.original.Place.{Place as CodePlace}
+use Rattle.xdp_load.specs.declared.original.OriginalPlace.{OriginalPlace as CodePlace}
 use Rattle.xdp_load.specs.declared.rewritten.Rewritten.{Rewritten}
 use Rattle.xdp_load.specs.declared.fault.LoadError.{LoadError}
 use Rattle.xdp_load.specs.declared.fault.LoadError.TheVariants as error

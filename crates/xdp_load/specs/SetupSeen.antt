@@ -1,7 +1,7 @@
 -- Stated: claims rest on this file.
 -- What a setup of the code stands for.
 use Rattle.std.specs.Prelude.{map, string_bytes}
-use Rattle.xdp_load.specs.declared.packets.Packet.{Packet as CodePacket}
+use Rattle.xdp_load.specs.declared.packets.SentPacket.{SentPacket as CodePacket}
 use Rattle.xdp_load.specs.declared.setup.Setup.{Setup}
 use Rattle.xdp_load.specs.Setup.{Packet, SetupView}
 

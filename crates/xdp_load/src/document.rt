@@ -34,7 +34,7 @@ pub struct Written<'a> {
     pub packets: Vec<PacketRow<'a>>,
 }
 
-/// What a document with known keys says beside its program, its numbers and its maps.
+/// Returns what a document with known keys says beside its program, its numbers and its maps.
 #[tactic(auto, unfolding(crate::specs::Written::written_with))]
 pub fn written_with<'a>(
     alloc: Global,
@@ -59,7 +59,7 @@ pub fn written_with<'a>(
     })
 }
 
-/// What a document with known keys says.
+/// Returns what a document with known keys says.
 #[tactic(auto, unfolding(crate::specs::Written::rows_of_table))]
 fn rows_of_table<'a>(alloc: Global, table: &'a Table) -> Result<Written<'a>, LoadError>
     ensures { Gives written_seen result (rows_of_table (table_view table.now)) }
@@ -70,7 +70,7 @@ fn rows_of_table<'a>(alloc: Global, table: &'a Table) -> Result<Written<'a>, Loa
     written_with(alloc, table, program, numbers, maps)
 }
 
-/// What a document says that knows these keys.
+/// Returns what a document says that knows these keys.
 pub fn written_by<'a>(
     alloc: Global,
     table: &'a Table,

@@ -10,7 +10,7 @@ use crate::spot::Spot;
 use std::alloc::{AllocError, AllocFailed};
 use thiserror::Error;
 
-/// What is wrong with a settings text. The first of these that applies to the whole document is its fault.
+/// The fault of a settings text. The first of these that applies to the whole document is its fault.
 #[derive(Clone, Copy, Debug, PartialEq, Eq, Error)]
 pub enum Fault {
     /// L1
@@ -41,7 +41,7 @@ pub enum Fault {
 
 /// The fault of settings of which there is no setup, wherever it is.
 #[derive(Clone, Copy, Debug, PartialEq, Eq, Error)]
-pub enum LoadFault {
+pub enum TextFault {
     /// L0
     #[error("out of memory")]
     Memory,
@@ -50,21 +50,21 @@ pub enum LoadFault {
     Refused(Fault),
 }
 
-impl LoadFault {
+impl TextFault {
     /// The number after the L.
     pub fn number(self) -> u8
         ensures { result ≡ fault_number self }
     {
         match self {
-            LoadFault::Memory => 0,
-            LoadFault::Refused(Fault::Text) => 1,
-            LoadFault::Refused(Fault::Syntax) => 2,
-            LoadFault::Refused(Fault::Key) => 3,
-            LoadFault::Refused(Fault::Limit) => 4,
-            LoadFault::Refused(Fault::Name) => 5,
-            LoadFault::Refused(Fault::Hex) => 6,
-            LoadFault::Refused(Fault::Relocation) => 7,
-            LoadFault::Refused(Fault::Rows) => 8,
+            TextFault::Memory => 0,
+            TextFault::Refused(Fault::Text) => 1,
+            TextFault::Refused(Fault::Syntax) => 2,
+            TextFault::Refused(Fault::Key) => 3,
+            TextFault::Refused(Fault::Limit) => 4,
+            TextFault::Refused(Fault::Name) => 5,
+            TextFault::Refused(Fault::Hex) => 6,
+            TextFault::Refused(Fault::Relocation) => 7,
+            TextFault::Refused(Fault::Rows) => 8,
         }
     }
 }
@@ -84,7 +84,7 @@ pub struct Refused {
     pub spot: Spot,
 }
 
-/// Why there is no setup of a settings text.
+/// The reason why there is no setup of a settings text.
 #[derive(Debug, PartialEq, Eq, Error, Drop)]
 pub enum LoadError {
     /// L0
@@ -122,12 +122,12 @@ impl LoadError {
     }
 
     /// The fault alone.
-    pub fn fault(&self) -> LoadFault
+    pub fn fault(&self) -> TextFault
         ensures { result ≡ fault_of self.now }
     {
         match self {
-            LoadError::Memory => LoadFault::Memory,
-            LoadError::Refused(refused) => LoadFault::Refused(refused.fault),
+            LoadError::Memory => TextFault::Memory,
+            LoadError::Refused(refused) => TextFault::Refused(refused.fault),
         }
     }
 }
@@ -148,7 +148,7 @@ impl<T: Drop> From<AllocFailed<T>> for LoadError {
     }
 }
 
-/// What a key of the document gives.
+/// Returns what a key of the document gives.
 pub fn in_key<T: Drop>(fault: Fault, read: Result<T, Key>) -> Result<T, LoadError>
     ensures { Gives (λ x. x) result (in_key fault read) }
 {
@@ -158,7 +158,7 @@ pub fn in_key<T: Drop>(fault: Fault, read: Result<T, Key>) -> Result<T, LoadErro
     }
 }
 
-/// What a row gives.
+/// Returns what a row gives.
 pub fn in_row<T: Drop>(fault: Fault, number: usize, read: Result<T, Key>) -> Result<T, LoadError>
     ensures { Gives (λ x. x) result (in_row fault number read) }
 {

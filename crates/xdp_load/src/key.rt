@@ -130,7 +130,7 @@ impl Key {
         }
     }
 
-    /// What is allowed there.
+    /// Returns what is allowed there.
     pub fn allowed(self) -> &'static str
         ensures { result.now ≡ allowed self }
     {

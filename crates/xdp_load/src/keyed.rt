@@ -42,7 +42,7 @@ pub fn text_in(value: &Value) -> &str
     }
 }
 
-/// Whether a value is no text.
+/// Returns whether a value is no text.
 fn has_other(values: &[Value]) -> bool
     ensures { result ≡ list_any is_no_text (map view values.now) }
 {
@@ -72,7 +72,7 @@ pub struct KeyRow<'a> {
     pub parts: bool,
 }
 
-/// What a table with known keys says of a map's keys.
+/// Returns what a table with known keys says of a map's keys.
 fn key_of_fields<'a>(table: &'a Table) -> Result<KeyRow<'a>, Key>
     ensures { seen_by key_seen result ≡ key_of_fields (table_view table.now) }
 {

@@ -22,7 +22,7 @@ use crate::listed_document::ListedWritten;
 use crate::numbers::{Limits, limited, limited_numbers};
 use crate::spot::Spot;
 use crate::values::are_values;
-use bpf_note::{Kind, MapKey, MapShape};
+use bpf_note::{KeyKind, MapKey, MapShape};
 use std::alloc::Global;
 use toml::Value;
 
@@ -44,7 +44,7 @@ fn exact_of(size: i64) -> Result<MapKey, Key>
     ensures key { IfOk result IsKey }
 {
     let size = limited(Key::KeySize, size)?;
-    Ok(MapKey::Listed(Kind::Exact(size as u8)))
+    Ok(MapKey::Listed(KeyKind::Exact(size as u8)))
 }
 
 /// A key that is a prefix.
@@ -53,7 +53,7 @@ fn prefix_of(size: i64) -> Result<MapKey, Key>
     ensures key { IfOk result IsKey }
 {
     let size = limited(Key::KeySize, size)?;
-    Ok(MapKey::Listed(Kind::Prefix(size as u8)))
+    Ok(MapKey::Listed(KeyKind::Prefix(size as u8)))
 }
 
 /// Constants of so many bytes.
@@ -85,21 +85,21 @@ fn limited_key(row: &KeyRow<'_>) -> Result<MapKey, Key>
     Err(Key::KeyKind)
 }
 
-/// Whether a row's text has the length of a key, at two digits a byte.
+/// Returns whether a row's text has the length of a key, at two digits a byte.
 fn is_row_of(size: usize, row: &Value) -> bool
     ensures { result ≡ is_row_of size (text_in (view row.now)) }
 {
     text_in(row).len() / 2 == size
 }
 
-/// Whether a row's text has another length than that of a key.
+/// Returns whether a row's text has another length than that of a key.
 fn has_other_length(size: usize, rows: &[Value]) -> bool
     ensures { result ≡ list_any (λ t. not (is_row_of size t)) (row_texts rows.now) }
 {
     rows.iter().any(|row| !is_row_of(size, row))
 }
 
-/// Whether a map with such keys and so many values can have these rows.
+/// Returns whether a map with such keys and so many values can have these rows.
 #[tactic(auto, using(crate::proofs::ListedLemmas::texts_counted))]
 fn are_rows(key: MapKey, entries: u32, rows: &[Value]) -> bool
     ensures { result ≡ are_rows key entries (row_texts rows.now) }
@@ -119,7 +119,7 @@ fn entries_key(wide: bool) -> Key
     if wide { Key::WideEntries } else { Key::Entries }
 }
 
-/// How many values a map has.
+/// Returns the number of values that a map has.
 fn limited_entries(wide: bool, entries: i64) -> Result<u32, Key>
     ensures value { result ≡ limited (entries_key wide) entries }
     ensures some { IfOk result (λ n. 1 ≤ n) }
@@ -132,7 +132,7 @@ fn limited_entries(wide: bool, entries: i64) -> Result<u32, Key>
     }
 }
 
-/// How many counters of a map can begin with a number.
+/// Returns the number of a map's counters that can begin with a number.
 fn room_of(key: MapKey, counters: usize) -> usize
     ensures { result ≡ room_of key counters }
 {
@@ -211,7 +211,7 @@ fn listed_limits_with<'a>(
     limited_with(alloc, &listed.written, numbers, shapes)
 }
 
-/// How many maps there may be.
+/// Returns the most maps that there may be.
 fn most_of(wide: bool) -> usize
     ensures value { result ≡ most_of wide }
     ensures few { result ≤ most_maps }
@@ -243,7 +243,7 @@ fn listed_limits_of<'a>(
     listed_limits_with(alloc, listed, numbers)
 }
 
-/// What is written, where it is within its limits.
+/// Returns what is written, where it is within its limits.
 #[tactic(auto, unfolding(crate::specs::Listed::listed_limits))]
 pub fn listed_limits<'a>(
     alloc: Global,

@@ -37,14 +37,14 @@ mod spot;
 mod table;
 mod values;
 
-pub use fault::{Fault, LoadError, LoadFault, Part, Refused};
+pub use fault::{Fault, LoadError, Part, Refused, TextFault};
 pub use key::Key;
 pub use laws::{
     relocated_loads_are_of_maps, settings_without_lists_are_read_as_ever, sound_setups_are_written,
 };
 pub use listed::{Listed, load_listed};
-pub use original::Place;
-pub use packets::Packet;
+pub use original::OriginalPlace;
+pub use packets::SentPacket;
 pub use rewritten::{Rewritten, load_rewritten};
 pub use setup::{Setup, load};
 pub use spot::{Spot, fault_text};

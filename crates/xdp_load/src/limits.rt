@@ -74,7 +74,7 @@ pub struct HexPacket<'a> {
     pub times: u32,
 }
 
-/// Whether a hex text has the length of a packet, at two digits a byte.
+/// Returns whether a hex text has the length of a packet, at two digits a byte.
 fn is_packet_length(text: &str) -> bool
     ensures { result ≡ is_packet_text text.now }
 {
@@ -182,7 +182,7 @@ fn limited_lists<'a>(
     limited_rows(alloc, written, numbers)
 }
 
-/// What is written, where it is within its limits.
+/// Returns what is written, where it is within its limits.
 #[tactic(auto, unfolding(crate::specs::Limits::limited_of))]
 pub fn limited_of<'a>(alloc: Global, written: &Written<'a>) -> Result<WithinLimits<'a>, LoadError>
     ensures value { Gives limited_seen result (limited_of (written_seen written.now)) }

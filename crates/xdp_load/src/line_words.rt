@@ -3,7 +3,7 @@ ghost use Rattle.std.specs.Prelude.{◌≡◌, option_map};
 ghost use Rattle.xdp_load.specs.Lines.{begins_with_one, behind, behind_key, has_key, has_quoted, is_blank, is_closed};
 ghost use Rattle.xdp_load.specs.Lines.{is_header, is_pair, is_row, is_table, opens, skip_blanks};
 
-/// Whether a byte is TOML's white space.
+/// Returns whether a byte is TOML's white space.
 fn is_blank(byte: u8) -> bool
     ensures { result ≡ is_blank byte }
 {
@@ -22,14 +22,14 @@ fn skip_blanks(text: &[u8]) -> &[u8]
     &[]
 }
 
-/// What stands behind a word.
+/// Returns what stands behind a word.
 fn behind<'a>(word: &[u8], text: &'a [u8]) -> Option<&'a [u8]>
     ensures { option_map (λ t. t.now) result ≡ behind word.now text.now }
 {
     text.strip_prefix(word)
 }
 
-/// What stands behind a key in such quotes.
+/// Returns what stands behind a key in such quotes.
 fn behind_key<'a>(quote: &[u8], key: &[u8], text: &'a [u8]) -> Option<&'a [u8]>
     ensures { option_map (λ t. t.now) result ≡ behind_key quote.now key.now text.now }
 {
@@ -38,7 +38,7 @@ fn behind_key<'a>(quote: &[u8], key: &[u8], text: &'a [u8]) -> Option<&'a [u8]>
     behind(quote, ended)
 }
 
-/// Whether a text begins with one of those bytes.
+/// Returns whether a text begins with one of those bytes.
 fn begins_with_one(ends: &[u8], text: &[u8]) -> bool
     ensures { result ≡ begins_with_one ends.now text.now }
 {
@@ -48,7 +48,7 @@ fn begins_with_one(ends: &[u8], text: &[u8]) -> bool
     }
 }
 
-/// Whether a text begins with a key in such quotes, and one of those bytes follows.
+/// Returns whether a text begins with a key in such quotes, and one of those bytes follows.
 fn has_quoted(ends: &[u8], key: &[u8], text: &[u8], quote: &[u8]) -> bool
     ensures { result ≡ has_quoted ends.now key.now text.now quote.now }
 {
@@ -58,7 +58,7 @@ fn has_quoted(ends: &[u8], key: &[u8], text: &[u8], quote: &[u8]) -> bool
     }
 }
 
-/// Whether a text begins with a key, bare or in quotes, and one of those bytes follows.
+/// Returns whether a text begins with a key, bare or in quotes, and one of those bytes follows.
 fn has_key(ends: &[u8], key: &[u8], text: &[u8]) -> bool
     ensures { result ≡ has_key ends.now key.now text.now }
 {
@@ -67,7 +67,7 @@ fn has_key(ends: &[u8], key: &[u8], text: &[u8]) -> bool
         || has_quoted(ends, key, text, b"\"")
 }
 
-/// Whether a line begins so, then has a key, and one of those bytes follows.
+/// Returns whether a line begins so, then has a key, and one of those bytes follows.
 fn opens(opening: &[u8], ends: &[u8], key: &[u8], line: &[u8]) -> bool
     ensures { result ≡ opens opening.now ends.now key.now line.now }
 {
@@ -77,21 +77,21 @@ fn opens(opening: &[u8], ends: &[u8], key: &[u8], line: &[u8]) -> bool
     }
 }
 
-/// Whether a line has a key and its value.
+/// Returns whether a line has a key and its value.
 pub fn is_pair(key: &str, line: &str) -> bool
     ensures { result ≡ is_pair key.now line.now }
 {
     opens(b"", b"=.", key.as_bytes(), line.as_bytes())
 }
 
-/// Whether a line is the header of a list's row.
+/// Returns whether a line is the header of a list's row.
 pub fn is_row(name: &str, line: &str) -> bool
     ensures { result ≡ is_row name.now line.now }
 {
     opens(b"[[", b"]", name.as_bytes(), line.as_bytes())
 }
 
-/// Whether a line is the header of a table or of a list's row.
+/// Returns whether a line is the header of a table or of a list's row.
 pub fn is_table(name: &str, line: &str) -> bool
     ensures { result ≡ is_table name.now line.now }
 {
@@ -99,7 +99,7 @@ pub fn is_table(name: &str, line: &str) -> bool
         || opens(b"[[", b"].", name.as_bytes(), line.as_bytes())
 }
 
-/// Whether `]` comes before any comma.
+/// Returns whether `]` comes before any comma.
 fn is_closed(text: &[u8]) -> bool
     ensures { result ≡ is_closed text.now }
 {
@@ -109,7 +109,7 @@ fn is_closed(text: &[u8]) -> bool
     }
 }
 
-/// Whether a line is any header.
+/// Returns whether a line is any header.
 pub fn is_header(line: &str) -> bool
     ensures { result ≡ is_header line.now }
 {

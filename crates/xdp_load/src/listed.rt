@@ -20,7 +20,7 @@ use crate::limits::WithinLimits;
 use crate::listed_document::{ListedWritten, read_listed};
 use crate::lists::{ListBytes, lists_of, sorted_lists};
 use crate::names::bad_name;
-use crate::packets::Packet;
+use crate::packets::SentPacket;
 use crate::setup::{Setup, decoded_of, document_of, relocated_setup, text_of};
 use crate::spot::Spot;
 use bpf_lists::MapList;
@@ -40,7 +40,7 @@ fn listed_setup_with(
     alloc: Global,
     listed: &ListedWritten<'_>,
     limits: WithinLimits<'_>,
-    decoded: (Vec<u8>, Vec<Packet>),
+    decoded: (Vec<u8>, Vec<SentPacket>),
 ) -> Result<Unsorted, LoadError>
     requires counted { vec_len limits.shapes ≡ vec_len listed.now.maps }
     requires few { vec_len listed.now.written.maps ≤ most_maps }

@@ -37,7 +37,7 @@ fn maps_in<'a>(alloc: Global, rows: &[ListedRow<'a>]) -> Result<Vec<MapRow<'a>>,
     Ok(maps)
 }
 
-/// What a document with known keys says.
+/// Returns what a document with known keys says.
 #[tactic(auto, unfolding(crate::specs::Listed::listed_rows_of))]
 fn listed_rows_of<'a>(alloc: Global, table: &'a Table) -> Result<ListedWritten<'a>, LoadError>
     ensures { Gives listed_written_seen result (listed_rows_of (table_view table.now)) }
@@ -55,7 +55,7 @@ fn listed_rows_of<'a>(alloc: Global, table: &'a Table) -> Result<ListedWritten<'
     })
 }
 
-/// What a document says that knows these keys.
+/// Returns what a document says that knows these keys.
 pub fn listed_by<'a>(
     alloc: Global,
     table: &'a Table,

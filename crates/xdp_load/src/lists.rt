@@ -12,15 +12,15 @@ use crate::key::Key;
 use crate::keyed::{ListedRow, text_in};
 use crate::packets::bytes_in;
 use crate::spot::Spot;
-use bpf_lists::{ConstantBytes, KeyedRows, MapList, Refusal};
-use bpf_note::{Kind, MapKey, MapShape};
+use bpf_lists::{ConstantBytes, KeyedRows, MapList, RowsRefusal};
+use bpf_note::{KeyKind, MapKey, MapShape};
 use std::alloc::Global;
 use toml::Value;
 
 /// The keys of a list, one after the other.
 #[derive(Drop)]
 pub struct KeyBytes {
-    pub kind: Kind,
+    pub kind: KeyKind,
     pub keys: Vec<u8>,
 }
 
@@ -92,7 +92,7 @@ fn rows_of(alloc: Global, number: usize, list: &KeyBytes) -> Result<KeyedRows, L
 {
     match KeyedRows::make(alloc, list.kind, list.keys.as_slice()) {
         Ok(rows) => Ok(rows),
-        Err(Refusal::Memory) => Err(LoadError::Memory),
+        Err(RowsRefusal::Memory) => Err(LoadError::Memory),
         Err(_) => Err(LoadError::at(Fault::Rows, Spot::Row(Key::Rows, number))),
     }
 }

@@ -6,14 +6,14 @@ ghost use Rattle.xdp_load.specs.Limits.{bad_name, is_bad_first};
 
 use crate::kinds::MapRow;
 
-/// Whether a map has the name.
+/// Returns whether a map has the name.
 fn is_repeated(name: &str, rows: &[MapRow<'_>]) -> bool
     ensures { result ≡ list_any (bytes_eq name.now) (map (λ m. m.name.now) rows.now) }
 {
     rows.iter().any(|row| name == row.name)
 }
 
-/// Whether the first map's name is no right one, or is given again.
+/// Returns whether the first map's name is no right one, or is given again.
 fn is_bad_first(rows: &[MapRow<'_>]) -> bool
     ensures { result ≡ is_bad_first (map (λ m. m.name.now) rows.now) }
 {

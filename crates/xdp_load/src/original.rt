@@ -32,7 +32,7 @@ pub struct Original<'a> {
     pub places: Vec<PlaceRow>,
 }
 
-/// What a table with known keys says of the original.
+/// Returns what a table with known keys says of the original.
 #[tactic(auto, unfolding(crate::specs::Original::rows_of_original))]
 fn rows_of_original<'a>(alloc: Global, table: &'a Table) -> Result<Original<'a>, LoadError>
     ensures { Gives original_seen result (rows_of_original (table_view table.now)) }
@@ -47,7 +47,7 @@ fn rows_of_original<'a>(alloc: Global, table: &'a Table) -> Result<Original<'a>,
     })
 }
 
-/// What a table says of the original.
+/// Returns what a table says of the original.
 #[tactic(auto, using(crate::proofs::RowLemmas::original_fails), unfolding(crate::specs::Original::original_of_table))]
 fn original_of_table<'a>(alloc: Global, table: &'a Table) -> Result<Original<'a>, LoadError>
     ensures { Gives original_seen result (original_of_table (table_view table.now)) }
@@ -58,7 +58,7 @@ fn original_of_table<'a>(alloc: Global, table: &'a Table) -> Result<Original<'a>
     rows_of_original(alloc, table).map_err(LoadError::in_original)
 }
 
-/// What a document says of the original.
+/// Returns what a document says of the original.
 #[tactic(auto, unfolding(crate::specs::Original::original_of))]
 pub fn original_of<'a>(alloc: Global, table: &'a Table) -> Result<Original<'a>, LoadError>
     ensures { Gives original_seen result (original_of (table_view table.now)) }
@@ -69,23 +69,23 @@ pub fn original_of<'a>(alloc: Global, table: &'a Table) -> Result<Original<'a>, 
     }
 }
 
-/// Where the original stands before a slot of the settings' program, and whether a conditional jump there is that program's alone.
+/// The original's place before a slot of the settings' program, and whether a conditional jump there is that program's alone.
 #[derive(Clone, Copy, Drop)]
-pub struct Place {
+pub struct OriginalPlace {
     pub at: u32,
     pub own: bool,
 }
 
 /// A place within its limits.
-fn limited_place(row: &PlaceRow) -> Result<Place, Key>
+fn limited_place(row: &PlaceRow) -> Result<OriginalPlace, Key>
     ensures { seen_by place_view result ≡ limited_place (place_seen row.now) }
 {
     let at = limited(Key::Place, row.at)?;
-    Ok(Place { at, own: row.own })
+    Ok(OriginalPlace { at, own: row.own })
 }
 
 /// The places, each within its limits.
-fn each_place(alloc: Global, rows: &[PlaceRow]) -> Result<Vec<Place>, LoadError>
+fn each_place(alloc: Global, rows: &[PlaceRow]) -> Result<Vec<OriginalPlace>, LoadError>
     ensures { Gives (λ v. map place_view v.items) result (each Limit limited_place 0 (map place_seen rows.now)) }
 {
     let mut places = Vec::new(alloc);
@@ -98,7 +98,7 @@ fn each_place(alloc: Global, rows: &[PlaceRow]) -> Result<Vec<Place>, LoadError>
 
 /// The places of the original within their limits.
 #[tactic(auto, using(crate::proofs::RowLemmas::original_fails))]
-pub fn limited_places(alloc: Global, rows: &[PlaceRow]) -> Result<Vec<Place>, LoadError>
+pub fn limited_places(alloc: Global, rows: &[PlaceRow]) -> Result<Vec<OriginalPlace>, LoadError>
     ensures { Gives (λ v. map place_view v.items) result (in_original (each Limit limited_place 0 (map place_seen rows.now))) }
 {
     each_place(alloc, rows).map_err(LoadError::in_original)

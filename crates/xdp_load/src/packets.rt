@@ -17,7 +17,7 @@ use std::alloc::Global;
 
 /// A packet of 14 to 65,535 bytes, the queue on which it is sent, and how many times, 1 to 100,000.
 #[derive(Drop)]
-pub struct Packet {
+pub struct SentPacket {
     pub queue: usize,
     pub bytes: Vec<u8>,
     pub times: u32,
@@ -48,11 +48,11 @@ pub fn joined(alloc: Global, texts: &[HexRow<'_>]) -> Result<Vec<u8>, LoadError>
 
 /// The packet of the row with that number.
 #[tactic(auto, using(crate::proofs::RowLemmas::packet_fails, crate::proofs::RowLemmas::packet_read))]
-fn packet_of(alloc: Global, number: usize, row: &HexPacket<'_>) -> Result<Packet, LoadError>
+fn packet_of(alloc: Global, number: usize, row: &HexPacket<'_>) -> Result<SentPacket, LoadError>
     ensures { Gives packet_view result (in_row Hex number (packet_of (hex_packet_seen row.now))) }
 {
     let bytes = bytes_in(alloc, Key::Bytes, number, row.bytes)?;
-    Ok(Packet {
+    Ok(SentPacket {
         queue: row.queue,
         bytes,
         times: row.times,
@@ -60,7 +60,7 @@ fn packet_of(alloc: Global, number: usize, row: &HexPacket<'_>) -> Result<Packet
 }
 
 /// The packets with their bytes.
-pub fn packets_of(alloc: Global, rows: &[HexPacket<'_>]) -> Result<Vec<Packet>, LoadError>
+pub fn packets_of(alloc: Global, rows: &[HexPacket<'_>]) -> Result<Vec<SentPacket>, LoadError>
     ensures { Gives (λ v. map packet_view v.items) result (each Hex packet_of 0 (map hex_packet_seen rows.now)) }
 {
     let mut packets = Vec::new(alloc);

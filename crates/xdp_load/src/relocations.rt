@@ -12,7 +12,7 @@ use crate::fault::{Fault, LoadError, in_row};
 use crate::key::Key;
 use crate::kinds::{MapRow, RelocRow};
 
-/// Whether a relocation has the slot.
+/// Returns whether a relocation has the slot.
 fn is_taken(slot: i64, rows: &[RelocRow<'_>]) -> bool
     ensures { result ≡ list_any (λ r. int_eq slot r.slot) (map reloc_seen rows.now) }
 {

@@ -18,22 +18,22 @@ use crate::keyed_limits::listed_limits;
 use crate::listed::{Listed, listed_setup_of};
 use crate::listed_document::{ListedWritten, listed_by};
 use crate::lists::{ListBytes, sorted_lists};
-use crate::original::{Place, limited_places, original_of, original_program};
+use crate::original::{OriginalPlace, limited_places, original_of, original_program};
 use crate::setup::{Setup, document_of, text_of};
 use crate::spot::Spot;
 use std::alloc::Global;
 use toml::Table;
 
-/// What settings say beside their original, the keys of their lists as they are written.
+/// The settings beside their original, the keys of their lists as they are written.
 #[derive(Drop)]
 pub struct Unsorted {
     pub setup: Setup,
     pub lists: Vec<Option<ListBytes>>,
     pub original: Vec<u8>,
-    pub places: Vec<Place>,
+    pub places: Vec<OriginalPlace>,
 }
 
-/// What a document says beside its original.
+/// Returns what a document says beside its original.
 #[tactic(auto, unfolding(crate::specs::Original::listed_beside))]
 fn listed_beside<'a>(alloc: Global, table: &'a Table) -> Result<ListedWritten<'a>, LoadError>
     ensures { Gives listed_written_seen result (listed_beside (table_view table.now)) }
@@ -41,7 +41,7 @@ fn listed_beside<'a>(alloc: Global, table: &'a Table) -> Result<ListedWritten<'a
     listed_by(alloc, table, &REWRITTEN_KEYS)
 }
 
-/// What a document says.
+/// Returns what a document says.
 #[tactic(auto, unfolding(crate::specs::Original::rewritten_of_table))]
 fn rewritten_of_table(alloc: Global, table: &Table) -> Result<Unsorted, LoadError>
     ensures { Gives rewritten_seen result (rewritten_of_table (table_view table.now)) }
@@ -77,7 +77,7 @@ fn rewritten_of(alloc: Global, bytes: &[u8]) -> Result<Unsorted, LoadError>
 pub struct Rewritten {
     pub listed: Listed,
     pub original: Vec<u8>,
-    pub places: Vec<Place>,
+    pub places: Vec<OriginalPlace>,
 }
 
 /// The setup and the original of a settings text, or a fault and its spot: that of the phase that comes first, the original's hex

@@ -13,7 +13,7 @@ use crate::table::found;
 use std::alloc::Global;
 use toml::{Table, Value};
 
-/// What a row of an array spells.
+/// A type that a row of an array spells.
 pub trait Row<'a>: Sized {
     ghost use Rattle.std.specs.Prelude.{◌≡◌, Result};
     ghost use Rattle.toml.specs.Data.{Data};

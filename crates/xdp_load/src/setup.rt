@@ -18,7 +18,7 @@ use crate::key::Key;
 use crate::kinds::MapRow;
 use crate::limits::{WithinLimits, limited_of};
 use crate::names::bad_name;
-use crate::packets::{Packet, joined, packets_of};
+use crate::packets::{SentPacket, joined, packets_of};
 use crate::relocations::relocated;
 use crate::spot::Spot;
 use crate::values::values_in;
@@ -40,7 +40,7 @@ pub struct Setup {
     pub ifindex: u32,
     pub start: u32,
     pub script: Vec<(usize, u32)>,
-    pub packets: Vec<Packet>,
+    pub packets: Vec<SentPacket>,
 }
 
 /// The bytes of the program and of the packets.
@@ -49,7 +49,7 @@ pub fn decoded_of(
     alloc: Global,
     written: &Written<'_>,
     limited: &WithinLimits<'_>,
-) -> Result<(Vec<u8>, Vec<Packet>), LoadError>
+) -> Result<(Vec<u8>, Vec<SentPacket>), LoadError>
     ensures { Gives (λ d. (d.0.items, map packet_view d.1.items)) result
         (decoded_of (written_seen written.now) (limited_seen limited.now)) }
 {
@@ -75,7 +75,7 @@ pub fn relocated_setup(
     alloc: Global,
     written: &Written<'_>,
     limited: WithinLimits<'_>,
-    decoded: (Vec<u8>, Vec<Packet>),
+    decoded: (Vec<u8>, Vec<SentPacket>),
 ) -> Result<Setup, LoadError>
     requires { vec_len written.now.maps ≤ most_maps }
     ensures { Gives setup_view result (relocated_setup (written_seen written.now) (limited_seen limited.entry)

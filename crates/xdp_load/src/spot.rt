@@ -24,7 +24,7 @@ pub enum Spot {
     Unknown(String),
 }
 
-/// What is allowed at a key of the document.
+/// Returns what is allowed at a key of the document.
 fn key_text(alloc: Global, key: Key) -> Result<String, AllocError>
     ensures { IfOk result (λ s. string_bytes s ≡ spot_text (at key)) }
 {
@@ -33,7 +33,7 @@ fn key_text(alloc: Global, key: Key) -> Result<String, AllocError>
     format!(in alloc; "{list}: {allowed}\n")
 }
 
-/// What is allowed in a whole row of a list.
+/// Returns what is allowed in a whole row of a list.
 fn whole_text(alloc: Global, list: &str, number: usize, allowed: &str) -> Result<String, AllocError>
     ensures { IfOk result (λ s. string_bytes s
         ≡ list.now ++ (codes " " ++ (decimal number ++ (codes ": " ++ (allowed.now ++ codes "\n"))))) }
@@ -41,7 +41,7 @@ fn whole_text(alloc: Global, list: &str, number: usize, allowed: &str) -> Result
     format!(in alloc; "{list} {number}: {allowed}\n")
 }
 
-/// What is allowed in a row of a list.
+/// Returns what is allowed in a row of a list.
 fn row_text(alloc: Global, key: Key, number: usize) -> Result<String, AllocError>
     ensures { IfOk result (λ s. string_bytes s ≡ spot_text (row key number)) }
 {
@@ -53,14 +53,14 @@ fn row_text(alloc: Global, key: Key, number: usize) -> Result<String, AllocError
     }
 }
 
-/// That a key is none.
+/// Returns the text that says that a key is none.
 fn unknown_text(alloc: Global, name: &str) -> Result<String, AllocError>
     ensures { IfOk result (λ s. string_bytes s ≡ spot_text (unknown name.now)) }
 {
     format!(in alloc; "{name}: no key of settings\n")
 }
 
-/// What is allowed at a spot.
+/// Returns what is allowed at a spot.
 fn spot_text(alloc: Global, spot: &Spot) -> Result<String, AllocError>
     ensures { IfOk result (λ s. string_bytes s ≡ spot_text (spot_seen spot.now)) }
 {
@@ -117,7 +117,7 @@ fn lines_in(alloc: Global, bytes: &[u8]) -> Result<Vec<&str>, AllocError>
     }
 }
 
-/// How many lines end in these bytes.
+/// Returns the number of lines that end in these bytes.
 fn lines_ended(bytes: &[u8]) -> usize
     ensures count { result ≡ count_by (λ b. b == 10) bytes.now }
     ensures within { result ≤ length bytes.now }

@@ -10,7 +10,7 @@ ghost use Rattle.xdp_load.specs.Keys.{name};
 use crate::key::Key;
 use toml::{Table, Value};
 
-/// Whether the key is one of those.
+/// Returns whether the key is one of those.
 fn is_known(key: &str, known: &[Key]) -> bool
     ensures { result ≡ list_any (λ k. bytes_eq key.now (name k)) known.now }
 {
@@ -25,14 +25,14 @@ pub fn unknown_key<'a>(table: &'a Table, known: &[Key]) -> Option<&'a str>
     Some(key.as_str())
 }
 
-/// Whether the table has no key but those.
+/// Returns whether the table has no key but those.
 pub fn has_only(table: &Table, known: &[Key]) -> bool
     ensures { result ≡ has_only known.now (table_view table.now) }
 {
     unknown_key(table, known).is_none()
 }
 
-/// What the table has at a key.
+/// Returns what the table has at a key.
 pub fn found(table: &Table, key: Key) -> Option<&Value>
     ensures { option_map (λ v. view v.now) result ≡ found key (table_view table.now) }
 {

@@ -23,7 +23,7 @@ fn number_in(value: &Value) -> i64
     }
 }
 
-/// Whether a value is no whole number.
+/// Returns whether a value is no whole number.
 fn has_other(values: &[Value]) -> bool
     ensures { result ≡ list_any is_no_number (map view values.now) }
 {
@@ -44,7 +44,7 @@ pub fn numbers_at(table: &Table, key: Key) -> Result<&[Value], Key>
     }
 }
 
-/// Whether a number is negative.
+/// Returns whether a number is negative.
 fn is_negative(number: i64) -> bool
     ensures { result ≡ is_negative number }
 {
@@ -54,14 +54,14 @@ fn is_negative(number: i64) -> bool
     }
 }
 
-/// Whether one of the numbers is negative.
+/// Returns whether one of the numbers is negative.
 fn has_negative(numbers: &[Value]) -> bool
     ensures { result ≡ list_any is_negative (row_numbers numbers.now) }
 {
     numbers.iter().any(|value| is_negative(number_in(value)))
 }
 
-/// Whether so many counters can begin with these numbers.
+/// Returns whether so many counters can begin with these numbers.
 #[tactic(auto, using(crate::proofs::ListedLemmas::numbers_counted))]
 pub fn are_values(counters: usize, numbers: &[Value]) -> bool
     ensures { result ≡ are_values counters (row_numbers numbers.now) }

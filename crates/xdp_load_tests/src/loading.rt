@@ -4,11 +4,11 @@ ghost use Rattle.std.specs.Prelude.{◌≤◌, length};
 use bpf_lists::MapList;
 use std::alloc::Global;
 use xdp_load::{
-    Fault, Listed, LoadError, Part, Place, Setup, Spot, load, load_listed, load_rewritten,
+    Fault, Listed, LoadError, OriginalPlace, Part, Setup, Spot, load, load_listed, load_rewritten,
 };
 
-/// How many bytes the program has, how many shapes, names, steps and packets there are; the queues; the interface's number;
-/// and the index at which each ring begins.
+/// The numbers of the program's bytes, and of shapes, names, steps and packets; the queues; the interface's number; and the index
+/// at which each ring begins.
 pub type Counts = ([usize; 5], usize, u32, u32);
 
 /// The number of the fault of settings, if they have one.
@@ -45,12 +45,12 @@ pub fn counts(alloc: Global, text: &str) -> Result<Counts, LoadError> {
     }
 }
 
-/// Whether a hexadecimal text is that of bytes.
+/// Returns whether a hexadecimal text is that of bytes.
 fn is_hex_of(alloc: Global, hex: &str, bytes: &[u8]) -> bool {
     hex::encode(alloc, bytes).is_ok_and(|text| text.as_str() == hex)
 }
 
-/// Whether the program that settings give has these bytes, as a hexadecimal text.
+/// Returns whether the program that settings give has these bytes, as a hexadecimal text.
 pub fn gives_program(alloc: Global, text: &str, hex: &str) -> bool {
     match load(alloc, text.as_bytes()) {
         Ok(setup) => is_hex_of(alloc, hex, setup.program.as_slice()),
@@ -73,7 +73,7 @@ fn has_maps(setup: &Setup, maps: &[(&str, u32, u32)]) -> bool {
     true
 }
 
-/// Whether the maps that settings give have these names, entries and counters.
+/// Returns whether the maps that settings give have these names, entries and counters.
 pub fn gives_maps(alloc: Global, text: &str, maps: &[(&str, u32, u32)]) -> bool {
     match load(alloc, text.as_bytes()) {
         Ok(setup) => has_maps(&setup, maps),
@@ -94,7 +94,7 @@ fn has_packets(alloc: Global, setup: &Setup, packets: &[(usize, &str, u32)]) -> 
     true
 }
 
-/// Whether the packets that settings give have these queues, bytes as hexadecimal texts, and times.
+/// Returns whether the packets that settings give have these queues, bytes as hexadecimal texts, and times.
 pub fn gives_packets(alloc: Global, text: &str, packets: &[(usize, &str, u32)]) -> bool {
     match load(alloc, text.as_bytes()) {
         Ok(setup) => has_packets(alloc, &setup, packets),
@@ -102,7 +102,7 @@ pub fn gives_packets(alloc: Global, text: &str, packets: &[(usize, &str, u32)]) 
     }
 }
 
-/// Whether the script that settings give has these steps.
+/// Returns whether the script that settings give has these steps.
 pub fn gives_script(alloc: Global, text: &str, script: &[(usize, u32)]) -> bool {
     match load(alloc, text.as_bytes()) {
         Ok(setup) => setup.script.as_slice() == script,
@@ -119,7 +119,7 @@ fn is_at(error: &LoadError, fault: Fault, part: Part, spot: &Spot) -> bool {
     }
 }
 
-/// Whether settings are refused for this fault at this spot.
+/// Returns whether settings are refused for this fault at this spot.
 pub fn is_refused_at(alloc: Global, text: &str, fault: Fault, spot: &Spot) -> bool {
     match load(alloc, text.as_bytes()) {
         Ok(_) => false,
@@ -127,7 +127,7 @@ pub fn is_refused_at(alloc: Global, text: &str, fault: Fault, spot: &Spot) -> bo
     }
 }
 
-/// Whether settings with an original are refused for this fault at this spot of their own keys or of the original's.
+/// Returns whether settings with an original are refused for this fault at this spot of their own keys or of the original's.
 pub fn is_rewritten_refused_at(
     alloc: Global,
     text: &str,
@@ -141,7 +141,7 @@ pub fn is_rewritten_refused_at(
     }
 }
 
-fn has_places(places: &[Place], wanted: &[(u32, bool)]) -> bool {
+fn has_places(places: &[OriginalPlace], wanted: &[(u32, bool)]) -> bool {
     places.len() == wanted.len()
         && places
             .iter()
@@ -149,7 +149,7 @@ fn has_places(places: &[Place], wanted: &[(u32, bool)]) -> bool {
             .all(|(place, (at, own))| place.at == *at && place.own == *own)
 }
 
-/// Whether settings with an original give this program and this original, as hexadecimal texts, and these places.
+/// Returns whether settings with an original give this program and this original, as hexadecimal texts, and these places.
 pub fn gives_original(
     alloc: Global,
     text: &str,
@@ -167,7 +167,7 @@ pub fn gives_original(
     }
 }
 
-/// Whether settings with lists are refused for this fault at this spot.
+/// Returns whether settings with lists are refused for this fault at this spot.
 pub fn is_listed_refused_at(alloc: Global, text: &str, fault: Fault, spot: &Spot) -> bool {
     match load_listed(alloc, text.as_bytes()) {
         Ok(_) => false,
@@ -175,7 +175,7 @@ pub fn is_listed_refused_at(alloc: Global, text: &str, fault: Fault, spot: &Spot
     }
 }
 
-/// Whether the maps that settings with lists give have these names, entries and counters.
+/// Returns whether the maps that settings with lists give have these names, entries and counters.
 pub fn gives_listed_maps(alloc: Global, text: &str, maps: &[(&str, u32, u32)]) -> bool {
     match load_listed(alloc, text.as_bytes()) {
         Ok(listed) => has_maps(&listed.setup, maps),
@@ -211,7 +211,7 @@ pub fn constant_at(alloc: Global, text: &str, number: usize, place: usize) -> Op
     }
 }
 
-/// Whether loads may take parts of the counters of a map of settings, if there is one.
+/// Returns whether loads may take parts of the counters of a map of settings, if there is one.
 pub fn has_parts(alloc: Global, text: &str, number: usize) -> Option<bool> {
     let listed = load_listed(alloc, text.as_bytes()).ok()?;
     Some(listed.setup.shapes.as_slice().get(number)?.has_parts())
@@ -246,13 +246,13 @@ pub fn listed_value_at(alloc: Global, text: &str, number: usize, place: usize) -
     )
 }
 
-/// How many maps of settings have a list.
+/// Returns the number of maps of settings that have a list.
 pub fn lists_given(alloc: Global, text: &str) -> Option<usize> {
     let listed = load_listed(alloc, text.as_bytes()).ok()?;
     Some(lists_in(&listed))
 }
 
-/// How many maps of settings with an original have a list.
+/// Returns the number of maps with a list in settings with an original.
 pub fn lists_beside_original(alloc: Global, text: &str) -> Option<usize> {
     let rewritten = load_rewritten(alloc, text.as_bytes()).ok()?;
     Some(lists_in(&rewritten.listed))

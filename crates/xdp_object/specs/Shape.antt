@@ -3,7 +3,7 @@
 -- size, and lies in memory in whole eight bytes (Linux's Documentation/bpf/map_array.rst); here it is as many counters of eight bytes.
 use Rattle.std.specs.Prelude.{ℕ, ◌+◌, ◌-◌, ◌/◌, ◌==◌, ◌||◌, ◌&&◌, Bool, true, if◌then◌else◌, nat_le, nat_lt, Result, Ok, Err}
 use Rattle.bpf_note.specs.Shape.{Shape}
-use Rattle.bpf_note.specs.declared.key.Kind.TheVariants.{Exact, Prefix}
+use Rattle.bpf_note.specs.declared.key.KeyKind.TheVariants.{Exact, Prefix}
 use Rattle.bpf_note.specs.declared.key.MapKey.{MapKey}
 use Rattle.bpf_note.specs.declared.key.MapKey.TheVariants.{Index, Listed}
 use Rattle.bpf_object.specs.declared.definition.MapDefinition.{MapDefinition}

@@ -2,7 +2,7 @@
 use bpf_object::{ConstantsFault, MapFault, ObjectFault, ProgramFault, TypesFault};
 use std::alloc::{AllocError, AllocFailed};
 
-/// Why an object has no setup of a function. The causes are tried in this order, and maps from the first on, those of
+/// The reason why an object has no setup of a function. The causes are tried in this order, and maps from the first on, those of
 /// constants last.
 #[derive(Clone, Copy, Debug, PartialEq, Eq, Drop)]
 pub enum SetupFault {
@@ -20,7 +20,7 @@ pub enum SetupFault {
     Memory,
 }
 
-/// Why a map can't be one here. The causes are tried in this order.
+/// The reason why a map can't be one here. The causes are tried in this order.
 #[derive(Clone, Copy, Debug, PartialEq, Eq, Drop)]
 pub enum MapCause {
     /// It has no name, or no definition.
@@ -35,7 +35,7 @@ pub enum MapCause {
     Bytes,
 }
 
-/// Why a definition is of no map that is here. The causes are tried in this order.
+/// The reason why a definition is of no map that is here. The causes are tried in this order.
 #[derive(Clone, Copy, Debug, PartialEq, Eq, Drop)]
 pub enum ShapeFault {
     /// Its type is none of an array, a hash or a prefix trie.

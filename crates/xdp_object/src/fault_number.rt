@@ -151,7 +151,7 @@ impl SetupFault {
         }
     }
 
-    /// Where it is: a section, a symbol, a relocation or a type of the object, or a map of the program.
+    /// Returns where it is: a section, a symbol, a relocation or a type of the object, or a map of the program.
     pub fn place(self) -> usize
         ensures { result ≡ fault_place self }
     {

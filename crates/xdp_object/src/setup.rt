@@ -23,7 +23,7 @@ pub struct ObjectSetup {
     pub lists: Vec<Option<MapList>>,
 }
 
-/// What the object says of the function of this name.
+/// Returns what the object says of the function of this name.
 fn setup_in(alloc: Global, object: &Object, name: &[u8]) -> Result<ObjectSetup, SetupFault>
     ensures ok { IfOk result (λ s. IsSetupIn object.now name.now (setup_seen s)) }
     ensures few { IfOk result (λ s. vec_len s.shapes ≤ 16) }

@@ -4,7 +4,7 @@ ghost use Rattle.bpf_note.specs.Keys.{IsKey};
 ghost use Rattle.xdp_object.specs.Shape.{array_key, counters as counters_of, hash_key, is_array, is_hash, key_of, shape_of, shape_with, trie_key};
 
 use crate::fault::ShapeFault;
-use bpf_note::{Kind, MapKey, MapShape};
+use bpf_note::{KeyKind, MapKey, MapShape};
 use bpf_object::MapDefinition;
 
 /// The types of maps, as Linux numbers them.
@@ -35,14 +35,14 @@ const COUNTER_BYTES: u32 = 8;
 
 const MOST_VALUE_BYTES: u32 = 64;
 
-/// Whether a type is one of arrays.
+/// Returns whether a type is one of arrays.
 fn is_array(kind: u32) -> bool
     ensures { result ≡ is_array kind }
 {
     kind == ARRAY || kind == PERCPU_ARRAY
 }
 
-/// Whether a type is one of hashes.
+/// Returns whether a type is one of hashes.
 fn is_hash(kind: u32) -> bool
     ensures { result ≡ is_hash kind }
 {
@@ -67,7 +67,7 @@ fn hash_key(bytes: u32) -> Result<MapKey, ShapeFault>
     ensures key { IfOk result IsKey }
 {
     if 1 <= bytes && bytes <= MOST_KEY_BYTES {
-        Ok(MapKey::Listed(Kind::Exact(bytes as u8)))
+        Ok(MapKey::Listed(KeyKind::Exact(bytes as u8)))
     } else {
         Err(ShapeFault::Key)
     }
@@ -79,7 +79,7 @@ fn trie_key(bytes: u32) -> Result<MapKey, ShapeFault>
     ensures key { IfOk result IsKey }
 {
     if LENGTH_BYTES < bytes && bytes <= LENGTH_BYTES + MOST_KEY_BYTES {
-        Ok(MapKey::Listed(Kind::Prefix((bytes - LENGTH_BYTES) as u8)))
+        Ok(MapKey::Listed(KeyKind::Prefix((bytes - LENGTH_BYTES) as u8)))
     } else {
         Err(ShapeFault::Key)
     }
@@ -102,7 +102,7 @@ fn key_of(definition: MapDefinition) -> Result<MapKey, ShapeFault>
     Err(ShapeFault::Kind)
 }
 
-/// How many counters hold a value.
+/// Returns the number of counters that hold a value.
 fn counters(bytes: u32) -> u32
     requires { bytes ≤ 64 }
     ensures { result ≡ counters_of bytes }

@@ -17,8 +17,8 @@ use Rattle.xdp_load.specs.Spot.{Refused}
 use Rattle.xdp_load.specs.SpotSeen.{refused_seen}
 use Rattle.xdp_load.specs.declared.fault.LoadError.{LoadError}
 use Rattle.xdp_load.specs.declared.fault.LoadError.TheVariants as error
-use Rattle.xdp_load.specs.declared.fault.LoadFault.{LoadFault as TextFault}
-use Rattle.xdp_load.specs.declared.fault.LoadFault.TheVariants as text
+use Rattle.xdp_load.specs.declared.fault.TextFault.{TextFault}
+use Rattle.xdp_load.specs.declared.fault.TextFault.TheVariants as text
 use Rattle.xdp_program.specs.Refused.{IsRefused}
 use Rattle.xdp_program.specs.Settings.{IsFaultOf, IsFirstFault, IsProgramOf, IsRelisted, IsRelistFault, IsSettingsFault, IsSettingsOutOfMemory, IsSetupFor, IsSetupOf, relist_out_of_memory}
 use Rattle.xdp_program.specs.declared.fault.RelistFault.{RelistFault}

@@ -11,7 +11,7 @@ use Rattle.bpf_maps.proofs.PlaceLemmas.{place_within}
 use Rattle.xdp_program.specs.Ran.{IsHistory}
 use Rattle.xdp_program.specs.Tallies.{DidAtSeat, DidInWords, HasGrown, TakesWords, Went, operations_of}
 use Rattle.xdp_program.specs.declared.tallies.Seated.{Seated}
-use Rattle.xdp_program.specs.declared.tallies.Words.{Words}
+use Rattle.xdp_program.specs.declared.tallies.CounterWords.{CounterWords}
 
 -- ---- words
 
@@ -24,14 +24,14 @@ took : (shapes : List Shape) (op : Op) (labels : List (Option Op)) (before mid a
 took shapes (Load m k j v) labels before mid after t h = (t.0, t.1, subst (λ (l : List ℕ). IsHistory shapes labels l after) t.2 h)
 took shapes (Add m k j delta old) labels before mid after t h = (t.0, t.1, subst (λ (l : List ℕ). IsHistory shapes labels l after) t.2 h)
 
-pub history_of : (shapes : List Shape) (labels : List (Option Op)) (before after : Words) → Went (DidInWords shapes) before after labels → IsHistory shapes labels before.words.now after.words.now
-history_of shapes [] before after h = ap (λ (c : Words). c.words.now) h
+pub history_of : (shapes : List Shape) (labels : List (Option Op)) (before after : CounterWords) → Went (DidInWords shapes) before after labels → IsHistory shapes labels before.words.now after.words.now
+history_of shapes [] before after h = ap (λ (c : CounterWords). c.words.now) h
 history_of shapes (None ∷ labels) before after h = history_of shapes labels before after h
 history_of shapes (Some op ∷ labels) before after h = took shapes op labels before.words.now h.0.words.now after.words.now h.1.0 (history_of shapes labels h.0 after h.2)
 
 -- the loan stays
-pub loan_of : (shapes : List Shape) (labels : List (Option Op)) (before after : Words) → Went (DidInWords shapes) before after labels → after.words.ghost_name ≡ before.words.ghost_name
-loan_of shapes [] before after h = ap (λ (c : Words). c.words.ghost_name) (sym h)
+pub loan_of : (shapes : List Shape) (labels : List (Option Op)) (before after : CounterWords) → Went (DidInWords shapes) before after labels → after.words.ghost_name ≡ before.words.ghost_name
+loan_of shapes [] before after h = ap (λ (c : CounterWords). c.words.ghost_name) (sym h)
 loan_of shapes (None ∷ labels) before after h = loan_of shapes labels before after h
 loan_of shapes (Some op ∷ labels) before after h = loan_of shapes labels h.0 after h.2 ∙ h.1.1
 

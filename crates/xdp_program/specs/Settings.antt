@@ -9,8 +9,8 @@ use Rattle.bpf_verify.specs.FirstRefusal.{IsFaultless}
 use Rattle.xdp_load.specs.Listed.{AreListedBelow, IsRowsFault, ListedView, listed_of}
 use Rattle.xdp_load.specs.Setup.{SetupView}
 use Rattle.xdp_load.specs.Spot.{Refused as RefusedAt}
-use Rattle.xdp_load.specs.declared.fault.LoadFault.{LoadFault as TextFault}
-use Rattle.xdp_load.specs.declared.fault.LoadFault.TheVariants.{Memory, Refused}
+use Rattle.xdp_load.specs.declared.fault.TextFault.{TextFault}
+use Rattle.xdp_load.specs.declared.fault.TextFault.TheVariants.{Memory, Refused}
 use Rattle.xdp_program.specs.Refused.{IsRefused, IsOutOfMemory}
 use Rattle.xdp_program.specs.declared.fault.RelistFault.{RelistFault}
 use Rattle.xdp_program.specs.declared.fault.RelistFault.TheVariants as relist

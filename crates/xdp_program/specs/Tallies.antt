@@ -7,7 +7,7 @@ use Rattle.bpf_note.specs.declared.op.Op.TheVariants.{Load, Add}
 use Rattle.bpf_maps.specs.Layout.{place_of, total}
 use Rattle.bpf_maps.specs.Seats.{IsSeatOf, SeatView}
 use Rattle.xdp_program.specs.declared.tallies.Seated.{Seated}
-use Rattle.xdp_program.specs.declared.tallies.Words.{Words}
+use Rattle.xdp_program.specs.declared.tallies.CounterWords.{CounterWords}
 
 -- The operations of labels, one after another, take counters from one state to another. Labels without one leave them.
 abbrev pub Went : {C : Type 0} → (Op → C → C → Type 0) → (before after : C) → List (Option Op) → Type 0
@@ -26,12 +26,12 @@ TakesWords shapes (Add m k j delta old) before after =
     × (after ≡ set before (place_of shapes m k j) ((old + delta) % 2 ^ 64))
 
 -- The words are the same loan.
-abbrev pub DidInWords : List Shape → Op → Words → Words → Type 0
+abbrev pub DidInWords : List Shape → Op → CounterWords → CounterWords → Type 0
 DidInWords shapes op before after =
     TakesWords shapes op before.words.now after.words.now × (after.words.ghost_name ≡ before.words.ghost_name)
 
 -- There are words enough.
-abbrev pub HasWords : List Shape → Words → Type 0
+abbrev pub HasWords : List Shape → CounterWords → Type 0
 HasWords shapes c = total shapes ≤ length c.words.now
 
 -- ---- a seat at counters that threads share

@@ -2,7 +2,7 @@
 use bpf_insn::{Cause, Refusal};
 use std::alloc::{AllocError, AllocFailed};
 
-/// Why a program isn't accepted.
+/// The reason why a program isn't accepted.
 #[derive(Clone, Copy, Debug, PartialEq, Eq, Drop)]
 pub enum LoadFault {
     /// There are more than 16 maps.
@@ -39,20 +39,20 @@ impl<T: Drop> From<AllocFailed<T>> for LoadFault {
     }
 }
 
-/// Why there is no program of a settings text.
+/// The reason why there is no program of a settings text.
 #[derive(Clone, Copy, Debug, PartialEq, Eq, Drop)]
 pub enum SettingsFault {
     /// The text has a fault, L0 to L8.
-    Text(xdp_load::LoadFault),
+    Text(xdp_load::TextFault),
     /// Its program isn't accepted with its maps.
     Program(LoadFault),
 }
 
-/// Why a settings text has no lists for a program.
+/// The reason why a settings text has no lists for a program.
 #[derive(Clone, Copy, Debug, PartialEq, Eq, Drop)]
 pub enum RelistFault {
     /// The text has a fault, L0 to L8.
-    Text(xdp_load::LoadFault),
+    Text(xdp_load::TextFault),
     /// Its program is another one, or has other maps.
     Other,
 }
@@ -64,7 +64,7 @@ impl From<AllocError> for RelistFault {
     ghost from_gives = { λ _ e. e ≡ relist_out_of_memory };
 
     fn from(_error: AllocError) -> RelistFault {
-        RelistFault::Text(xdp_load::LoadFault::Memory)
+        RelistFault::Text(xdp_load::TextFault::Memory)
     }
 }
 
@@ -75,6 +75,6 @@ impl<T: Drop> From<AllocFailed<T>> for RelistFault {
     ghost from_gives = { λ _ e. e ≡ relist_out_of_memory };
 
     fn from(_error: AllocFailed<T>) -> RelistFault {
-        RelistFault::Text(xdp_load::LoadFault::Memory)
+        RelistFault::Text(xdp_load::TextFault::Memory)
     }
 }

@@ -30,5 +30,5 @@ pub use program::{Program, Run};
 pub use reading::read_settings;
 pub use run::{run_counting, run_on};
 pub use settings::{NamedProgram, load_settings};
-pub use tallies::{Seated, Tallies, Words};
-pub use xdp_load::{Fault, LoadFault as TextFault};
+pub use tallies::{CounterWords, Seated, Tallies};
+pub use xdp_load::{Fault, TextFault};

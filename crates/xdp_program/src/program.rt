@@ -16,14 +16,14 @@ const LONGEST: usize = 65_535;
 /// The most maps that a program has.
 const MOST_MAPS: usize = 16;
 
-/// How a run ended: the action's number, and how many instructions were done. One that was made has done at least one.
+/// The end of a run: the action's number, and how many instructions were done. One that was made has done at least one.
 #[derive(Clone, Copy, Debug, PartialEq, Eq, Drop)]
 pub struct Run {
     pub number: u32,
     pub instructions: u32,
 }
 
-/// How a run that isn't made ends.
+/// The end of a run that isn't made.
 const NOTHING: Run = Run {
     number: 0,
     instructions: 0,
@@ -64,7 +64,7 @@ impl Program {
     ghost use Rattle.xdp_program.specs.Ran.{Ran};
     ghost use Rattle.xdp_program.specs.Refused.{IsRefused, IsOutOfMemory, IsUnmade, IsMade};
 
-    /// What [`Program::load`] does. That nothing more is refused follows from these clauses.
+    /// Returns what [`Program::load`] does. That nothing more is refused follows from these clauses.
     #[tactic(auto, using(crate::proofs::LoadLemmas::out_of_memory_refused))]
     fn accept(alloc: Global, bytes: &[u8], shapes: &[MapShape]) -> Result<Program, LoadFault>
         ensures spelled { IfOk result (λ p. Spells p.code bytes.now) }
@@ -120,21 +120,21 @@ impl Program {
         &self.verified
     }
 
-    /// How many instructions the program has, a wide load being one.
+    /// Returns the number of instructions that the program has, a wide load being one.
     pub fn instructions(&self) -> u32
         ensures { result ≡ instructions self.now.code }
     {
         self.verified.instructions()
     }
 
-    /// How many words its counters are.
+    /// Returns the number of words that its counters are.
     pub fn counters(&self) -> usize
         ensures { result ≡ total self.now.shapes }
     {
         total(self.verified.shapes())
     }
 
-    /// Which word counter `j` of value `k` of map `m` is, if there is such a counter.
+    /// Returns which word counter `j` of value `k` of map `m` is, if there is such a counter.
     pub fn place(&self, m: u32, k: u32, j: u32) -> Option<usize>
         ensures there { IfSome result (λ at. IsCounter self.now.shapes m k j × (at ≡ place_of self.now.shapes m k j)) }
         ensures none { IfNone result (IsCounter self.now.shapes m k j → ⊥) }

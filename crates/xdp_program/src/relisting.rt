@@ -13,7 +13,7 @@ use std::alloc::Global;
 use xdp_load::{Listed, Setup};
 
 impl Program {
-    /// Whether a setup is of this program, with the same maps.
+    /// Returns whether a setup is of this program, with the same maps.
     fn is_of(&self, setup: &Setup) -> bool
         ensures { IsTrue result ↔ IsSetupFor self.now (setup_view setup.now) }
     {
@@ -22,7 +22,7 @@ impl Program {
             && spells(program.insns(), setup.program.as_slice())
     }
 
-    /// What [`Program::relisted`] does. That nothing more is refused follows from these clauses.
+    /// Returns what [`Program::relisted`] does. That nothing more is refused follows from these clauses.
     fn relist(&self, alloc: Global, text: &[u8]) -> Result<Lists, RelistFault>
         ensures lists { IfOk result (IsRelisted text.now self.now) }
         ensures refused { IfErr result (IsRelistFault text.now self.now) }

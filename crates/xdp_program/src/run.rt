@@ -5,7 +5,7 @@ ghost use Rattle.bpf_verify.specs.Consistent.{instructions};
 ghost use Rattle.xdp_program.specs.Ran.{Ran, RanCounting};
 ghost use Rattle.xdp_program.specs.Tallies.{Went};
 
-use crate::tallies::{Tallies, Words};
+use crate::tallies::{CounterWords, Tallies};
 use bpf_lists::MapList;
 use bpf_verify::Verified;
 use bpf_vm::{Ended, PacketBuf, Vm, VmWant, run_to_end};
@@ -56,7 +56,7 @@ pub fn run_counting<'b, T: Tallies>(
 fn run_in_words<'b>(
     program: &Verified,
     lists: &[Option<MapList>],
-    counters: &mut Words<'_>,
+    counters: &mut CounterWords<'_>,
     packet: PacketBuf<'b>,
     ifindex: u32,
     queue: u32,
@@ -92,7 +92,7 @@ pub fn run_on<'b>(
     if program.shapes().is_empty() {
         run_to_end(program, packet, ifindex, queue)
     } else {
-        let mut words = Words { words: counters };
+        let mut words = CounterWords { words: counters };
         run_in_words(program, lists, &mut words, packet, ifindex, queue)
     }
 }

@@ -53,7 +53,7 @@ fn named(alloc: Global, listed: Listed) -> Result<NamedProgram, LoadFault>
     })
 }
 
-/// What [`load_settings`] does. That nothing more is refused follows from these clauses.
+/// Returns what [`load_settings`] does. That nothing more is refused follows from these clauses.
 #[tactic(auto, using(crate::proofs::SettingsLemmas::fault_seen))]
 fn accept(alloc: Global, text: &[u8]) -> Result<NamedProgram, SettingsFault>
     ensures program { IfOk result (λ n. IsProgramOf text.now n.program) }

@@ -5,7 +5,8 @@ ghost use Rattle.bpf_insn.specs.Spelling.{HasSpelling, spelling};
 
 use bpf_insn::{Insn, encode};
 
-/// What follows the bytes of an instruction, if these bytes begin with them. The second slot of a wide load has none of its own.
+/// Returns what follows the bytes of an instruction, if these bytes begin with them. The second slot of a wide load has none of its
+/// own.
 fn after<'b>(insn: &Insn, bytes: &'b [u8]) -> Option<&'b [u8]>
     requires { HasSpelling insn.now ⊎ (insn.now ≡ Insn.Second) }
     ensures some { IfSome result (λ rest. bytes.now ≡ spelling insn.now ++ rest.now) }
@@ -18,7 +19,7 @@ fn after<'b>(insn: &Insn, bytes: &'b [u8]) -> Option<&'b [u8]>
     bytes.strip_prefix(&spelled[..length])
 }
 
-/// Whether these bytes spell these instructions. It takes no memory.
+/// Returns whether these bytes spell these instructions. It takes no memory.
 pub(crate) fn spells(insns: &[Insn], bytes: &[u8]) -> bool
     requires { IsCode insns.now }
     ensures { IsTrue result ↔ Spells insns.now bytes.now }

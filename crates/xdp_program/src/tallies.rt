@@ -8,7 +8,7 @@ ghost use Rattle.xdp_program.specs.Tallies.{DidAtSeat, DidInWords, HasWords, IsS
 use bpf_maps::{CounterSeat, Counters, place};
 use bpf_verify::MapShape;
 
-/// Where the operations of a run are done. A run asks for nothing but these two.
+/// The counters at which the operations of a run are done. A run asks for nothing but these two.
 pub trait Tallies {
     // They are counters of maps of these shapes.
     ghost serves: { List Shape → Self → Type 0 };
@@ -35,11 +35,11 @@ pub trait Tallies {
 
 /// The first words of a slice, which nobody else changes during a run.
 #[derive(Drop)]
-pub struct Words<'c> {
+pub struct CounterWords<'c> {
     pub words: &'c mut [u64],
 }
 
-impl<'c> Tallies for Words<'c> {
+impl<'c> Tallies for CounterWords<'c> {
     ghost serves = { HasWords };
 
     ghost did = { DidInWords };

@@ -40,7 +40,7 @@ pub fn program_of(alloc: Global, source: Source) -> Option<Program> {
     load(alloc, source)?.ok()
 }
 
-/// Why a program is refused, if it is.
+/// Returns why a program is refused, if it is.
 pub fn fault_of(alloc: Global, source: Source) -> Option<LoadFault> {
     load(alloc, source)?.err()
 }
@@ -53,12 +53,12 @@ pub fn refusal_of(fault: LoadFault) -> Option<(u8, u32)> {
     }
 }
 
-/// Why settings have no program, if they have none.
+/// Returns why settings have no program, if they have none.
 pub fn settings_fault(alloc: Global, text: &str) -> Option<SettingsFault> {
     load_settings(alloc, text.as_bytes()).err()
 }
 
-/// Whether settings were refused since memory ran out, L0 or V0.
+/// Returns whether settings were refused since memory ran out, L0 or V0.
 pub fn is_for_memory(fault: SettingsFault) -> bool {
     match fault {
         SettingsFault::Text(fault) => fault == TextFault::Memory,
@@ -149,13 +149,13 @@ pub fn map_named(alloc: Global, text: &str, name: &str) -> Option<usize> {
     named.names.number(name.as_bytes())
 }
 
-/// Whether a map of settings has this name; none if they have no program.
+/// Returns whether a map of settings has this name; none if they have no program.
 pub fn is_named(alloc: Global, text: &str, number: usize, name: &str) -> Option<bool> {
     let named = load_settings(alloc, text.as_bytes()).ok()?;
     Some(named.names.name(number) == name.as_bytes())
 }
 
-/// How many instructions and words of counters a program has.
+/// Returns the number of instructions and words of counters that a program has.
 pub fn sizes(alloc: Global, source: Source) -> Option<(u32, usize)> {
     let program = program_of(alloc, source)?;
     Some((program.instructions(), program.counters()))

@@ -6,8 +6,8 @@ use Rattle.std.proofs.lemmas.Bool.Decides.{nat_tests}
 use Rattle.std.proofs.lemmas.List.{get_or_append_left, get_or-append_right}
 use Rattle.std.proofs.lemmas.List.FromFn.{length-map-range_with_len, get_or-map-range_with_len, get_or-range_with_len}
 use Rattle.xen_buffers.specs.Wired.{AreDistinct, AreInTable, IsWired, frame_of, gref_of, frames_of, references_of}
-use Rattle.xen_buffers.specs.declared.wiring.Buffer.{Buffer}
-use Rattle.xen_buffers.specs.declared.wiring.Wiring.{Wiring}
+use Rattle.xen_buffers.specs.declared.wiring.GrantedPage.{GrantedPage}
+use Rattle.xen_buffers.specs.declared.wiring.FrontWiring.{FrontWiring}
 use Rattle.xen_page.specs.Table.{entry_place}
 use Rattle.xdp_world.specs.Frames.{owners_of, table_frames}
 use Rattle.xdp_world.proofs.FrameLemmas.{outside_not}
@@ -106,14 +106,14 @@ in_table s few i d h none =
     let n = length-map-range_with_len granted s 256 in
     let lt : i < 256 = omega (arith, n, h) in
     let is = get_or-map-range_with_len granted s 256 i (s + i) d lt refl in
-    outside_not table_frames ((s + i) / 512) (s + i) (omega (arith, lt, few)) (subst (λ (b : Buffer). entry_place table_frames b.gref ≡ None) is none)
+    outside_not table_frames ((s + i) / 512) (s + i) (omega (arith, lt, few)) (subst (λ (b : GrantedPage). entry_place table_frames b.gref ≡ None) is none)
 
 length_ones : (n : ℕ) → length {A = ℕ} (replicate n 1) ≡ n
 length_ones zero = refl
 length_ones (suc n) = let h = length_ones n in omega (arith, h)
 
 -- the wiring of queue q, of up to eight
-pub is_wired : (queues q : ℕ) (w : Wiring) → q < queues → queues ≤ 8 → w.frames ≡ length (owners_of queues) → w.tx_frame ≡ 17 + 514 * q → w.rx_frame ≡ 17 + 514 * q + 1 → w.table.now ≡ table_frames →
+pub is_wired : (queues q : ℕ) (w : FrontWiring) → q < queues → queues ≤ 8 → w.frames ≡ length (owners_of queues) → w.tx_frame ≡ 17 + 514 * q → w.rx_frame ≡ 17 + 514 * q + 1 → w.table.now ≡ table_frames →
     w.tx.now ≡ granted_from (514 * q + 2) → w.rx.now ≡ granted_from (514 * q + 258) → IsWired w
 is_wired queues q w lt few frames tx_frame rx_frame table tx rx =
     let a : ℕ = 514 * q in
@@ -131,8 +131,8 @@ is_wired queues q w lt few frames tx_frame rx_frame table tx rx =
     record {
       tx_count = ap length tx ∙ length-map-range_with_len granted (a + 2) 256;
       rx_count = ap length rx ∙ length-map-range_with_len granted (a + 258) 256;
-      tx_granted = subst (λ (l : List Buffer). AreInTable w.table.now l) (sym tx) (subst (λ (t : List ℕ). AreInTable t (granted_from (a + 2))) (sym table) (in_table (a + 2) (omega (arith, lt, few))));
-      rx_granted = subst (λ (l : List Buffer). AreInTable w.table.now l) (sym rx) (subst (λ (t : List ℕ). AreInTable t (granted_from (a + 258))) (sym table) (in_table (a + 258) (omega (arith, lt, few))));
+      tx_granted = subst (λ (l : List GrantedPage). AreInTable w.table.now l) (sym tx) (subst (λ (t : List ℕ). AreInTable t (granted_from (a + 2))) (sym table) (in_table (a + 2) (omega (arith, lt, few))));
+      rx_granted = subst (λ (l : List GrantedPage). AreInTable w.table.now l) (sym rx) (subst (λ (t : List ℕ). AreInTable t (granted_from (a + 258))) (sym table) (in_table (a + 258) (omega (arith, lt, few))));
       on_bus = subst (All (λ (frame : ℕ). frame < w.frames)) (sym fr) (λ i d h. let n = length_frames a in let l : i < 530 = omega (arith, h, n) in below a i w.frames _ l bound (frame_at a i d l));
       frames_apart = subst AreDistinct (sym fr) (apart_frames a);
       references_apart = subst AreDistinct (sym re) (apart_references (a + 2));

@@ -95,7 +95,7 @@ pub data IsLeft (w : Wiring) (s : State) : List Item → Type 0 where
   of_wait : (pages : ℕ) (front : List Event) (left : Steps Wait) → IsUnwaited w s pages front left →
       IsLeft w s (SlotsAwaited pages ∷ all_came front)
 
--- A queue's items join into these turns, deliveries and waits and a beginning of one more.
+-- A queue's items join into these turns, deliveries and waits and a prefix of one more.
 pub record IsPart (w : Wiring) (start : ℕ) (items : List Item) (kept : List Kept) (delivered : List Delivered) (waited : List Waited) :
     Type 0 where
   pub deeds : List Deed

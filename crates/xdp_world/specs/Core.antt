@@ -1,5 +1,5 @@
 -- Stated: claims rest on this file.
--- A run of several queues: each queue's events join into turns, and a beginning of one more.
+-- A run of several queues: each queue's events join into turns, and a prefix of one more.
 use Rattle.std.specs.Prelude.{ℕ, ◌≡◌, ◌≢◌, List, [], ◌∷◌, ◌++◌, Some, None, slice_get, take}
 use Rattle.xen_steps.specs.Drive.{LedBy}
 use Rattle.xen_steps.specs.Event.{Event}

@@ -22,7 +22,7 @@ use Rattle.xdp_world.specs.Stands.{delivered_in, kept_in, waited_in}
 use Rattle.xdp_world.specs.declared.kept.Kept.{Kept}
 use Rattle.xdp_world.specs.declared.report.Report.{Report}
 
--- A queue's events join into these turns and a beginning of one more.
+-- A queue's events join into these turns and a prefix of one more.
 pub record IsShare (w : Wiring) (start : ℕ) (events : List Event) (kept : List Kept) : Type 0 where
   pub end : State
   pub front : List Event

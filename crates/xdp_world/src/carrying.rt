@@ -34,7 +34,7 @@ fn answered(delivering: &mut Delivering, answer: u32)
     }
 }
 
-/// What the queue is doing with the delivery as it is, and what became of the packet, if it is over.
+/// Returns what the queue is doing with the delivery as it is, and what became of the packet, if it is over.
 fn landed<'p, 'd>(
     queue: &mut Queue<'p, '_>,
     delivering: Delivering<'p, 'd>,

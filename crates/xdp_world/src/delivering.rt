@@ -21,7 +21,7 @@ pub enum Begun {
     Busy,
 }
 
-/// Whether nothing is under way.
+/// Returns whether nothing is under way.
 pub(crate) fn is_between(doing: &Doing) -> bool
     ensures { result ≡ is_between_spec (Some doing.now) }
 {

@@ -2,7 +2,7 @@
 
 use xen_back::{Awaiting, Delivering};
 
-/// What a queue is doing.
+/// The activity of a queue.
 #[derive(Drop)]
 pub enum Doing<'p, 'd> {
     /// Nothing: it is between turns.

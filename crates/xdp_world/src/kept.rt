@@ -4,7 +4,7 @@ ghost use Rattle.xen_turns.specs.Turned.{IsShort, Shows, Turned};
 ghost use Rattle.xdp_world.specs.Keeping.{Keeps};
 
 use std::mem;
-use xen_back::{Action, Halt, Refusal, Turn};
+use xen_back::{Action, Halt, PacketRefusal, Turn};
 
 /// The most bytes that a packet has.
 pub(crate) const ROOM: usize = 65535;
@@ -24,7 +24,7 @@ pub enum Kept {
     },
     /// The packet was refused, and its slots answered.
     Refused {
-        cause: Refusal,
+        cause: PacketRefusal,
         ops: u32,
         slots: u32,
     },

@@ -160,7 +160,7 @@ impl<'p, 'b> World<'p, 'b> {
         })
     }
 
-    /// What was done so far. It takes no memory.
+    /// Returns what was done so far. It takes no memory.
     pub fn report(self) -> Report
         ensures count { vec_len result.turns ≡ vec_len self.entry.queues }
         ensures delivered { vec_len result.deliveries ≡ vec_len self.entry.queues }

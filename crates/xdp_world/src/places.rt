@@ -5,9 +5,9 @@ ghost use Rattle.xdp_world.specs.Frames.{frame_of};
 use crate::layout::Layout;
 use xen_ring::Port;
 
-/// How many references a queue has: of its tx ring, of its rx ring, and of [`BUFFERS`] buffers for each.
+/// The number of references that a queue has: of its tx ring, of its rx ring, and of [`BUFFERS`] buffers for each.
 pub const REFERENCES: u32 = 514;
-/// How many buffers a front has for each of a queue's rings.
+/// The number of buffers that a front has for each of a queue's rings.
 pub const BUFFERS: u32 = 256;
 
 /// The frame that reference 0 grants, after the back's frame and the grant table.

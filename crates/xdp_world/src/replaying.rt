@@ -20,7 +20,7 @@ use xen_back::Want;
 const MAX_EVENTS: u64 = 287_383;
 
 impl World<'_, '_> {
-    /// Whether a queue wants to read, or has halted.
+    /// Returns whether a queue wants to read, or has halted.
     fn has_paused(&self, queue: usize) -> bool
         requires { queue < vec_len self.now.queues }
         ensures { (d : Queue) → IsTrue result ↔ Pauses (want_of (rest (slice_index_or self.now.queues.items queue d))) }
@@ -28,7 +28,7 @@ impl World<'_, '_> {
         matches!(self.queues[queue].want(), Want::Read(_) | Want::Done)
     }
 
-    /// Whether a queue has halted.
+    /// Returns whether a queue has halted.
     fn has_halted(&self, queue: usize) -> bool
         requires { queue < vec_len self.now.queues }
         ensures { (d : Queue) → IsTrue result ↔ (want_of (rest (slice_index_or self.now.queues.items queue d)) ≡ want.Done) }

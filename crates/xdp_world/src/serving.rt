@@ -16,7 +16,7 @@ use bpf_maps::{Op, Totals};
 use std::mem;
 use xen_back::{Awaited, Delivery, Queue, Want};
 
-/// What a step gave: the counter operation, and the turn, the delivery or the wait that it ended.
+/// The outcome of a step: the counter operation, and the turn, the delivery or the wait that it ended.
 #[derive(Drop)]
 pub(crate) struct Served {
     pub op: Option<Op>,
@@ -137,7 +137,7 @@ fn turned<'p, 'b>(
     (after, served)
 }
 
-/// What a queue is doing after an event of a turn: the turn goes on, unless it is over.
+/// Returns what a queue is doing after an event of a turn: the turn goes on, unless it is over.
 fn after_turn<'p, 'd>(kept: &Option<Kept>) -> Doing<'p, 'd>
     ensures { result ≡ after_turn_spec kept.now }
 {

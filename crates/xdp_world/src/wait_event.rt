@@ -28,7 +28,7 @@ fn looked(awaiting: &mut Awaiting, answer: u32)
     }
 }
 
-/// What the queue is doing with the wait as it is, and its answer, if it is over.
+/// Returns what the queue is doing with the wait as it is, and its answer, if it is over.
 fn resumed<'p, 'd>(
     queue: &mut Queue<'p, '_>,
     awaiting: Awaiting,

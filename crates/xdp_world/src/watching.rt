@@ -14,7 +14,7 @@ use bpf_maps::Op;
 use xen_back::{State, Want};
 
 impl World<'_, '_> {
-    /// What a queue wants next: its delivery or its wait, if one is under way, else its turn.
+    /// Returns what a queue wants next: its delivery or its wait, if one is under way, else its turn.
     pub fn want(&self, queue: usize) -> Want
         requires { queue < vec_len self.now.queues }
         ensures within { (d : Queue) → result ≢ Want.Done → may_want (wiring_of (slice_index_or self.now.queues.items queue d)) result }
@@ -27,7 +27,7 @@ impl World<'_, '_> {
         }
     }
 
-    /// What a queue is between turns; inside one, a delivery or a wait, what it was when that began.
+    /// Returns what a queue is between turns; inside one, a delivery or a wait, what it was when that began.
     pub fn state(&self, queue: usize) -> State
         requires { queue < vec_len self.now.queues }
         ensures { (d : Queue) → result ≡ state_of (slice_index_or self.now.queues.items queue d) }
@@ -43,7 +43,7 @@ impl World<'_, '_> {
         self.turns[queue].as_slice()
     }
 
-    /// What became of the packets whose deliveries on a queue are over.
+    /// Returns what became of the packets whose deliveries on a queue are over.
     pub fn deliveries(&self, queue: usize) -> &[Delivered]
         requires { queue < vec_len self.now.queues }
         ensures { result.now ≡ delivered_in self.now.deliveries.items queue }

@@ -21,7 +21,7 @@ use xen_page::{Frames, Mapped, Owners, Rights, ScriptBus, Table, map};
 /// frame 18 its rx ring.
 pub const FRAMES: u32 = 531;
 
-/// Who owns which frame, and the front's table.
+/// The owners of the frames, and the front's table.
 #[derive(Drop)]
 pub struct Memory {
     owners: Owners,

@@ -24,6 +24,6 @@ pub use delivery::underway::Delivering;
 pub use delivery::wait_stage::Awaiting;
 pub use desc::QueueDesc;
 pub use queue::Queue;
-pub use xen_rx_fill::{Packet, Vif, slots_of};
+pub use xen_rx_fill::{RxPacket, Vif, slots_of};
 pub use xen_steps::{Answer, Want};
-pub use xen_turns::{Awaited, Delivery, Halt, Kind, Refusal, State, Turn, Wiring};
+pub use xen_turns::{Awaited, Delivery, Halt, Kind, PacketRefusal, State, Turn, Wiring};

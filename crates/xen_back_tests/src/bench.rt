@@ -58,7 +58,7 @@ fn ring(alloc: Global, owners: &Owners, table: &Table, gref: u32, frame: u32) ->
     map(&mut bus, table, owners, 1, 0, gref, Rights::ReadWrite).ok()
 }
 
-/// What a queue stands on: the frames' owners, the frontend's table, in frame 1, the program and its lists.
+/// The parts under a queue: the frames' owners, the frontend's table, in frame 1, the program and its lists.
 #[derive(Drop)]
 pub struct Bench {
     owners: Owners,
@@ -215,7 +215,7 @@ impl Bench {
     }
 }
 
-/// What a queue stands on, and a buffer for its packets.
+/// Returns what a queue stands on, and a buffer for its packets.
 pub fn ready(alloc: Global, bytes: &[u8], shapes: &[MapShape]) -> Option<(Bench, Buffer)>
     requires { length shapes.now ≤ 4 }
     ensures { IfSome result (λ r. r.0.program.shapes ≡ shapes.now) }

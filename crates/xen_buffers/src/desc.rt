@@ -1,6 +1,6 @@
 //! What a front is made with.
 
-use crate::wiring::Buffer;
+use crate::wiring::GrantedPage;
 use xen_page::Table;
 use xen_ring::Port;
 
@@ -16,9 +16,9 @@ pub struct FrontDesc<'p> {
     /// The front's grant table.
     pub table: &'p Table,
     /// The tx ring's buffers by their ids, 256 of them.
-    pub tx: &'p [Buffer],
+    pub tx: &'p [GrantedPage],
     /// The rx ring's buffers by their ids, 256 of them.
-    pub rx: &'p [Buffer],
+    pub rx: &'p [GrantedPage],
     /// The back's domain.
     pub back: u16,
     /// The port of the notices to the back.

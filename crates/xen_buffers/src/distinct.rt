@@ -3,7 +3,7 @@
 ghost use Rattle.std.specs.Prelude.{◌≡◌, ◌≢◌, ◌<◌, ◌↔◌, ℕ, All, Contains, IsTrue, false, length, slice_index};
 ghost use Rattle.xen_buffers.specs.Wired.{AreDistinct};
 
-/// Whether `number` stands in the list.
+/// Returns whether `number` stands in the list.
 fn has(numbers: &[u32], number: u32) -> bool
     ensures found { IsTrue result → Contains numbers.now number }
     ensures absent { result ≡ false → (k : ℕ) → k < length numbers.now → slice_index numbers.now k ≢ number }
@@ -16,7 +16,7 @@ fn has(numbers: &[u32], number: u32) -> bool
     false
 }
 
-/// Whether no number stands twice in the list.
+/// Returns whether no number stands twice in the list.
 pub fn are_distinct(numbers: &[u32]) -> bool
     ensures { IsTrue result ↔ AreDistinct numbers.now }
 {
@@ -28,7 +28,7 @@ pub fn are_distinct(numbers: &[u32]) -> bool
     true
 }
 
-/// Whether each number is below `limit`.
+/// Returns whether each number is below `limit`.
 pub fn are_below(numbers: &[u32], limit: u32) -> bool
     ensures { IsTrue result ↔ All (λ number. number < limit) numbers.now }
 {

@@ -13,4 +13,4 @@ mod wiring;
 
 pub use desc::FrontDesc;
 pub use grant::{buffer_of, grant_flags, grant_frame};
-pub use wiring::{Buffer, Wiring};
+pub use wiring::{FrontWiring, GrantedPage};

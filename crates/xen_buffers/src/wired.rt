@@ -5,12 +5,12 @@ ghost use Rattle.xen_buffers.specs.Wired.{AreInTable, IsWired, frames_of, refere
 
 use crate::desc::FrontDesc;
 use crate::distinct::{are_below, are_distinct};
-use crate::wiring::Buffer;
+use crate::wiring::GrantedPage;
 use arrayvec::ArrayVec;
 use xen_page::Table;
 
-/// Whether the reference of each buffer is in the table.
-fn are_in_table(table: &Table, buffers: &[Buffer]) -> bool
+/// Returns whether the reference of each buffer is in the table.
+fn are_in_table(table: &Table, buffers: &[GrantedPage]) -> bool
     ensures { IsTrue result ↔ AreInTable table.now buffers.now }
 {
     for buffer in buffers {
@@ -59,7 +59,7 @@ impl FrontDesc<'_> {
         references
     }
 
-    /// Whether a front may be made with this: there are 256 buffers per ring, each with a reference in the table; each
+    /// Returns whether a front may be made with this: there are 256 buffers per ring, each with a reference in the table; each
     /// frame is on the bus; and no frame or reference stands twice.
     pub fn is_wired(&self) -> bool
         ensures { IsTrue result ↔ IsWired (wiring_in self.now) }

@@ -11,7 +11,7 @@ use Rattle.xen_host.specs.Asks.{Ask, did_all, did_by, is_over, read_by}
 use Rattle.xen_host.specs.Driving.{GoesOn, Task, delivery, turn, wait}
 use Rattle.xen_host.specs.Going.{KeepsAll}
 use Rattle.xen_host.specs.Queues.{HasStepped, seen, wired_to}
-use Rattle.xen_host.specs.declared.op.Op.{Op}
+use Rattle.xen_host.specs.declared.op.HostOp.{HostOp}
 use Rattle.xen_host.specs.declared.queue.Queue.{Queue}
 use Rattle.xen_host.proofs.TaskLemmas.{delivers_on, turns_on, waits_on}
 use Rattle.xen_host.proofs.TraceLemmas.{program_none}
@@ -25,7 +25,7 @@ pub record Moved (k : Task) (s : State) (shapes : List Shape) (new : Queue) (las
   pub keeps : KeepsAll k before after
   pub goes : GoesOn k (seen new) last s (t ++ (read ++ (ran ++ did)))
 
-pub moved : (k : Task) (s : State) (old new : Queue) (lent lent_after before after : List ℕ) (ops ops_after : List Op) (count : ℕ) (h : HasStepped old new lent lent_after before after ops ops_after count)
+pub moved : (k : Task) (s : State) (old new : Queue) (lent lent_after before after : List ℕ) (ops ops_after : List HostOp) (count : ℕ) (h : HasStepped old new lent lent_after before after ops ops_after count)
     (t : List Event) (a : Ask) → is_over a ≡ false → GoesOn k (seen old) a s t →
     Moved k s (wired_to old).program.shapes new h.last t (read_by a lent) (did_all h.first lent_after ++ did_by h.last lent_after) before after
 moved turn s old new lent lent_after before after ops ops_after count h t a n g =

@@ -5,7 +5,7 @@ use Rattle.bpf_note.specs.declared.op.Op.{Op as Operation}
 use Rattle.bpf_note.specs.declared.op.Op.TheVariants as operation
 use Rattle.xdp_program.specs.Ran.{IsHistory}
 use Rattle.xdp_program.specs.Tallies.{DidInWords, HasWords, Went}
-use Rattle.xdp_program.specs.declared.tallies.Words.{Words}
+use Rattle.xdp_program.specs.declared.tallies.CounterWords.{CounterWords}
 use Rattle.xdp_program.proofs.TallyLemmas.{history_length, history_of as history_in_words}
 use Rattle.xen_steps.specs.Event.{Event}
 use Rattle.xen_turns.specs.Drive.{labels}
@@ -35,7 +35,7 @@ pub history_none : (shapes : List Shape) (t : List Event) (a : List ℕ) → lab
 history_none shapes t a e = subst (λ l. IsHistory shapes (map Some l) a a) (sym e) refl
 
 -- words that were enough are enough
-pub words_enough : (shapes : List Shape) (labels : List (Option Operation)) (before after : Words) → HasWords shapes before → Went (DidInWords shapes) before after labels → HasWords shapes after
+pub words_enough : (shapes : List Shape) (labels : List (Option Operation)) (before after : CounterWords) → HasWords shapes before → Went (DidInWords shapes) before after labels → HasWords shapes after
 words_enough shapes labels before after enough went =
     let same = history_length shapes labels before.words.now after.words.now (history_in_words shapes labels before after went) in
     omega (arith, enough, same)

@@ -19,7 +19,7 @@ use Rattle.xen_turns.specs.declared.turn.Kind.{Kind}
 use Rattle.xen_host.specs.Queues.{BegunBy, HasStepped, IsBegun, IsWaitBegun, packet_of, resting, wiring, wired_to}
 use Rattle.xen_host.specs.UnderWay.{first_read}
 use Rattle.xen_host.specs.Said.{has_run}
-use Rattle.xen_host.specs.declared.op.Op.{Op}
+use Rattle.xen_host.specs.declared.op.HostOp.{HostOp}
 use Rattle.xen_host.specs.declared.queue.Queue.{Queue}
 use Rattle.xen_drive.specs.Hosts.{Held}
 
@@ -30,8 +30,8 @@ pub record BeginsTurn {S : Type 0} (log : S → Option (List Access)) (gives : S
     (before : List ℕ) (h : Held S) : Type 0 where
   pub producer : ℕ
   pub performed : Performs log gives bus (accesses (first_read old.engine.state.halt (Read (tx_word (wiring old).vif 0) producer))) h.bus
-  pub ops : List Op
-  pub ops_after : List Op
+  pub ops : List HostOp
+  pub ops_after : List HostOp
   pub count : ℕ
   pub begun : BegunBy old h.queue producer ops ops_after count h.lent
   pub page : 1024 ≤ length h.lent
@@ -42,8 +42,8 @@ pub record BeginsTurn {S : Type 0} (log : S → Option (List Access)) (gives : S
 -- The first step of what has begun, before which nothing was asked.
 pub record IsFirstStep {S : Type 0} (begun : Queue) (before : List ℕ) (h : Held S) : Type 0 where
   pub lent : List ℕ
-  pub ops : List Op
-  pub ops_after : List Op
+  pub ops : List HostOp
+  pub ops_after : List HostOp
   pub count : ℕ
   pub stepped : HasStepped begun h.queue lent h.lent before h.counters ops ops_after count
   pub page : 1024 ≤ length h.lent

@@ -7,7 +7,7 @@ use Rattle.xen_steps.specs.Drive.{accesses}
 use Rattle.xen_steps.specs.Event.{Event}
 use Rattle.xen_host.specs.Asks.{Ask, did_all, did_by, is_over, read_by}
 use Rattle.xen_host.specs.Queues.{HasStepped}
-use Rattle.xen_host.specs.declared.op.Op.{Op}
+use Rattle.xen_host.specs.declared.op.HostOp.{HostOp}
 use Rattle.xen_host.specs.declared.queue.Queue.{Queue}
 
 -- The queue, the pages, the words that the host lends, the counters, and what it was asked: asks that take no answer, and the last.
@@ -30,8 +30,8 @@ pub record Steps {S : Type 0} (log : S → Option (List Access)) (gives : S → 
   pub read : List ℕ
   pub page : 1024 ≤ length read
   pub performed : Performs log gives h.bus (accesses (done_by h read)) h'.bus
-  pub ops : List Op
-  pub ops_after : List Op
+  pub ops : List HostOp
+  pub ops_after : List HostOp
   pub count : ℕ
   pub stepped : HasStepped h.queue h'.queue read h'.lent h.counters h'.counters ops ops_after count
   pub lends : length h'.lent ≡ length read

@@ -10,8 +10,8 @@ ghost use Rattle.xen_host.specs.Asks.{DeliveryOver, TurnOver, WaitOver, op_of};
 ghost use Rattle.xen_host.specs.Queues.{resting, wired_to};
 ghost use Rattle.xen_drive.specs.Driven.{HasAwaited, HasDelivered, HasTurned};
 
-use xdp_program::Words;
-use xen_host::{Awaited, Delivery, Kind, Op, Over, Queue, RxOffload};
+use xdp_program::CounterWords;
+use xen_host::{Awaited, Delivery, HostOp, Kind, Over, Queue, RxOffload};
 use xen_page::Bus;
 use xen_ring::Ports;
 
@@ -20,7 +20,7 @@ use xen_ring::Ports;
 fn drive_in_words<B: Bus>(
     queue: &mut Queue,
     bus: &mut B,
-    counters: &mut Words<'_>,
+    counters: &mut CounterWords<'_>,
     ports: &Ports,
 ) -> Kind
     requires rests { IsSome (resting queue.old) }
@@ -41,7 +41,7 @@ fn deliver_in_words<B: Bus>(
     packet: &[u8],
     offload: RxOffload,
     bus: &mut B,
-    counters: &mut Words<'_>,
+    counters: &mut CounterWords<'_>,
     ports: &Ports,
 ) -> Delivery
     requires rests { IsSome (resting queue.old) }
@@ -61,7 +61,7 @@ fn await_in_words<B: Bus>(
     queue: &mut Queue,
     pages: u32,
     bus: &mut B,
-    counters: &mut Words<'_>,
+    counters: &mut CounterWords<'_>,
     ports: &Ports,
 ) -> Awaited
     requires rests { IsSome (resting queue.old) }
@@ -78,7 +78,7 @@ fn await_in_words<B: Bus>(
 
 /// Takes a whole turn of a queue that is between two, and returns its last op: how the turn ended.
 #[inline(always)]
-pub fn drive<B: Bus>(queue: &mut Queue, bus: &mut B, counters: &mut [u64], ports: &Ports) -> Op
+pub fn drive<B: Bus>(queue: &mut Queue, bus: &mut B, counters: &mut [u64], ports: &Ports) -> HostOp
     requires rests { IsSome (resting queue.old) }
     requires size { B.size bus.old ≡ length (wired_to queue.old).owners }
     requires counts { total (wired_to queue.old).program.shapes ≤ length counters.old }
@@ -87,7 +87,7 @@ pub fn drive<B: Bus>(queue: &mut Queue, bus: &mut B, counters: &mut [u64], ports
     ensures turned { (kind : Kind) × (result ≡ op_of (TurnOver kind)) ×
         HasTurned B.log B.access_gives queue.old queue.new kind bus.old bus.new counters.old counters.new }
 {
-    let mut own = Words { words: counters };
+    let mut own = CounterWords { words: counters };
     Over::Turn(drive_in_words(queue, bus, &mut own, ports)).op()
 }
 
@@ -100,7 +100,7 @@ pub fn deliver<B: Bus>(
     bus: &mut B,
     counters: &mut [u64],
     ports: &Ports,
-) -> Op
+) -> HostOp
     requires rests { IsSome (resting queue.old) }
     requires size { B.size bus.old ≡ length (wired_to queue.old).owners }
     requires counts { total (wired_to queue.old).program.shapes ≤ length counters.old }
@@ -109,7 +109,7 @@ pub fn deliver<B: Bus>(
     ensures delivered { (what : Delivery) × (result ≡ op_of (DeliveryOver what)) ×
         HasDelivered B.log B.access_gives queue.old queue.new offload packet.now what bus.old bus.new counters.old counters.new }
 {
-    let mut own = Words { words: counters };
+    let mut own = CounterWords { words: counters };
     Over::Delivery(deliver_in_words(queue, packet, offload, bus, &mut own, ports)).op()
 }
 
@@ -121,7 +121,7 @@ pub fn await_slots<B: Bus>(
     bus: &mut B,
     counters: &mut [u64],
     ports: &Ports,
-) -> Op
+) -> HostOp
     requires rests { IsSome (resting queue.old) }
     requires size { B.size bus.old ≡ length (wired_to queue.old).owners }
     requires counts { total (wired_to queue.old).program.shapes ≤ length counters.old }
@@ -130,6 +130,6 @@ pub fn await_slots<B: Bus>(
     ensures awaited { (what : Awaited) × (result ≡ op_of (WaitOver what)) ×
         HasAwaited B.log B.access_gives queue.old queue.new pages what bus.old bus.new counters.old counters.new }
 {
-    let mut own = Words { words: counters };
+    let mut own = CounterWords { words: counters };
     Over::Wait(await_in_words(queue, pages, bus, &mut own, ports)).op()
 }

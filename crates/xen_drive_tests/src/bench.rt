@@ -10,7 +10,7 @@ use xen_back_tests::bench::{IFINDEX, QUEUE};
 use xen_host::{FrameOwners, Lists, Program, Queue, QueueParts};
 use xen_netif::{Accepts, NO_OFFERS, Offers};
 
-/// What its frontend accepts: blank checksums, and packets to segment over IPv4.
+/// The packets that its frontend accepts: blank checksums, and packets to segment over IPv4.
 pub const ACCEPTS: Accepts = Accepts {
     blank_checksums: true,
     segments: Offers {

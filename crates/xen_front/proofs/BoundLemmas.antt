@@ -1,11 +1,10 @@
 -- Each activity keeps to the front's frames, and is short.
-use Rattle.std.proofs.Common.{◌≡◌, ℕ, zero, suc, ◌+◌, ◌-◌, ◌*◌, ◌/◌, ◌<◌, ◌≤◌, Bool, true, false, List, [], ◌∷◌, ◌++◌, length, map, Contains, Option, Some, None, ℤ, pos, negsuc, refl, ◌∙◌, ap, arith, subst, set, length-append}
-use Rattle.std.specs.Prelude.{◌==◌, ◌||◌, nat_le, nat_lt, if◌then◌else◌}
+use Rattle.std.proofs.Common.{◌≡◌, ℕ, zero, suc, ◌+◌, ◌-◌, ◌*◌, ◌/◌, ◌<◌, ◌≤◌, Bool, true, false, List, [], ◌∷◌, ◌++◌, length, map, Contains, Option, Some, None, refl, ◌∙◌, ap, arith, subst, set, length-append}
+use Rattle.std.specs.Prelude.{nat_lt}
 use Rattle.std.proofs.lemmas.List.{length-set}
 use Rattle.std.proofs.lemmas.List.Elements.{Contains-append_left, Contains-append_right}
 use Rattle.std.proofs.lemmas.Bool.Decides.{nat_tests}
 use Rattle.xen_netif.specs.Slots.{rx_rsp_of, tx_rsp_of, tx_req_words, rx_req_words}
-use Rattle.xen_netif.specs.declared.flags.RxFlags.{RxFlags}
 use Rattle.xen_netif.specs.declared.fragment.Fragment.{Fragment}
 use Rattle.xen_netif.specs.declared.rx.RxReq.{RxReq}
 use Rattle.xen_netif.specs.declared.rx.RxRsp.{RxRsp}
@@ -27,85 +26,19 @@ use Rattle.xen_steps.specs.declared.want.Want.TheVariants as want
 use Rattle.xen_steps.proofs.DriveLemmas.{bounded_le, bounded_bind}
 use Rattle.xen_front.specs.Bound.{AreOwn, HasFlags, IsOwnEvent, IsOwnPlace, IsOwnWant}
 use Rattle.xen_front.specs.Given.{Ending}
-use Rattle.xen_front.specs.Slots.{buffer, covered_bytes, extra_of, extra_taken, fault_of, gave, grant_place, grant_writes, in_flight, outstanding, page_writes, part_of, passes_page, piece_request, piece_words, piece_writes, place_or, post_writes, posted_at, segments_in, rx_writes, send_writes, slot_writes, filling, took, tx_writes}
-use Rattle.xen_front.specs.Tree.{Expected, Slot, Extra, Gathered, after_rx_look, after_tx_look, chained, checked, continues, expected, extra_checked, flown, flown_post, grown, judged, look, next_entry, notice, nothing_gathered, poll, poll_rx, post, publish, receive, seen, segmented, send, take_all}
+use Rattle.xen_front.specs.Slots.{buffer, extra_taken, fault_of, gave, grant_place, grant_writes, in_flight, outstanding, page_writes, part_of, passes_page, piece_request, piece_words, piece_writes, place_or, post_writes, posted_at, rx_writes, send_writes, slot_writes, filling, took, tx_writes}
+use Rattle.xen_front.specs.Tree.{Expected, Slot, Extra, Gathered, after_rx_look, after_tx_look, chained, checked, continues, extra_checked, flown, flown_post, grown, judged, look, next_entry, notice, nothing_gathered, poll, poll_rx, post, publish, receive, seen, segmented, send, take_all}
 use Rattle.xen_buffers.specs.Wired.{AreInTable, IsWired, frame_of, frames_of}
 use Rattle.xen_front.specs.declared.state.Ring.{Ring}
-use Rattle.xen_front.specs.declared.state.State.{State}
-use Rattle.xen_front.specs.declared.turn.Halt.{Halt}
-use Rattle.xen_buffers.specs.declared.wiring.Buffer.{Buffer}
-use Rattle.xen_buffers.specs.declared.wiring.Wiring.{Wiring}
+use Rattle.xen_front.specs.declared.state.FrontState.{FrontState}
+use Rattle.xen_front.specs.declared.turn.FrontHalt.{FrontHalt}
+use Rattle.xen_buffers.specs.declared.wiring.GrantedPage.{GrantedPage}
+use Rattle.xen_buffers.specs.declared.wiring.FrontWiring.{FrontWiring}
 use Rattle.xen_front.proofs.IdLemmas.{AreIds, count, count-cleared, count-le-length, flag_inside}
 use Rattle.xen_front.proofs.RestLemmas.{IsSound, sound}
+use Rattle.xen_front.proofs.ChainCosts.{buffer_in, cost, cost_next, covered-le, extra_cost, extra_flies, goes_few, piece_words-le, room, room_gone}
 
--- the buffer of an id is one of the list's
-buffer_in : (buffers : List Buffer) (id : ℕ) → id < length buffers → Contains (map frame_of buffers) (buffer buffers id).frame
-buffer_in [] id h = absurd (omega arith)
-buffer_in (b ∷ buffers) zero h = (0, omega arith, refl)
-buffer_in (b ∷ buffers) (suc id) h = let r = buffer_in buffers id (omega (arith, h)) in (suc r.0, omega (arith, r.1), r.2)
-
--- a page's words are no more than 1,024
-piece_words-le : (len k : ℕ) → piece_words len k ≤ 1024
-piece_words-le len k = by (nat_le (len - 4096 * k) 4096) refl
-  where
-    by : (b : Bool) → nat_le (len - 4096 * k) 4096 ≡ b → ((if b then len - 4096 * k else 4096) + 3) / 4 ≤ 1024
-    by true e = let le : len - 4096 * k ≤ 4096 = grind (arith, nat_tests) in omega (arith, le)
-    by false e = omega arith
-
--- the words that a response covers are in its page
-covered-le : (b : Buffer) (r : RxRsp) → passes_page r.offset r.status ≡ false → 0 < covered (part_of b r) → r.offset / 4 + covered (part_of b r) ≤ 1024
-covered-le b r h = by r.status h
-  where
-    part : ℤ → Fragment
-    part s = record { gref = b.gref; offset = r.offset; size = covered_bytes s }
-
-    by : (s : ℤ) → passes_page r.offset s ≡ false → 0 < covered (record { gref = b.gref; offset = r.offset; size = covered_bytes s }) → r.offset / 4 + covered (record { gref = b.gref; offset = r.offset; size = covered_bytes s }) ≤ 1024
-    by (negsuc n) h c = absurd (omega (arith, c))
-    by (pos n) h c = by_size (n == 0) refl
-      where
-        by_size : (z : Bool) → (n == 0) ≡ z → r.offset / 4 + (if z then 0 else (r.offset + n - 1) / 4 + 1 - r.offset / 4) ≤ 1024
-        by_size true e = let zero : n ≡ 0 = grind (arith, nat_tests) in absurd (omega (arith, ap (λ m. covered (record { gref = b.gref; offset = r.offset; size = m })) zero, c))
-        by_size false e =
-            let inside : r.offset + n ≤ 4096 = grind (arith, nat_tests) in
-            let some : 1 ≤ n = grind (arith, nat_tests) in
-            omega (arith, inside, some)
-
--- 3 events for an extra, where one may come
-abbrev room : ℕ → ℕ
-room slots = if slots == 0 then 3 else 0
-
-abbrev extra_cost : Expected → ℕ → ℕ
-extra_cost Slot slots = room slots
-extra_cost (Extra more) slots = 3
-
--- and 1,027 for each slot
-abbrev cost : Gathered → ℕ
-cost g = 1027 * (16 - g.slots) + extra_cost g.next g.slots
-
-room_gone : (slots : ℕ) → 1 ≤ slots → room slots ≡ 0
-room_gone slots h = let e : (slots == 0) ≡ false = grind (arith, nat_tests) in ap (λ t. if t then 3 else 0) e
-
-cost_next : (flags : RxFlags) (slots : ℕ) → (flags.extra_info ≡ true → slots ≡ 0) → extra_cost (expected flags) (slots + 1) ≤ room slots
-cost_next flags slots h = by flags.extra_info refl
-  where
-    by : (t : Bool) → flags.extra_info ≡ t → extra_cost (if t then Extra flags.more_data else Slot) (slots + 1) ≤ room slots
-    by false e = let z = room_gone (slots + 1) (omega arith) in omega (arith, z)
-    by true e = let z : room slots ≡ 3 = ap room (h e) in omega (arith, z)
-
--- an extra that is taken lies in the entry of a request in flight
-extra_flies : (s : State) (a b : ℕ) (x : Segments) → extra_taken s a b ≡ Some x → in_flight s.rx (posted_at s) ≡ true
-extra_flies s a b x h = by (in_flight s.rx (posted_at s)) refl h
-  where
-    by : (t : Bool) → in_flight s.rx (posted_at s) ≡ t → (if t then segments_in s.accepts (extra_of a b) else None) ≡ Some x → in_flight s.rx (posted_at s) ≡ true
-    by true e h = e
-    by false e h = cc
-
--- a chain that goes on has not yet too many slots
-goes_few : (e m : Bool) (slots : ℕ) → (m ≡ true → slots ≤ 14) → (e ≡ true → slots ≡ 0) → (e || m) ≡ true → slots ≤ 14
-goes_few true m slots a b h = let z = b refl in omega (arith, z)
-goes_few false m slots a b h = a h
-
-module _ (w : Wiring) (h : IsWired w) where
+module _ (w : FrontWiring) (h : IsWired w) where
   abbrev within : Want → Type 0
   within = IsOwnWant w
 
@@ -149,7 +82,7 @@ module _ (w : Wiring) (h : IsWired w) where
       let i = entry_in_table w.table.now gref at e in
       record { flags = (table_owned at.frame i.1, omega (arith, i.0)); frame = (table_owned at.frame i.1, i.0) }
 
-  grant_owned : (buffers : List Buffer) (id : ℕ) → AreInTable w.table.now buffers → id < length buffers → IsOwnGrant (grant_place w (buffer buffers id))
+  grant_owned : (buffers : List GrantedPage) (id : ℕ) → AreInTable w.table.now buffers → id < length buffers → IsOwnGrant (grant_place w (buffer buffers id))
   grant_owned buffers id granted lt =
       let b = buffer buffers id in
       place_owned b.gref (entry_place w.table.now b.gref) refl (granted id (record { gref = 0; frame = 0 }) lt)
@@ -177,7 +110,7 @@ module _ (w : Wiring) (h : IsWired w) where
     λ v. bounded_le within Any (write_all ms rest) (length ms + n) (length (m ∷ ms) + n - 1) (bounded_writes ms rest n a.1 b) (omega arith),
   )
 
-  grant_writes_own : (b : Buffer) (value : ℕ) → IsOwnGrant (grant_place w b) → AreOwnWrites (grant_writes w b value)
+  grant_writes_own : (b : GrantedPage) (value : ℕ) → IsOwnGrant (grant_place w b) → AreOwnWrites (grant_writes w b value)
   grant_writes_own b value g = (g.frame, (g.flags, tt))
 
   page_writes_own : (p : List ℕ) (frame k left j : ℕ) → Owned frame → j + left ≤ 1024 → AreOwnWrites (page_writes p frame k left j)
@@ -223,26 +156,26 @@ module _ (w : Wiring) (h : IsWired w) where
   length-send_writes i p n k (id ∷ ids) =
       omega (arith, length-append (piece_writes w i p n k id) (send_writes w i p n (k + 1) ids), length-piece_writes i p n k id, length-send_writes i p n (k + 1) ids)
 
-  bounded_notice : (due : Bool) (s : State) → Bounded within Any (notice w due s) 1
+  bounded_notice : (due : Bool) (s : FrontState) → Bounded within Any (notice w due s) 1
   bounded_notice false s = tt
   bounded_notice true s = (omega arith, refl, λ a. tt)
 
-  bounded_publish : (frame old new : ℕ) (s : State) → Owned frame → Bounded within Any (publish w frame old new s) 3
+  bounded_publish : (frame old new : ℕ) (s : FrontState) → Owned frame → Bounded within Any (publish w frame old new s) 3
   bounded_publish frame old new s o = (omega arith, (o, omega arith), λ a. (omega arith, (o, omega arith), λ e. bounded_notice (is_due old new e) s))
 
-  pub bounded_send : (s : State) (p ids : List ℕ) → length ids ≤ 16 → AreIds ids → Bounded within Any (send w s p ids) 16467
+  pub bounded_send : (s : FrontState) (p ids : List ℕ) → length ids ≤ 16 → AreIds ids → Bounded within Any (send w s p ids) 16467
   bounded_send s p ids few a =
       let ns = send_writes w s.tx.prod p (length ids) 0 ids in
-      let new : State = record s { tx = flown s.tx ids } in
+      let new : FrontState = record s { tx = flown s.tx ids } in
       let rest = publish w w.tx_frame s.tx.prod (add32 s.tx.prod (length ids)) new in
       bounded_le within Any (write_all ns rest) (length ns + 3) 16467
       (bounded_writes ns rest 3 (send_own s.tx.prod p (length ids) 0 ids a) (bounded_publish w.tx_frame s.tx.prod (add32 s.tx.prod (length ids)) new tx_owned))
       (omega (arith, few, length-send_writes s.tx.prod p (length ids) 0 ids))
 
-  pub bounded_post : (s : State) (id : ℕ) → id < 256 → Bounded within Any (post w s id) 7
+  pub bounded_post : (s : FrontState) (id : ℕ) → id < 256 → Bounded within Any (post w s id) 7
   bounded_post s id lt =
       let b = buffer w.rx.now id in
-      let new : State = flown_post s id in
+      let new : FrontState = flown_post s id in
       bounded_writes (post_writes w s.rx.prod id) (publish w w.rx_frame s.rx.prod (add32 s.rx.prod 1) new) 3
       (both (grant_writes w b 1) (rx_writes w.rx_frame s.rx.prod 0 (rx_req_words (record { id = id; gref = b.gref }))) (grant_writes_own b 1 (rx_grant_owned id lt)) (rx_slot_own s.rx.prod (record { id = id; gref = b.gref })))
       (bounded_publish w.rx_frame s.rx.prod (add32 s.rx.prod 1) new rx_owned)
@@ -264,14 +197,14 @@ module _ (w : Wiring) (h : IsWired w) where
         λ v. bounded_le within Any _ n (suc n - 1) (bounded_copy f frame (place + 1) n _ o (λ m. omega (arith, here))) (omega arith),
       )
 
-  keeps_flags : (s : State) (id : ℕ) → HasFlags s → HasFlags (gave s id)
+  keeps_flags : (s : FrontState) (id : ℕ) → HasFlags s → HasFlags (gave s id)
   keeps_flags s id f = record { tx = f.tx; rx = length-set s.rx.out id false ∙ f.rx }
 
   -- what follows a slot of a chain
-  abbrev GoesOn : (State → Gathered → Steps Ending) → Type 0
-  GoesOn rest = (s : State) (g : Gathered) → HasFlags s → g.slots ≤ 15 → ((more : Bool) → g.next ≡ Extra more → 1 ≤ g.slots) → Bounded within Any (rest s g) (cost g)
+  abbrev GoesOn : (FrontState → Gathered → Steps Ending) → Type 0
+  GoesOn rest = (s : FrontState) (g : Gathered) → HasFlags s → g.slots ≤ 15 → ((more : Bool) → g.next ≡ Extra more → 1 ≤ g.slots) → Bounded within Any (rest s g) (cost g)
 
-  bounded_chained : (rest : State → Gathered → Steps Ending) → GoesOn rest → (s : State) (g : Gathered) → HasFlags s → (r : RxRsp) (bytes : List ℕ) (more : Bool) → (more ≡ true → g.slots ≤ 14) → (r.flags.extra_info ≡ true → g.slots ≡ 0) →
+  bounded_chained : (rest : FrontState → Gathered → Steps Ending) → GoesOn rest → (s : FrontState) (g : Gathered) → HasFlags s → (r : RxRsp) (bytes : List ℕ) (more : Bool) → (more ≡ true → g.slots ≤ 14) → (r.flags.extra_info ≡ true → g.slots ≡ 0) →
       Bounded within Any (chained more (gave s r.id) (grown g r bytes) rest) (1027 * (15 - g.slots) + room g.slots)
   bounded_chained rest go s g f r bytes false l x = tt
   bounded_chained rest go s g f r bytes true l x =
@@ -280,7 +213,7 @@ module _ (w : Wiring) (h : IsWired w) where
       bounded_le within Any (rest (gave s r.id) (grown g r bytes)) (cost (grown g r bytes)) (1027 * (15 - g.slots) + room g.slots)
       (go (gave s r.id) (grown g r bytes) (keeps_flags s r.id f) (omega (arith, lt)) (λ m e. omega arith)) (omega (arith, more))
 
-  part_fits : (b : Buffer) (r : RxRsp) (slots : ℕ) → slots ≤ 15 → passes_page r.offset r.status ≡ false → covered (part_of b r) + (1027 * (15 - slots) + room slots) ≤ 1027 * (16 - slots) + room slots - 1 - 1 - 1
+  part_fits : (b : GrantedPage) (r : RxRsp) (slots : ℕ) → slots ≤ 15 → passes_page r.offset r.status ≡ false → covered (part_of b r) + (1027 * (15 - slots) + room slots) ≤ 1027 * (16 - slots) + room slots - 1 - 1 - 1
   part_fits b r slots few ok = by (nat_lt 0 (covered (part_of b r))) refl
     where
       by : (some : Bool) → nat_lt 0 (covered (part_of b r)) ≡ some → covered (part_of b r) + (1027 * (15 - slots) + room slots) ≤ 1027 * (16 - slots) + room slots - 1 - 1 - 1
@@ -290,7 +223,7 @@ module _ (w : Wiring) (h : IsWired w) where
           omega (arith, l, few)
       by false t = let none : covered (part_of b r) ≡ 0 = grind (arith, nat_tests) in omega (arith, none, few)
 
-  bounded_checked : (rest : State → Gathered → Steps Ending) → GoesOn rest → (s : State) (g : Gathered) → HasFlags s → g.slots ≤ 15 → (r : RxRsp) (o : Option Halt) → fault_of s.accepts s.rx g.slots (length g.bytes) r ≡ o →
+  bounded_checked : (rest : FrontState → Gathered → Steps Ending) → GoesOn rest → (s : FrontState) (g : Gathered) → HasFlags s → g.slots ≤ 15 → (r : RxRsp) (o : Option FrontHalt) → fault_of s.accepts s.rx g.slots (length g.bytes) r ≡ o →
       Bounded within Any (checked w s g r o rest) (1027 * (16 - g.slots) + room g.slots - 1 - 1)
   bounded_checked rest go s g f few r (Some cause) e = tt
   bounded_checked rest go s g f few r None e =
@@ -307,7 +240,7 @@ module _ (w : Wiring) (h : IsWired w) where
             (part_fits b r g.slots few ok.inside),
       )
 
-  bounded_extra : (rest : State → Gathered → Steps Ending) → GoesOn rest → (s : State) (g : Gathered) → HasFlags s → g.slots ≤ 15 → 1 ≤ g.slots → (more : Bool) (a b : ℕ) (o : Option Segments) → extra_taken s a b ≡ o →
+  bounded_extra : (rest : FrontState → Gathered → Steps Ending) → GoesOn rest → (s : FrontState) (g : Gathered) → HasFlags s → g.slots ≤ 15 → 1 ≤ g.slots → (more : Bool) (a b : ℕ) (o : Option Segments) → extra_taken s a b ≡ o →
       Bounded within Any (extra_checked w more s g o rest) (1027 * (16 - g.slots) + 3 - 1 - 1)
   bounded_extra rest go s g f few some more a b None e = tt
   bounded_extra rest go s g f few some more a b (Some x) e =
@@ -320,7 +253,7 @@ module _ (w : Wiring) (h : IsWired w) where
           bounded_le within Any (rest (gave s (posted_at s)) (segmented g x)) (cost (segmented g x)) (1027 * (16 - g.slots) + 3 - 1 - 1 - 1)
           (go (gave s (posted_at s)) (segmented g x) (keeps_flags s (posted_at s) f) few (λ m q. let z : Slot ≡ Extra m = q in absurd (cc))) (omega (arith, none))
 
-  bounded_entry : (left : ℕ) → GoesOn (receive w left) → (s : State) (g : Gathered) → HasFlags s → g.slots ≤ 15 → (x : Expected) → ((more : Bool) → x ≡ Extra more → 1 ≤ g.slots) →
+  bounded_entry : (left : ℕ) → GoesOn (receive w left) → (s : FrontState) (g : Gathered) → HasFlags s → g.slots ≤ 15 → (x : Expected) → ((more : Bool) → x ≡ Extra more → 1 ≤ g.slots) →
       Bounded within Any (next_entry w x s g (receive w left)) (1027 * (16 - g.slots) + extra_cost x g.slots)
   bounded_entry left go s g f few Slot l = (
     omega (arith, few),
@@ -341,7 +274,7 @@ module _ (w : Wiring) (h : IsWired w) where
   bounded_receive zero s g f few l = tt
   bounded_receive (suc left) s g f few l = bounded_entry left (bounded_receive left) s g f few g.next l
 
-  bounded_poll_rx : (s : State) → HasFlags s → Bounded within Any (poll_rx w s) 16438
+  bounded_poll_rx : (s : FrontState) → HasFlags s → Bounded within Any (poll_rx w s) 16438
   bounded_poll_rx s f = bounded_bind within Any Any (look w.rx_frame s.rx) (after_rx_look w s) 3 16435 16438 (bounded_look w.rx_frame s.rx rx_owned) (λ o t. by o) (omega arith)
     where
       by : (o : Option ℕ) → Bounded within Any (after_rx_look w s o) 16435
@@ -349,7 +282,7 @@ module _ (w : Wiring) (h : IsWired w) where
       by (Some zero) = tt
       by (Some (suc n)) = bounded_receive (suc n) s nothing_gathered f (omega arith) (λ m q. let z : Slot ≡ Extra m = q in absurd (cc))
 
-  bounded_judged : (rest : Steps Ending) (s : State) (r : TxRsp) (known : Bool) → HasFlags s → in_flight s.tx r.id ≡ known →
+  bounded_judged : (rest : Steps Ending) (s : FrontState) (r : TxRsp) (known : Bool) → HasFlags s → in_flight s.tx r.id ≡ known →
       (HasFlags (took s r) → Bounded within Any rest (2 * count (set s.tx.out r.id false) + 16439)) → Bounded within Any (judged w s r known rest) (2 * count s.tx.out + 16439 - 1)
   bounded_judged rest s r false f e go = tt
   bounded_judged rest s r true f e go =
@@ -361,7 +294,7 @@ module _ (w : Wiring) (h : IsWired w) where
         λ v. bounded_le within Any rest (2 * count (set s.tx.out r.id false) + 16439) (2 * count s.tx.out + 16439 - 1 - 1) (go keeps) (omega (arith, less)),
       )
 
-  bounded_take : (n : ℕ) (s : State) → HasFlags s → Bounded within Any (take_all w n s) (2 * count s.tx.out + 16439)
+  bounded_take : (n : ℕ) (s : FrontState) → HasFlags s → Bounded within Any (take_all w n s) (2 * count s.tx.out + 16439)
   bounded_take zero s f = bounded_le within Any (poll_rx w s) 16438 (2 * count s.tx.out + 16439) (bounded_poll_rx s f) (omega arith)
   bounded_take (suc n) s f = (
     omega arith,
@@ -369,17 +302,17 @@ module _ (w : Wiring) (h : IsWired w) where
     λ a. let r = tx_rsp_of (a ∷ []) in bounded_judged (take_all w n (took s r)) s r (in_flight s.tx r.id) f refl (bounded_take n (took s r)),
   )
 
-  pub bounded_poll : (s : State) → HasFlags s → Bounded within Any (poll w s) 16954
+  pub bounded_poll : (s : FrontState) → HasFlags s → Bounded within Any (poll w s) 16954
   bounded_poll s f = bounded_bind within Any Any (look w.tx_frame s.tx) (after_tx_look w s) 3 16951 16954 (bounded_look w.tx_frame s.tx tx_owned) (λ o t. by o) (omega arith)
     where
       by : (o : Option ℕ) → Bounded within Any (after_tx_look w s o) 16951
       by None = tt
       by (Some n) = bounded_le within Any (take_all w n s) (2 * count s.tx.out + 16439) 16951 (bounded_take n s f) (omega (arith, count-le-length s.tx.out, f.tx))
 
-on_bus : (w : Wiring) → IsWired w → (frame : ℕ) → Contains (frames_of w) frame → frame < w.frames
+on_bus : (w : FrontWiring) → IsWired w → (frame : ℕ) → Contains (frames_of w) frame → frame < w.frames
 on_bus w h frame c = subst (λ f. f < w.frames) c.2 (h.on_bus c.0 frame c.1)
 
-own_event : (w : Wiring) (v : Want) (a : ℕ) (e : Event) → IsOwnWant w v → Occurs v a e → IsOwnEvent w e
+own_event : (w : FrontWiring) (v : Want) (a : ℕ) (e : Event) → IsOwnWant w v → Occurs v a e → IsOwnEvent w e
 own_event w (want.Read at) a e o h = rw h.1 o
 own_event w (want.Write at v) a e o h = rw h.1 o
 own_event w want.Instr a e o h = absurd o
@@ -389,7 +322,7 @@ own_event w (want.Notify p) a e o h = rw h.1 o
 own_event w want.Done a e o h = absurd o
 
 -- a run within such a bound keeps to the front's words
-pub own_runs : (w : Wiring) (s : Steps Ending) (n : ℕ) (t : List Event) (r : Ending) → Bounded (IsOwnWant w) Any s n → Runs s t r → AreOwn w t
+pub own_runs : (w : FrontWiring) (s : Steps Ending) (n : ℕ) (t : List Event) (r : Ending) → Bounded (IsOwnWant w) Any s n → Runs s t r → AreOwn w t
 own_runs w (done x) n [] r b h = tt
 own_runs w (done x) n (e ∷ t) r b h = absurd h
 own_runs w never n t r b h = absurd h
@@ -397,7 +330,7 @@ own_runs w (ask v k) n [] r b h = absurd h
 own_runs w (ask v k) n (e ∷ t) r b h = (own_event w v h.0 e b.1 h.1, own_runs w (k h.0) (n - 1) t r (b.2 h.0) h.2)
 
 -- a front's want is one of a word on the bus, or a notice
-pub page_want : (w : Wiring) → IsWired w → (v : Want) → IsOwnWant w v → IsPageWant w.frames v
+pub page_want : (w : FrontWiring) → IsWired w → (v : Want) → IsOwnWant w v → IsPageWant w.frames v
 page_want w h (want.Read at) o = (on_bus w h at.frame o.0, o.1)
 page_want w h (want.Write at v) o = (on_bus w h at.frame o.0, o.1)
 page_want w h want.Instr o = absurd o

@@ -17,10 +17,10 @@ use Rattle.xen_front.specs.Tree.{Gathered, after_rx_look, receive, first_word, j
 use Rattle.xen_front.specs.declared.by_event.phase.Phase.{Phase}
 use Rattle.xen_front.specs.declared.by_event.phase.Phase.TheVariants as phase
 use Rattle.xen_front.specs.declared.state.Ring.{Ring}
-use Rattle.xen_front.specs.declared.state.State.{State}
-use Rattle.xen_front.specs.declared.turn.Halt.TheVariants as halt
+use Rattle.xen_front.specs.declared.state.FrontState.{FrontState}
+use Rattle.xen_front.specs.declared.turn.FrontHalt.TheVariants as halt
 use Rattle.xen_front.specs.declared.turn.Outcome.{Outcome}
-use Rattle.xen_buffers.specs.declared.wiring.Wiring.{Wiring}
+use Rattle.xen_buffers.specs.declared.wiring.FrontWiring.{FrontWiring}
 
 -- a page at a word
 pub page_at : (p : List ℕ) (frame k n j : ℕ) → j < n →
@@ -28,7 +28,7 @@ pub page_at : (p : List ℕ) (frame k n j : ℕ) → j < n →
 page_at p frame k n j h = let e : n - j ≡ suc (n - (j + 1)) = omega arith in ap (λ m. page_writes p frame k m j) e
 
 -- the pieces at one, and at their end
-pub pieces_at : (w : Wiring) (i : ℕ) (p : List ℕ) (n k : ℕ) (ids : List ℕ) → k < length ids →
+pub pieces_at : (w : FrontWiring) (i : ℕ) (p : List ℕ) (n k : ℕ) (ids : List ℕ) → k < length ids →
     send_writes w i p n k (drop k ids) ≡ piece_writes w i p n k (get_or ids k 0) ++ send_writes w i p n (k + 1) (drop (k + 1) ids)
 pieces_at w i p n k ids h = ap (λ l. send_writes w i p n k l) (drop_more ids k 0 h)
 
@@ -36,11 +36,11 @@ pub seen_some : (frame : ℕ) (r : Ring) (n : ℕ) → 0 < n → seen frame r (S
 seen_some frame r zero h = absurd (omega arith)
 seen_some frame r (suc n) h = refl
 
-pub receive_more : (w : Wiring) (n : ℕ) (s : State) (g : Gathered) → 0 < n → receive w n s g ≡ next_entry w g.next s g (receive w (n - 1))
+pub receive_more : (w : FrontWiring) (n : ℕ) (s : FrontState) (g : Gathered) → 0 < n → receive w n s g ≡ next_entry w g.next s g (receive w (n - 1))
 receive_more w zero s g h = absurd (omega arith)
 receive_more w (suc n) s g h = let e : n ≡ suc n - 1 = omega arith in ap (λ m. next_entry w g.next s g (receive w m)) e
 
-pub rx_some : (w : Wiring) (s : State) (n : ℕ) → 0 < n → after_rx_look w s (Some n) ≡ first_word w s nothing_gathered (receive w (n - 1))
+pub rx_some : (w : FrontWiring) (s : FrontState) (n : ℕ) → 0 < n → after_rx_look w s (Some n) ≡ first_word w s nothing_gathered (receive w (n - 1))
 rx_some w s zero h = absurd (omega arith)
 rx_some w s (suc n) h = let e : n ≡ suc n - 1 = omega arith in ap (λ m. first_word w s nothing_gathered (receive w m)) e
 
@@ -101,7 +101,7 @@ sound accepts r slots bytes x h =
       extra = λ t. at_first accepts slots (extra_of (in_flight r x.id) x.flags.extra_info (may_have_extra accepts slots) x.flags.gso_prefix i t);
     }
 
-pub take_next : (w : Wiring) (n : ℕ) (s : State) (a b : ℕ) → 0 < n →
+pub take_next : (w : FrontWiring) (n : ℕ) (s : FrontState) (a b : ℕ) → 0 < n →
     next_by (take_all w n s) a b ≡ judged w s (tx_rsp_of (a ∷ [])) (in_flight s.tx (tx_rsp_of (a ∷ [])).id) (take_all w (n - 1) (took s (tx_rsp_of (a ∷ []))))
 take_next w zero s a b h = absurd (omega arith)
 take_next w (suc n) s a b h =
@@ -112,12 +112,12 @@ page_asks : (ps : List PageWrite) (a : PageWrite) (more later : List PageWrite) 
 page_asks [] a more later t h = cc
 page_asks (p ∷ ps) a more later t h = cc
 
-take_asks : (w : Wiring) (n : ℕ) (s : State) → want_of (take_all w n s) ≡ want.Done → ⊥
+take_asks : (w : FrontWiring) (n : ℕ) (s : FrontState) → want_of (take_all w n s) ≡ want.Done → ⊥
 take_asks w zero s h = cc
 take_asks w (suc n) s h = cc
 
 -- a phase that wants nothing is between activities, or at the end of one
-pub asks_nothing : (w : Wiring) (s : State) (p q : List ℕ) (x : Phase) → (x ≡ phase.Ready → ⊥) → ((k : Outcome) → x ≡ phase.Ended k → ⊥) → want_of (rest_at w s p q x) ≡ want.Done → ⊥
+pub asks_nothing : (w : FrontWiring) (s : FrontState) (p q : List ℕ) (x : Phase) → (x ≡ phase.Ready → ⊥) → ((k : Outcome) → x ≡ phase.Ended k → ⊥) → want_of (rest_at w s p q x) ≡ want.Done → ⊥
 asks_nothing w s p q phase.Ready a b h = a refl
 asks_nothing w s p q (phase.GrantFrame r) a b h = cc
 asks_nothing w s p q (phase.GrantFlags r) a b h = cc

@@ -12,8 +12,8 @@ use Rattle.xen_front.specs.Short.{IsShort}
 use Rattle.xen_buffers.specs.Wired.{IsWired}
 use Rattle.xen_front.specs.declared.by_event.phase.Phase.{Phase}
 use Rattle.xen_front.specs.declared.by_event.phase.Phase.TheVariants as phase
-use Rattle.xen_front.specs.declared.state.State.{State}
-use Rattle.xen_buffers.specs.declared.wiring.Wiring.{Wiring}
+use Rattle.xen_front.specs.declared.state.FrontState.{FrontState}
+use Rattle.xen_buffers.specs.declared.wiring.FrontWiring.{FrontWiring}
 use Rattle.xen_front.proofs.BoundLemmas.{page_want}
 
 bounded_next_le : (within : Want → Type 0) (s : Steps Ending) (a n : ℕ) → Bounded within Any s n → Bounded within Any (next s a) n
@@ -21,23 +21,23 @@ bounded_next_le within (done x) a n b = b
 bounded_next_le within (ask w k) a n b = bounded_le within Any (k a) (n - 1) n (b.2 a) (omega arith)
 bounded_next_le within never a n b = tt
 
-pub short_opened : (w : Wiring) (s : State) (p q : List ℕ) (x : Phase) → IsShort w s p q x → Bounded (IsPageWant w.frames) Any (rest_at w s p q x) 17000
+pub short_opened : (w : FrontWiring) (s : FrontState) (p q : List ℕ) (x : Phase) → IsShort w s p q x → Bounded (IsPageWant w.frames) Any (rest_at w s p q x) 17000
 unfolding IsShort
 short_opened w s p q x h = h
 
 -- between activities
-pub short_ready : (w : Wiring) (s : State) (p q : List ℕ) → IsShort w s p q phase.Ready
+pub short_ready : (w : FrontWiring) (s : FrontState) (p q : List ℕ) → IsShort w s p q phase.Ready
 unfolding IsShort
 short_ready w s p q = tt
 
 -- after an answer
-pub short_fed : (w : Wiring) (s s' : State) (p p' q q' : List ℕ) (x x' : Phase) (a : ℕ) → IsShort w s p q x → rest_at w s' p' q' x' ≡ next (rest_at w s p q x) a → IsShort w s' p' q' x'
+pub short_fed : (w : FrontWiring) (s s' : FrontState) (p p' q q' : List ℕ) (x x' : Phase) (a : ℕ) → IsShort w s p q x → rest_at w s' p' q' x' ≡ next (rest_at w s p q x) a → IsShort w s' p' q' x'
 unfolding IsShort
 short_fed w s s' p p' q q' x x' a h e =
     subst (λ t. Bounded (IsPageWant w.frames) Any t 17000) (sym e) (bounded_next_le (IsPageWant w.frames) (rest_at w s p q x) a 17000 h)
 
 -- as an activity begins
-pub short_begun : (w : Wiring) (s : State) (p q : List ℕ) (x : Phase) (t : Steps Ending) (n : ℕ) → IsWired w → n ≤ 17000 → Bounded (IsOwnWant w) Any t n → rest_at w s p q x ≡ t → IsShort w s p q x
+pub short_begun : (w : FrontWiring) (s : FrontState) (p q : List ℕ) (x : Phase) (t : Steps Ending) (n : ℕ) → IsWired w → n ≤ 17000 → Bounded (IsOwnWant w) Any t n → rest_at w s p q x ≡ t → IsShort w s p q x
 unfolding IsShort
 short_begun w s p q x t n h few b e =
     subst (λ t. Bounded (IsPageWant w.frames) Any t 17000) (sym e)

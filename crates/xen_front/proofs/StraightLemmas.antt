@@ -15,8 +15,8 @@ use Rattle.xen_front.specs.Rest.{rest_at}
 use Rattle.xen_front.specs.Short.{IsShort}
 use Rattle.xen_front.specs.Straight.{AreOnBus, touched}
 use Rattle.xen_front.specs.declared.by_event.phase.Phase.{Phase}
-use Rattle.xen_front.specs.declared.state.State.{State}
-use Rattle.xen_buffers.specs.declared.wiring.Wiring.{Wiring}
+use Rattle.xen_front.specs.declared.state.FrontState.{FrontState}
+use Rattle.xen_buffers.specs.declared.wiring.FrontWiring.{FrontWiring}
 
 -- a word of a packet's page
 abbrev pub page_write : List ℕ → (frame k j : ℕ) → PageWrite
@@ -67,7 +67,7 @@ write_all-append [] ms rest = refl
 write_all-append (n ∷ ns) ms rest = ap (λ s. Steps.ask (want.Write n.at n.value) (λ _. s)) (write_all-append ns ms rest)
 
 -- what is left stays short
-pub short_gone : (w : Wiring) (s : State) (p q : List ℕ) (x y : Phase) (t : List Event) → IsShort w s p q x → LedBy (rest_at w s p q x) t (rest_at w s p q y) → IsShort w s p q y
+pub short_gone : (w : FrontWiring) (s : FrontState) (p q : List ℕ) (x y : Phase) (t : List Event) → IsShort w s p q x → LedBy (rest_at w s p q x) t (rest_at w s p q y) → IsShort w s p q y
 unfolding IsShort
 short_gone w s p q x y t h g =
     bounded_le (IsPageWant w.frames) Any (rest_at w s p q y) (17000 - length t) 17000

@@ -12,8 +12,8 @@ use Rattle.xen_front.specs.Given.{Ending, Given, Shows}
 use Rattle.xen_front.specs.Rest.{busy_in, rest_at}
 use Rattle.xen_front.specs.Slots.{pieces_of}
 use Rattle.xen_front.specs.declared.front.Front.{Front}
-use Rattle.xen_front.specs.declared.state.State.{State}
-use Rattle.xen_front.specs.declared.turn.Halt.{Halt}
+use Rattle.xen_front.specs.declared.state.FrontState.{FrontState}
+use Rattle.xen_front.specs.declared.turn.FrontHalt.{FrontHalt}
 use Rattle.xen_front.specs.declared.turn.PollRefusal.{PollRefusal}
 use Rattle.xen_front.specs.declared.turn.PollRefusal.TheVariants as poll_refusal
 use Rattle.xen_front.specs.declared.turn.PostRefusal.{PostRefusal}
@@ -21,12 +21,12 @@ use Rattle.xen_front.specs.declared.turn.PostRefusal.TheVariants as post_refusal
 use Rattle.xen_front.specs.declared.turn.RxTurn.{RxTurn}
 use Rattle.xen_front.specs.declared.turn.SendRefusal.{SendRefusal}
 use Rattle.xen_front.specs.declared.turn.SendRefusal.TheVariants as send_refusal
-use Rattle.xen_buffers.specs.declared.wiring.Wiring.{Wiring}
+use Rattle.xen_buffers.specs.declared.wiring.FrontWiring.{FrontWiring}
 
-abbrev pub state_of : Front → State
+abbrev pub state_of : Front → FrontState
 state_of f = f.state
 
-abbrev pub wiring_of : Front → Wiring
+abbrev pub wiring_of : Front → FrontWiring
 wiring_of f = f.wiring
 
 -- What is left of its activity.
@@ -50,7 +50,7 @@ abbrev pub chosen : ℕ → List Bool → List ℕ
 chosen n out = take n (all_free out)
 
 -- The answers of the calls that begin an activity: the first test that holds, in their order.
-abbrev pub send_tests : Option Halt → (busy short long full : Bool) → Result (Unit {0}) SendRefusal
+abbrev pub send_tests : Option FrontHalt → (busy short long full : Bool) → Result (Unit {0}) SendRefusal
 send_tests (Some cause) b s l f = Err send_refusal.Halted
 send_tests None true s l f = Err send_refusal.Busy
 send_tests None false true l f = Err send_refusal.TooShort
@@ -63,7 +63,7 @@ send_answer f p =
     send_tests f.state.halt (busy f) (nat_lt (length p) 14) (nat_lt 65535 (length p))
     (nat_lt (length (all_free f.state.tx.out)) (pieces_of (length p)))
 
-abbrev pub post_tests : Option Halt → Bool → List ℕ → Result (Unit {0}) PostRefusal
+abbrev pub post_tests : Option FrontHalt → Bool → List ℕ → Result (Unit {0}) PostRefusal
 post_tests (Some cause) b ids = Err post_refusal.Halted
 post_tests None true ids = Err post_refusal.Busy
 post_tests None false [] = Err post_refusal.NoSlot
@@ -72,7 +72,7 @@ post_tests None false (id ∷ ids) = Ok tt
 abbrev pub post_answer : Front → Result (Unit {0}) PostRefusal
 post_answer f = post_tests f.state.halt (busy f) (all_free f.state.rx.out)
 
-abbrev pub poll_tests : Option Halt → Bool → Result (Unit {0}) PollRefusal
+abbrev pub poll_tests : Option FrontHalt → Bool → Result (Unit {0}) PollRefusal
 poll_tests (Some cause) b = Err poll_refusal.Halted
 poll_tests None true = Err poll_refusal.Busy
 poll_tests None false = Ok tt

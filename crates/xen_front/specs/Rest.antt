@@ -19,8 +19,8 @@ use Rattle.xen_front.specs.declared.by_event.phase.Part.{Part}
 use Rattle.xen_front.specs.declared.by_event.phase.Phase.{Phase}
 use Rattle.xen_front.specs.declared.by_event.phase.Phase.TheVariants as phase
 use Rattle.xen_front.specs.declared.by_event.phase.Piece.{Piece}
-use Rattle.xen_front.specs.declared.state.State.{State}
-use Rattle.xen_buffers.specs.declared.wiring.Wiring.{Wiring}
+use Rattle.xen_front.specs.declared.state.FrontState.{FrontState}
+use Rattle.xen_buffers.specs.declared.wiring.FrontWiring.{FrontWiring}
 
 abbrev pub id_of : Piece → ℕ
 id_of r = get_or r.ids.items r.index 0
@@ -29,22 +29,22 @@ abbrev pub pieces : Piece → ℕ
 pieces r = length r.ids.items
 
 -- what follows a piece
-abbrev pub later_writes : Wiring → List ℕ → Piece → List PageWrite
+abbrev pub later_writes : FrontWiring → List ℕ → Piece → List PageWrite
 later_writes w p r = send_writes w r.start p (pieces r) (r.index + 1) (drop (r.index + 1) r.ids.items)
 
 -- these writes and those of the pieces that follow, and the push
-abbrev pub sending : Wiring → State → List ℕ → Piece → List PageWrite → Steps Ending
+abbrev pub sending : FrontWiring → FrontState → List ℕ → Piece → List PageWrite → Steps Ending
 sending w s p r ns = write_all (ns ++ later_writes w p r) (publish w w.tx_frame r.start (add32 r.start (pieces r)) s)
 
 -- the slot's words from the j-th on
-abbrev pub slot_from : Wiring → List ℕ → Piece → ℕ → List PageWrite
+abbrev pub slot_from : FrontWiring → List ℕ → Piece → ℕ → List PageWrite
 slot_from w p r j = tx_writes w.tx_frame (add32 r.start r.index) j (drop j (tx_req_words (piece_request w p (pieces r) r.index (id_of r))))
 
-abbrev pub filling_from : Wiring → State → List ℕ → Piece → ℕ → Steps Ending
+abbrev pub filling_from : FrontWiring → FrontState → List ℕ → Piece → ℕ → Steps Ending
 filling_from w s p r j = sending w s p r (filling w r.start p (pieces r) r.index (id_of r) (piece_words (length p) r.index - j) j)
 
 -- a post's writes from the j-th on
-abbrev pub posting : Wiring → State → (id start j : ℕ) → Steps Ending
+abbrev pub posting : FrontWiring → FrontState → (id start j : ℕ) → Steps Ending
 posting w s id start j = write_all (drop j (post_writes w start id)) (publish w w.rx_frame start (add32 start 1) s)
 
 abbrev pub gathered : Chained → List ℕ → Gathered
@@ -55,11 +55,11 @@ abbrev pub before_extra : Chained → Bool → List ℕ → Gathered
 before_extra c more q = record (gathered c q) { next = Extra more }
 
 -- after a part's page words
-abbrev pub part_rest : Wiring → State → Part → List ℕ → Steps Ending
+abbrev pub part_rest : FrontWiring → FrontState → Part → List ℕ → Steps Ending
 part_rest w s x bytes = chained (continues x.response.flags) s (grown (gathered x.chained []) x.response bytes) (receive w x.chained.left)
 
 -- with the packet that is sent, and the bytes that are received so far
-abbrev pub rest_at : Wiring → State → List ℕ → List ℕ → Phase → Steps Ending
+abbrev pub rest_at : FrontWiring → FrontState → List ℕ → List ℕ → Phase → Steps Ending
 rest_at w s p q phase.Ready = done (s, Idle)
 rest_at w s p q (phase.GrantFrame r) = sending w s p r (piece_writes w r.start p (pieces r) r.index (id_of r))
 rest_at w s p q (phase.GrantFlags r) =

@@ -10,14 +10,14 @@ ghost use Rattle.xen_buffers.specs.Wired.{IsWired};
 
 use crate::by_event::phase::Phase;
 use crate::packet::Packet;
-use crate::state::State;
-use xen_buffers::Wiring;
+use crate::state::FrontState;
+use xen_buffers::FrontWiring;
 
 /// Netfront's queue. It takes one activity at a time, a send, a post or a poll, and makes it one event at a time.
 #[derive(Drop)]
 pub struct Front<'p> {
-    pub(crate) wiring: Wiring<'p>,
-    pub(crate) state: State,
+    pub(crate) wiring: FrontWiring<'p>,
+    pub(crate) state: FrontState,
     /// The packet that is being sent.
     pub(crate) sent: Packet,
     /// The bytes that were received so far.

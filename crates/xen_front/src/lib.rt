@@ -20,7 +20,7 @@ pub mod state;
 pub mod turn;
 
 pub use front::Front;
-pub use state::{Counts, Ring, State};
-pub use turn::{Halt, PollRefusal, PostRefusal, RxTurn, SendRefusal};
-pub use xen_buffers::{Buffer, FrontDesc, Wiring};
+pub use state::{Counts, FrontState, Ring};
+pub use turn::{FrontHalt, PollRefusal, PostRefusal, RxTurn, SendRefusal};
+pub use xen_buffers::{FrontDesc, FrontWiring, GrantedPage};
 pub use xen_netif::{ACCEPTS_WHOLE, Accepts, RxOffload};

@@ -3,7 +3,7 @@ ghost use Rattle.std.specs.Prelude.{◌≡◌, IfSome};
 ghost use Rattle.xen_front.specs.Fronts.{wiring_of};
 
 use std::alloc::{AllocError, Global};
-use xen_front::{ACCEPTS_WHOLE, Accepts, Buffer, Front, FrontDesc};
+use xen_front::{ACCEPTS_WHOLE, Accepts, Front, FrontDesc, GrantedPage};
 use xen_page::{Owners, Table};
 use xen_ring::Port;
 
@@ -17,11 +17,11 @@ pub const TX: u32 = 17;
 pub const RX: u32 = 18;
 
 /// The buffers with the references from `first` on.
-pub fn buffers(first: u16) -> [Buffer; 256] {
-    let mut buffers = [Buffer { gref: 0, frame: 0 }; 256];
+pub fn buffers(first: u16) -> [GrantedPage; 256] {
+    let mut buffers = [GrantedPage { gref: 0, frame: 0 }; 256];
     let mut gref = u32::from(first);
     for buffer in buffers.iter_mut() {
-        *buffer = Buffer {
+        *buffer = GrantedPage {
             gref,
             frame: gref.saturating_add(17),
         };
@@ -30,13 +30,13 @@ pub fn buffers(first: u16) -> [Buffer; 256] {
     buffers
 }
 
-/// What fronts stand on: their table, in frames 1 and 2, and their buffers.
+/// The parts under fronts: their table, in frames 1 and 2, and their buffers.
 #[derive(Drop)]
 pub struct Bench {
     pub(crate) alloc: Global,
     table: Table,
-    tx: [Buffer; 256],
-    rx: [Buffer; 256],
+    tx: [GrantedPage; 256],
+    rx: [GrantedPage; 256],
 }
 
 impl Bench {
@@ -53,7 +53,7 @@ impl Bench {
         })
     }
 
-    /// What a front is made with, whose back is domain 0.
+    /// Returns what a front is made with, whose back is domain 0.
     pub fn desc(&self, start: u32) -> FrontDesc<'_>
         ensures { result.frames ≡ 531 }
     {

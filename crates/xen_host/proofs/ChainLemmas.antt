@@ -14,7 +14,7 @@ use Rattle.xen_steps.specs.declared.want.Want.TheVariants as want
 use Rattle.xen_rx_fill.specs.Packets.{buffer_word, frame_in, response_word, slot_of, target_at, word_of, words}
 use Rattle.xen_rx_fill.specs.Places.{rx_slot, tx_slot}
 use Rattle.xen_rx_fill.specs.Transmit.{fill, fill_from, rx_answer, rx_respond}
-use Rattle.xen_rx_fill.specs.declared.by_event.phase.Outcome.{Outcome}
+use Rattle.xen_rx_fill.specs.declared.by_event.phase.TransmitOutcome.{TransmitOutcome}
 use Rattle.xen_rx_fill.specs.declared.target.Grants.{Grants}
 use Rattle.xen_rx_fill.specs.declared.target.Grants.TheVariants.{Passed}
 use Rattle.xen_rx_fill.specs.declared.target.Target.{Target}
@@ -87,7 +87,7 @@ replies_gone w x o packet grants ts i (suc n) lent h =
     let at = rx_slot w (add32 x i) 0 in
     let more = did_all (replies w x o packet grants ts (i + 1) n) lent in
     let after = rx_answer w x o packet grants m (i + 1) (drop (i + 1) ts) in
-    let goal : Steps Outcome → Type 0 = λ s. LedBy s (did_all (replies w x o packet grants ts i (suc n)) lent) (rx_answer w x o packet grants m (i + suc n) (drop (i + suc n) ts)) in
+    let goal : Steps TransmitOutcome → Type 0 = λ s. LedBy s (did_all (replies w x o packet grants ts i (suc n)) lent) (rx_answer w x o packet grants m (i + suc n) (drop (i + suc n) ts)) in
     let later = subst (λ k. LedBy after more (rx_answer w x o packet grants m k (drop k ts))) z (replies_gone w x o packet grants ts (i + 1) n lent (omega (arith, h))) in
     let wrote : ◌≡◌ {A = Event} (Write (frame_place at) second) (Write (rx_slot w (add32 x i) 1) second) = ap (λ (p : Place). Write p second) (sym (next_rx_word w (add32 x i))) in
     subst goal (sym (rx_answer_at w x o packet grants m i ts (omega (arith, h))))
@@ -143,7 +143,7 @@ pub page_gone : (w : Vif) (x : ℕ) (o : RxOffload) (packet : List ℕ) (ts : Li
     LedBy (fill_from w x o packet ts (1024 * i)) (writes_at (page_word (frame_in (target_at ts (slot_of o i)).frame) 0) (packet_words packet (1024 * i) (to - 1024 * i))) (fill_from w x o packet ts (1024 * (i + 1)))
 page_gone w x o packet ts i to h e = by (nat_le (words packet) (1024 * i + 1024)) refl
   where
-    r : Unit {0} → Steps Outcome
+    r : Unit {0} → Steps TransmitOutcome
     r = λ _. rx_respond w x o packet Passed ts
 
     n : ℕ
@@ -161,7 +161,7 @@ page_gone w x o packet ts i to h e = by (nat_le (words packet) (1024 * i + 1024)
         let later : words packet - 1024 * (i + 1) ≡ 0 = omega (arith, le) in
         let left : bind (fill o ts packet (n - (to - 1024 * i)) (1024 * i + (to - 1024 * i))) r ≡ fill_from w x o packet ts (1024 * (i + 1)) =
         ap (λ k. bind (fill o ts packet k (1024 * i + (to - 1024 * i))) r) none ∙ sym (ap (λ k. bind (fill o ts packet k (1024 * (i + 1))) r) later) in
-        subst (λ (s : Steps Outcome). LedBy (fill_from w x o packet ts (1024 * i)) (writes_at (page_word (frame_in (target_at ts (slot_of o i)).frame) 0) (packet_words packet (1024 * i) (to - 1024 * i))) s) left
+        subst (λ (s : Steps TransmitOutcome). LedBy (fill_from w x o packet ts (1024 * i)) (writes_at (page_word (frame_in (target_at ts (slot_of o i)).frame) 0) (packet_words packet (1024 * i) (to - 1024 * i))) s) left
         (gone (to - 1024 * i) (omega (arith, m)) (omega (arith, m, le)))
     by false t =
         let lt : 1024 * i + 1024 < words packet = grind (arith, nat_tests) in
@@ -170,7 +170,7 @@ page_gone w x o packet ts i to h e = by (nat_le (words packet) (1024 * i + 1024)
         let rest : n - (to - 1024 * i) ≡ words packet - 1024 * (i + 1) = omega (arith, lt, m) in
         let left : bind (fill o ts packet (n - (to - 1024 * i)) (1024 * i + (to - 1024 * i))) r ≡ fill_from w x o packet ts (1024 * (i + 1)) =
         ap (λ k. bind (fill o ts packet k (1024 * i + (to - 1024 * i))) r) rest ∙ ap (λ k. bind (fill o ts packet (words packet - 1024 * (i + 1)) k) r) next in
-        subst (λ (s : Steps Outcome). LedBy (fill_from w x o packet ts (1024 * i)) (writes_at (page_word (frame_in (target_at ts (slot_of o i)).frame) 0) (packet_words packet (1024 * i) (to - 1024 * i))) s) left
+        subst (λ (s : Steps TransmitOutcome). LedBy (fill_from w x o packet ts (1024 * i)) (writes_at (page_word (frame_in (target_at ts (slot_of o i)).frame) 0) (packet_words packet (1024 * i) (to - 1024 * i))) s) left
         (gone (to - 1024 * i) (omega (arith, m, lt)) (omega (arith, m)))
 
 -- No word is left.

@@ -3,7 +3,7 @@ use Rattle.std.proofs.Common.{◌≡◌, ℕ, true, List, [], ◌∷◌, ◌++�
 use Rattle.xen_netif.specs.declared.offload.RxOffload.{RxOffload}
 use Rattle.xen_steps.specs.Drive.{LedBy}
 use Rattle.xen_steps.specs.Steps.{Steps, bind}
-use Rattle.xen_rx_fill.specs.declared.by_event.phase.Outcome.{Outcome}
+use Rattle.xen_rx_fill.specs.declared.by_event.phase.TransmitOutcome.{TransmitOutcome}
 use Rattle.xen_rx_fill.specs.declared.target.Target.{Target}
 use Rattle.xen_rx_fill.proofs.StraightLemmas.{gone_bind}
 use Rattle.xen_turns.specs.Deliveries.{Arrival, arrived}
@@ -85,11 +85,11 @@ with_targets b ts = record b { targets = ts }
 abbrev pub filling_at : EngineAt → List Target → Fill → Purpose → EngineAt
 filling_at q ts f p = record q { stage = stage.Fill f p; work = with_targets q.work ts }
 
-abbrev pub IsFillOn : EngineAt → List Target → RxOffload → Fill → Ask → Steps Outcome → Type 0
+abbrev pub IsFillOn : EngineAt → List Target → RxOffload → Fill → Ask → Steps TransmitOutcome → Type 0
 IsFillOn q ts o f a left =
     (left ≡ rest_filling q.wires.vif q.state.rx_index o f (with_targets q.work ts)) × IsToldFilling q.wires.vif.table.now f a × WaitsFor a (reads_filling f) left
 
-pub lift_fill : {H : Type 0} (was : H → Ask → List ℕ → H → Type 0) (full : H → Type 0) (p : Purpose) (q : EngineAt) (ts : List Target) (f : Fill) (x : Steps Outcome) (host host_after : H) →
+pub lift_fill : {H : Type 0} (was : H → Ask → List ℕ → H → Type 0) (full : H → Type 0) (p : Purpose) (q : EngineAt) (ts : List Target) (f : Fill) (x : Steps TransmitOutcome) (host host_after : H) →
     HostLed was full (IsFillOn q ts (rx_offload p q.work.offload) f) q.offload x (filling_at q ts f p) host host_after → FillLeads was full p (beside q) x (filling_at q ts f p) host host_after
 lift_fill was full (purpose.Back n) q ts f x host host_after h =
     let then = after_transmit q.wires q.state q.work.chain q.work.packet n in
@@ -103,7 +103,7 @@ lift_fill was full (purpose.Back n) q ts f x host host_after h =
       left = bind h.left then;
       gone = gone_bind x h.left (events_of (h.first ++ h.last ∷ [])) then h.gone;
       is_end = turn_of_on (filling_at q ts f (purpose.Back n)) h.last.ask (bind h.left then)
-          (record { is_rest = ap (λ (s : Steps Outcome). bind s then) h.is_end.0; waits = waits_bind h.last.ask (reads_filling f) h.left then h.is_end.2; is_here = refl; told = h.is_end.1 });
+          (record { is_rest = ap (λ (s : Steps TransmitOutcome). bind s then) h.is_end.0; waits = waits_bind h.last.ask (reads_filling f) h.left then h.is_end.2; is_here = refl; told = h.is_end.1 });
       offload_is = refl;
       fits = h.fits;
     }
@@ -119,18 +119,18 @@ lift_fill was full purpose.Delivery q ts f x host host_after h =
       left = bind h.left then;
       gone = gone_bind x h.left (events_of (h.first ++ h.last ∷ [])) then h.gone;
       is_end = delivery_of_on q.work.packet (filling_at q ts f purpose.Delivery) h.last.ask (bind h.left then)
-          (record { is_rest = ap (λ (s : Steps Outcome). bind s then) h.is_end.0; waits = waits_bind h.last.ask (reads_filling f) h.left then h.is_end.2; is_here = refl; told = h.is_end.1 }) refl;
+          (record { is_rest = ap (λ (s : Steps TransmitOutcome). bind s then) h.is_end.0; waits = waits_bind h.last.ask (reads_filling f) h.left then h.is_end.2; is_here = refl; told = h.is_end.1 }) refl;
       offload_is = refl;
       fits = h.fits;
     }
 
 -- From another computation that is the same.
-pub fill_same : {H : Type 0} (was : H → Ask → List ℕ → H → Type 0) (full : H → Type 0) (p : Purpose) (e : Beside) (x same : Steps Outcome) (new : EngineAt) (host host_after : H) →
+pub fill_same : {H : Type 0} (was : H → Ask → List ℕ → H → Type 0) (full : H → Type 0) (p : Purpose) (e : Beside) (x same : Steps TransmitOutcome) (new : EngineAt) (host host_after : H) →
     same ≡ x → FillLeads was full p e same new host host_after → FillLeads was full p e x new host host_after
-fill_same was full p e x same new host host_after s h = subst (λ (z : Steps Outcome). FillLeads was full p e z new host host_after) s h
+fill_same was full p e x same new host host_after s h = subst (λ (z : Steps TransmitOutcome). FillLeads was full p e z new host host_after) s h
 
 -- An ask that takes no answer, before others.
-pub fill_before : {H : Type 0} (was : H → Ask → List ℕ → H → Type 0) (full : H → Type 0) (p : Purpose) (e : Beside) (from between : Steps Outcome) (new : EngineAt) (host mid host_after : H) (a : Ask) (words : List ℕ) →
+pub fill_before : {H : Type 0} (was : H → Ask → List ℕ → H → Type 0) (full : H → Type 0) (p : Purpose) (e : Beside) (from between : Steps TransmitOutcome) (new : EngineAt) (host mid host_after : H) (a : Ask) (words : List ℕ) →
     was host a words mid → takes_none a ≡ true → IsSized a → LedBy from (did_by a words) between → FillLeads was full p e between new mid host_after → FillLeads was full p e from new host host_after
 fill_before was full (purpose.Back n) e from between new host mid host_after a words asked none sized g h =
     let then = after_transmit e.wires e.state e.chain e.packet n in
@@ -140,7 +140,7 @@ fill_before was full purpose.Delivery e from between new host mid host_after a w
     asks_before was full _ e.offload (bind from then) (bind between then) new host mid host_after a words asked none sized (gone_bind from between (did_by a words) then g) h
 
 -- Several that take no answer and no words.
-pub fill_all : {H : Type 0} (was : H → Ask → List ℕ → H → Type 0) (full : H → Type 0) (p : Purpose) (e : Beside) (from between : Steps Outcome) (new : EngineAt) (all : List Ask) (host mid host_after : H) →
+pub fill_all : {H : Type 0} (was : H → Ask → List ℕ → H → Type 0) (full : H → Type 0) (p : Purpose) (e : Beside) (from between : Steps TransmitOutcome) (new : EngineAt) (all : List Ask) (host mid host_after : H) →
     WasAskedAll was host (plain_all all) mid → AreChained all → LedBy from (did_all all []) between → FillLeads was full p e between new mid host_after → FillLeads was full p e from new host host_after
 fill_all was full (purpose.Back n) e from between new all host mid host_after asked chained g h =
     let then = after_transmit e.wires e.state e.chain e.packet n in

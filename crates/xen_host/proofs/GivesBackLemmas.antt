@@ -19,7 +19,7 @@ use Rattle.xen_rx_fill.specs.Packets.{buffer_word, word_of, words}
 use Rattle.xen_rx_fill.specs.Places.{rx_word, tx_word}
 use Rattle.xen_rx_fill.specs.Sending.{AreTargets, IsPosted, IsRxRespond, IsTransmit, all, buffer_writes, for_extra, is_posted, passing, refused, refusing, rx_overflow, rx_writes, sent, too_few}
 use Rattle.xen_rx_fill.specs.Shared.{IsEntry, inside, notices, outside}
-use Rattle.xen_rx_fill.specs.declared.by_event.phase.Outcome.{Outcome}
+use Rattle.xen_rx_fill.specs.declared.by_event.phase.TransmitOutcome.{TransmitOutcome}
 use Rattle.xen_rx_fill.specs.declared.target.Grants.{Grants}
 use Rattle.xen_rx_fill.specs.declared.target.Grants.TheVariants.{Passed, Refused}
 use Rattle.xen_rx_fill.specs.declared.target.Target.{Target}
@@ -193,7 +193,7 @@ behind_run w s t slots out u r h =
     apart p1 p2 p3 p4 =
         ap (λ l. p1 ++ (p2 ++ l)) (sym (append_assoc p3 p4 u)) ∙ ap (λ l. p1 ++ l) (sym (append_assoc p2 (p3 ++ p4) u)) ∙ sym (append_assoc p1 (p2 ++ (p3 ++ p4)) u)
 
-pub behind_transmit : (w : Vif) (x : ℕ) (o : RxOffload) (packet : List ℕ) (t : List Event) (out : Outcome) (u : List Event) → IsTransmit w x o packet t out → AllOfRings w u → GivesBack w (t ++ u)
+pub behind_transmit : (w : Vif) (x : ℕ) (o : RxOffload) (packet : List ℕ) (t : List Event) (out : TransmitOutcome) (u : List Event) → IsTransmit w x o packet t out → AllOfRings w u → GivesBack w (t ++ u)
 behind_transmit w x o packet _ _ u (rx_overflow p l e) h = behind_one w (Read (rx_word w 0) p) u (λ f k. k) (of_rings w u h)
 behind_transmit w x o packet _ _ u (too_few p m l e f) h = behind_one w (Read (rx_word w 0) p) u (λ f k. k) (of_rings w u h)
 behind_transmit w x o packet _ _ u (refused p m p1 p2 ts l e f a r) h =

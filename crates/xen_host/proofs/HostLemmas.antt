@@ -20,7 +20,7 @@ use Rattle.xen_host.specs.Rest.{offload_after, offload_behind, reads_in}
 use Rattle.xen_host.specs.Said.{Said}
 use Rattle.xen_host.specs.declared.host.Ops.{Ops}
 use Rattle.bpf_note.specs.declared.op.Op.{Op as Operation}
-use Rattle.xen_host.specs.declared.op.Op.{Op}
+use Rattle.xen_host.specs.declared.op.HostOp.{HostOp}
 use Rattle.xen_host.specs.declared.queue.Queue.{Queue}
 use Rattle.xen_host.specs.declared.stage.Stage.{Stage}
 use Rattle.xen_host.specs.declared.stage.Stage.TheVariants as stage
@@ -34,10 +34,10 @@ asks_append (x ∷ all) a = ap (λ l. x.ask ∷ l) (asks_append all a)
 -- ---- the ops
 
 -- These stand in front of the ops that were lent.
-abbrev pub Stand : List Op → List Ask → Ops → Type 0
+abbrev pub Stand : List HostOp → List Ask → Ops → Type 0
 Stand first done h = (h.ops.now ≡ map op_of done ++ drop h.count first) × (h.count ≡ length done)
 
-stand_all : (first : List Op) (all : List Asked) (done : List Ask) (old new : Ops) → Stand first done old → WasAskedAll IsPut old all new → Stand first (done ++ asks_of all) new
+stand_all : (first : List HostOp) (all : List Asked) (done : List Ask) (old new : Ops) → Stand first done old → WasAskedAll IsPut old all new → Stand first (done ++ asks_of all) new
 stand_all first [] done old new s e = subst (λ h. Stand first (done ++ []) h) e (subst (λ l. Stand first l old) (sym (append-nil done)) s)
 stand_all first (a ∷ all) done old new s e =
     let mid = e.0 in
@@ -48,7 +48,7 @@ stand_all first (a ∷ all) done old new s e =
     let count : mid.count ≡ length (done ++ a.ask ∷ []) = put.counted ∙ one ∙ ap suc s.1 ∙ sym (length_more done a.ask) in
     subst (λ l. Stand first l new) (append_assoc done (a.ask ∷ []) (asks_of all)) (stand_all first all (done ++ a.ask ∷ []) mid new (ops, count) e.2)
 
-put_length : (k : ℕ) (o : Op) (l : List Op) → k < length l → length (take k l ++ o ∷ drop (k + 1) l) ≡ length l
+put_length : (k : ℕ) (o : HostOp) (l : List HostOp) → k < length l → length (take k l ++ o ∷ drop (k + 1) l) ≡ length l
 put_length k o l some = omega (arith, length-append (take k l) (o ∷ drop (k + 1) l), length-take k l, length-drop (k + 1) l, some)
 
 -- As many as there were, and no more are said than there was room for.
@@ -79,11 +79,11 @@ kept_lent (ask.DeliveryOver what) old new k e = e
 kept_lent (ask.WaitOver what) old new k e = e
 
 -- An op behind those that are said is an ask of a host, unless it is a WRITE.
-pub put_asked : (a : Ask) (o : Op) (old new : Ops) → keeps a ≡ true → o ≡ op_of a → old.count < length old.ops.now → new.ops.now ≡ take old.count old.ops.now ++ o ∷ drop (old.count + 1) old.ops.now →
+pub put_asked : (a : Ask) (o : HostOp) (old new : Ops) → keeps a ≡ true → o ≡ op_of a → old.count < length old.ops.now → new.ops.now ≡ take old.count old.ops.now ++ o ∷ drop (old.count + 1) old.ops.now →
     new.count ≡ old.count + 1 → new.words.now ≡ old.words.now → IsSameLoan old new → IsPut old a [] new
 put_asked a o old new k is room ops counted words loan = record {
   room = room;
-  ops = ops ∙ ap (λ (x : Op). take old.count old.ops.now ++ x ∷ drop (old.count + 1) old.ops.now) is;
+  ops = ops ∙ ap (λ (x : HostOp). take old.count old.ops.now ++ x ∷ drop (old.count + 1) old.ops.now) is;
   counted = counted;
   lent = kept_lent a old new k words;
   width = ap (λ (l : List ℕ). length l) words;

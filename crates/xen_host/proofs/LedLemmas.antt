@@ -4,7 +4,7 @@ use Rattle.std.proofs.Math.Seq.{drop-append-add, take-append_seam}
 use Rattle.std.proofs.lemmas.List.{drop-drop}
 use Rattle.xen_host.specs.Asks.{Ask, IsSized, WordsStay, did_all, did_by, op_of, takes_none}
 use Rattle.xen_host.specs.Asks as ask
-use Rattle.xen_host.specs.declared.op.Op.{Op}
+use Rattle.xen_host.specs.declared.op.HostOp.{HostOp}
 
 -- it keeps the lent words
 abbrev pub keeps : Ask → Bool
@@ -47,7 +47,7 @@ ops_length [] = refl
 ops_length (x ∷ all) = ap suc (ops_length all)
 
 -- An op is put behind those that are said.
-pub put_behind : (all : List Ask) (ops first : List Op) (count : ℕ) (o : Op) → ops ≡ map op_of all ++ drop count first → count ≡ length all → take count ops ++ o ∷ drop (count + 1) ops ≡ map op_of all ++ o ∷ drop (count + 1) first
+pub put_behind : (all : List Ask) (ops first : List HostOp) (count : ℕ) (o : HostOp) → ops ≡ map op_of all ++ drop count first → count ≡ length all → take count ops ++ o ∷ drop (count + 1) ops ≡ map op_of all ++ o ∷ drop (count + 1) first
 put_behind all ops first count o e n =
     let m : count ≡ length (map op_of all) = n ∙ sym (ops_length all) in
     let front : take count ops ≡ map op_of all = ap (λ l. take count l) e ∙ ap (λ k. take k (map op_of all ++ drop count first)) m ∙ take-append_seam (map op_of all) (drop count first) in
@@ -56,8 +56,8 @@ put_behind all ops first count o e n =
     ∙ drop-drop 1 count first in
     ap (λ l. l ++ o ∷ drop (count + 1) ops) front ∙ ap (λ l. map op_of all ++ o ∷ l) back
 
-pub put_ask : (all : List Ask) (a : Ask) (ops first : List Op) (count : ℕ) (o : Op) → ops ≡ map op_of all ++ drop count first → count ≡ length all → o ≡ op_of a →
+pub put_ask : (all : List Ask) (a : Ask) (ops first : List HostOp) (count : ℕ) (o : HostOp) → ops ≡ map op_of all ++ drop count first → count ≡ length all → o ≡ op_of a →
     take count ops ++ o ∷ drop (count + 1) ops ≡ map op_of (all ++ a ∷ []) ++ drop (count + 1) first
 put_ask all a ops first count o e n is =
-    put_behind all ops first count o e n ∙ ap (λ (x : Op). map op_of all ++ x ∷ drop (count + 1) first) is
+    put_behind all ops first count o e n ∙ ap (λ (x : HostOp). map op_of all ++ x ∷ drop (count + 1) first) is
     ∙ sym (append_assoc (map op_of all) (op_of a ∷ []) (drop (count + 1) first)) ∙ ap (λ l. l ++ drop (count + 1) first) (sym (ops_more all a))

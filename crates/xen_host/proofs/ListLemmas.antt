@@ -7,7 +7,7 @@ use Rattle.xen_turns.specs.declared.state.State.{State}
 use Rattle.xen_host.specs.Loops.{AreSteps}
 use Rattle.xen_host.specs.Queues.{HasBegun, resting, wired_to}
 use Rattle.xen_host.specs.Relisted.{IsRelist}
-use Rattle.xen_host.specs.declared.op.Op.{Op}
+use Rattle.xen_host.specs.declared.op.HostOp.{HostOp}
 use Rattle.xen_host.specs.declared.queue.Queue.{Queue}
 use Rattle.xen_host.specs.declared.relisting.Relist.{Relist}
 use Rattle.xen_host.specs.declared.relisting.Relist.TheVariants.{Relisted, Busy}
@@ -25,7 +25,7 @@ page_length : length page ≡ 1024
 unfolding page
 page_length = length-replicate {A = ℕ} 1024 0
 
-pub kept : (old begun new : Queue) (producer : ℕ) (ops ops_after : List Op) (count n : ℕ) → HasBegun old begun producer ops ops_after count →
+pub kept : (old begun new : Queue) (producer : ℕ) (ops ops_after : List HostOp) (count n : ℕ) → HasBegun old begun producer ops ops_after count →
     AreSteps n begun new → (wired_to new).lists ≡ (wired_to old).lists
 kept old begun new producer ops ops_after count n h steps =
     ap (λ (w : OwnedWiring). w.lists) (steps_keep n begun new steps ∙ (h page (omega (arith, page_length))).wires)

@@ -13,8 +13,8 @@ use Rattle.xen_steps.specs.declared.want.Want.TheVariants as want
 use Rattle.xen_steps.proofs.FinishLemmas.{finishes_gone, runs_gone, some_run}
 use Rattle.xen_rx_fill.specs.Places.{rx_word, tx_word}
 use Rattle.xen_rx_fill.specs.Sending.{IsTransmit}
-use Rattle.xen_rx_fill.specs.declared.by_event.phase.Outcome.{Outcome}
-use Rattle.xen_rx_fill.specs.declared.by_event.phase.Outcome.TheVariants as outcome
+use Rattle.xen_rx_fill.specs.declared.by_event.phase.TransmitOutcome.{TransmitOutcome}
+use Rattle.xen_rx_fill.specs.declared.by_event.phase.TransmitOutcome.TheVariants as outcome
 use Rattle.xen_rx_fill.proofs.Figures.{extras, most_transmit, n_transmit}
 use Rattle.xen_rx_fill.proofs.Bounds.{frame_inside}
 use Rattle.xen_turns.specs.Awaited.{IsAwaiting}
@@ -48,7 +48,7 @@ use Rattle.xen_host.specs.Wired.{wiring_of}
 use Rattle.xen_host.specs.UnderWay.{first_read, read_by_some}
 use Rattle.xen_host.specs.Rest.{is_waiting, reads_in, rest_in, rest_of_delivery, rest_of_wait}
 use Rattle.xen_host.specs.Told.{IsPush, IsToldAt}
-use Rattle.xen_host.specs.declared.op.Op.{Op}
+use Rattle.xen_host.specs.declared.op.HostOp.{HostOp}
 use Rattle.xen_host.specs.declared.queue.Queue.{Queue}
 use Rattle.xen_host.specs.declared.stage.Stage.{Stage}
 use Rattle.xen_host.specs.declared.stage.Stage.TheVariants as stage
@@ -165,7 +165,7 @@ delivery_weighs o (Some cause) = 0
 is_short : (packet : List ℕ) → is_frame packet ≡ true → length packet ≤ 65535
 is_short packet f = grind (arith, nat_tests)
 
-sent_light : (w : Wiring) (s : State) (o : RxOffload) (packet : List ℕ) (p : List Event) (out : Outcome) → IsDeliverable w.accepts o packet → s.halt ≡ None → IsTransmit w.vif s.rx_index o packet p out →
+sent_light : (w : Wiring) (s : State) (o : RxOffload) (packet : List ℕ) (p : List Event) (out : TransmitOutcome) → IsDeliverable w.accepts o packet → s.halt ≡ None → IsTransmit w.vif s.rx_index o packet p out →
     weight p ≤ delivery_weighs o s.halt
 sent_light w s o packet p out f h t =
     let l : weight p ≤ 16484 + 4 * extras (has_extra o) = omega (arith, n_transmit w.vif s.rx_index o packet p out (is_short packet f.0) t, (most_transmit w.vif s.rx_index o packet p out t).told) in
@@ -321,7 +321,7 @@ first_waits table lent rx s after pages (stage.WaitLook left) a t i told waits g
 -- ---- a host's loop
 
 -- After what begins it, what was asked is on its way, or over.
-turn_begun : (k : ℕ) (old begun : Queue) → FewSlots (wiring old).offers k → (producer : ℕ) (lent : List ℕ) (ops ops_after : List Op) (count : ℕ) → 1024 ≤ length lent → (b : BegunBy old begun producer ops ops_after count lent) →
+turn_begun : (k : ℕ) (old begun : Queue) → FewSlots (wiring old).offers k → (producer : ℕ) (lent : List ℕ) (ops ops_after : List HostOp) (count : ℕ) → 1024 ≤ length lent → (b : BegunBy old begun producer ops ops_after count lent) →
     After (OnTurn k old.engine.state) (turn_weighs k old.engine.state.halt) (weight (first_read old.engine.state.halt (Read (tx_word (wiring old).vif 0) producer))) begun
 turn_begun k old begun most producer lent ops ops_after count long b =
     let s = old.engine.state in
@@ -332,7 +332,7 @@ turn_begun k old begun most producer lent ops ops_after count long b =
     on_turn k s begun (subst (λ w. FewSlots (wiring_of w).offers k) (sym b.wires) most) b.last (reads ++ (first ++ last)) b.turn (turn_weighs k s.halt) (weight reads) (begins reads (first ++ last) (turn_weighs k s.halt)) z
     (λ i. omega (arith, weight_append reads (first ++ last), weight_append first last, asked_weighs b.last lent (omega (arith, long)) z i))
 
-pub turns_few : (k : ℕ) (old begun new : Queue) → FewSlots (wiring old).offers k → (producer : ℕ) (ops ops_after : List Op) (count n : ℕ) → HasBegun old begun producer ops ops_after count → AreSteps n begun new → n ≤ 33027 + 4 * k
+pub turns_few : (k : ℕ) (old begun new : Queue) → FewSlots (wiring old).offers k → (producer : ℕ) (ops ops_after : List HostOp) (count n : ℕ) → HasBegun old begun producer ops ops_after count → AreSteps n begun new → n ≤ 33027 + 4 * k
 turns_few k old begun new most producer ops ops_after count n h steps =
     let s = old.engine.state in
     let long : 1024 ≤ length blank = omega (arith, blank_length) in

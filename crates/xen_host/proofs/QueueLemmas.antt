@@ -12,7 +12,7 @@ use Rattle.xen_host.specs.Over.{BeginsOver, SteppedOver}
 use Rattle.xen_host.specs.Queues.{AreFew, AreFewAtSeat, resting, wiring, seen, wired_to}
 use Rattle.xen_host.specs.Rest.{no_offload}
 use Rattle.bpf_note.specs.declared.op.Op.{Op as Operation}
-use Rattle.xen_host.specs.declared.op.Op.{Op}
+use Rattle.xen_host.specs.declared.op.HostOp.{HostOp}
 use Rattle.xen_host.specs.Wired.{wiring_of}
 use Rattle.xen_host.specs.declared.queue.Queue.{Queue}
 use Rattle.xen_host.specs.declared.stage.Stage.TheVariants as stage
@@ -78,12 +78,12 @@ stepped_also also also_same f h d = record {
 pub not_ready : (q : Queue) → resting q ≡ None → q.engine.stage ≡ stage.Ready → ⊥
 not_ready q busy e = not_ready_at (seen q) busy e
 
-pub not_few_at_seat : (q : Queue) (words : List ℕ) (ops : List Op) → 1024 ≤ length words → 1 ≤ length ops → resting q ≡ None → AreFewAtSeat q words ops → ⊥
+pub not_few_at_seat : (q : Queue) (words : List ℕ) (ops : List HostOp) → 1024 ≤ length words → 1 ≤ length ops → resting q ≡ None → AreFewAtSeat q words ops → ⊥
 not_few_at_seat q words ops a c d (inl h) = absurd (omega (arith, a, h))
 not_few_at_seat q words ops a c d (inr (inl h)) = absurd (omega (arith, c, h))
 not_few_at_seat q words ops a c d (inr (inr h)) = let none = subst (λ (o : Option State). IsSome o) d h in cc none
 
-pub not_few : (q : Queue) (words counters : List ℕ) (ops : List Op) → 1024 ≤ length words → total (wired_to q).program.shapes ≤ length counters → 1 ≤ length ops → resting q ≡ None → AreFew q words counters ops → ⊥
+pub not_few : (q : Queue) (words counters : List ℕ) (ops : List HostOp) → 1024 ≤ length words → total (wired_to q).program.shapes ≤ length counters → 1 ≤ length ops → resting q ≡ None → AreFew q words counters ops → ⊥
 not_few q words counters ops a b c d (inl h) = absurd (omega (arith, a, h))
 not_few q words counters ops a b c d (inr (inl h)) = absurd (omega (arith, b, h))
 not_few q words counters ops a b c d (inr (inr (inl h))) = absurd (omega (arith, c, h))

@@ -8,7 +8,7 @@ use Rattle.xen_page.specs.Mapping.{frame_place}
 use Rattle.xen_page.specs.declared.place.Place.{Place}
 use Rattle.xen_steps.specs.Pages.{AreWords}
 use Rattle.xen_steps.specs.Steps.{Steps, ask, bind, done, never}
-use Rattle.xen_rx_fill.specs.declared.by_event.phase.Outcome.{Outcome}
+use Rattle.xen_rx_fill.specs.declared.by_event.phase.TransmitOutcome.{TransmitOutcome}
 use Rattle.xen_turns.specs.Deliveries.{arrived}
 use Rattle.xen_turns.specs.Tree.{after_transmit}
 use Rattle.xen_host.specs.Fed.{AsksReads, fed}
@@ -33,7 +33,7 @@ fed_bind at (done x) f (v ∷ vs) h = cc h.0
 fed_bind at (ask w k) f (v ∷ vs) h = fed_bind (frame_place at) (k v) f vs (h.1 v)
 fed_bind at never f (v ∷ vs) h = cc h.0
 
-fed_fill : {B : Type 0} (q : EngineAt) (o : RxOffload) (f : Fill) (then : Outcome → Steps B) (words : List ℕ) → length words ≡ reads_filling f →
+fed_fill : {B : Type 0} (q : EngineAt) (o : RxOffload) (f : Fill) (then : TransmitOutcome → Steps B) (words : List ℕ) → length words ≡ reads_filling f →
     bind (fed (rest_filling q.wires.vif q.state.rx_index o f q.work) words) then ≡ fed {A = B} (bind (rest_filling q.wires.vif q.state.rx_index o f q.work) then) words
 fed_fill q o f then words e =
     let s = rest_filling q.wires.vif q.state.rx_index o f q.work in

@@ -16,7 +16,7 @@ use Rattle.xen_turns.specs.declared.delivery.delivering.Delivery.TheVariants as 
 use Rattle.xen_turns.specs.declared.turn.Kind.{Kind}
 use Rattle.xen_turns.specs.declared.turn.Kind.TheVariants as kind
 use Rattle.xen_host.specs.Ops.{access, blank, over}
-use Rattle.xen_host.specs.declared.op.Op.{Op}
+use Rattle.xen_host.specs.declared.op.HostOp.{HostOp}
 
 -- Words are consecutive, each an access of its own, in rising order.
 pub data Ask : Type 0 where
@@ -34,14 +34,14 @@ pub data Ask : Type 0 where
 -- ---- what C gets, in the numbers of include/laxonje.h
 
 -- A turn is over.
-abbrev pub done_op : Kind → Op
+abbrev pub done_op : Kind → HostOp
 done_op kind.Idle = over 0 0 0
 done_op (kind.Ran ops number slots) = record (over 1 0 slots) { number = number; ops = ops }
 done_op (kind.Refused cause ops slots) = record (over 2 (refusal_number cause) slots) { ops = ops }
 done_op (kind.Halted cause) = over 3 (halt_number cause) 0
 
 -- What became of a packet that was delivered.
-abbrev pub delivered_op : Delivery → Op
+abbrev pub delivered_op : Delivery → HostOp
 delivered_op (delivery.Sent slots) = over 4 0 slots
 delivered_op delivery.FewSlots = over 5 0 0
 delivered_op (delivery.Refused slots) = over 6 0 slots
@@ -50,7 +50,7 @@ delivered_op delivery.NoFrame = over 8 0 0
 delivered_op delivery.NotAccepted = over 12 0 0
 
 -- What became of a wait for rx slots.
-abbrev pub awaited_op : Awaited → Op
+abbrev pub awaited_op : Awaited → HostOp
 awaited_op awaited.Posted = over 9 0 0
 awaited_op awaited.Waiting = over 10 0 0
 awaited_op (awaited.Halted cause) = over 11 (halt_number cause) 0
@@ -60,7 +60,7 @@ abbrev pub entry_number : Rights → ℕ
 entry_number ReadOnly = 1
 entry_number ReadWrite = 2
 
-abbrev pub op_of : Ask → Op
+abbrev pub op_of : Ask → HostOp
 op_of (Read at count) = access 1 at count
 op_of (Entry at reference rights) = record (access 1 at 2) { entry = entry_number rights; reference = reference }
 op_of (Write at count) = access 2 at count

@@ -11,7 +11,7 @@ use Rattle.xen_steps.specs.Drive.{LedBy}
 use Rattle.xen_steps.specs.Pages.{AreWords, covered}
 use Rattle.xen_steps.specs.Steps.{Steps, bind}
 use Rattle.xen_rx_fill.specs.declared.target.Grants.{Grants}
-use Rattle.xen_rx_fill.specs.declared.by_event.phase.Outcome.{Outcome}
+use Rattle.xen_rx_fill.specs.declared.by_event.phase.TransmitOutcome.{TransmitOutcome}
 use Rattle.xen_rx_fill.specs.declared.vif.Vif.{Vif}
 use Rattle.xen_turns.specs.Deliveries.{Arrival, arrived}
 use Rattle.xen_turns.specs.Tree.{after_copy, after_transmit, copy, responses}
@@ -26,7 +26,7 @@ use Rattle.xen_host.specs.Led.{Beside, DeliveryEnds, TurnEnds, WaitEnds, beside}
 use Rattle.xen_host.specs.Ran.{HasRunThrough}
 use Rattle.xen_host.specs.Rest.{offload_after, reads_filling, reads_in, rest_filling, rest_in, rest_of_delivery, rest_of_wait, rx_offload}
 use Rattle.xen_host.specs.EngineAt.{EngineAt}
-use Rattle.xen_host.specs.declared.stage.Answer.{Answer}
+use Rattle.xen_turns.specs.declared.decisions.Reply.{Reply}
 use Rattle.xen_host.specs.declared.stage.Fill.{Fill}
 use Rattle.xen_host.specs.declared.stage.Purpose.{Purpose}
 use Rattle.xen_host.specs.declared.stage.Purpose.TheVariants as purpose
@@ -69,7 +69,7 @@ abbrev pub WaitLeads : {H : Type 0} → (H → Ask → List ℕ → H → Type 0
     EngineAt → (host host_after : H) → Type 0
 WaitLeads was full offload packet from new host host_after = HostLed was full (WaitEnds packet new) offload from new host host_after
 
-abbrev pub FillLeads : {H : Type 0} → (H → Ask → List ℕ → H → Type 0) → (H → Type 0) → Purpose → Beside → Steps Outcome → EngineAt →
+abbrev pub FillLeads : {H : Type 0} → (H → Ask → List ℕ → H → Type 0) → (H → Type 0) → Purpose → Beside → Steps TransmitOutcome → EngineAt →
     (host host_after : H) → Type 0
 FillLeads was full (purpose.Back n) e from new host host_after =
     TurnLeads was full e.offload (bind from (after_transmit e.wires e.state e.chain e.packet n)) new host host_after
@@ -87,7 +87,7 @@ SaidSome was free full asks from all (Some i) host host_after =
     (n : ℕ) × (from + suc n ≡ i) × (i ≤ all) × WasAskedAll was host (plain_all (asks (suc n))) host_after × full host_after
 
 -- The responses to a chain, from one on.
-abbrev pub HasResponded : {H : Type 0} → (H → Ask → List ℕ → H → Type 0) → (free full : H → Type 0) → Vif → List Slot → Answer → ℕ →
+abbrev pub HasResponded : {H : Type 0} → (H → Ask → List ℕ → H → Type 0) → (free full : H → Type 0) → Vif → List Slot → Reply → ℕ →
     Option ℕ → (host host_after : H) → Type 0
 HasResponded was free full w chain a from left host host_after =
     SaidSome was free full (stores w a.at.tx_index (responses a.status chain) from) from (length chain) left host host_after

@@ -2,10 +2,10 @@
 -- The struct that C gets of an op: include/laxonje.h has its fields in this order.
 use Rattle.std.specs.Prelude.{ℕ, pos}
 use Rattle.xen_page.specs.declared.place.Place.{Place}
-use Rattle.xen_host.specs.declared.op.Op.{Op}
+use Rattle.xen_host.specs.declared.op.HostOp.{HostOp}
 
 -- nothing
-abbrev pub blank : Op
+abbrev pub blank : HostOp
 blank =
     record {
       kind = 0;
@@ -27,9 +27,9 @@ blank =
     }
 
 -- words of a page
-abbrev pub access : ℕ → Place → ℕ → Op
+abbrev pub access : ℕ → Place → ℕ → HostOp
 access kind at count = record blank { kind = kind; frame = at.frame; word = at.word; count = count }
 
 -- a turn, a delivery or a wait is over
-abbrev pub over : ℕ → ℕ → ℕ → Op
+abbrev pub over : ℕ → ℕ → ℕ → HostOp
 over outcome cause slots = record blank { kind = 4; outcome = outcome; cause = cause; slots = slots }

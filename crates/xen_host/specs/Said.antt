@@ -4,11 +4,11 @@ use Rattle.std.specs.Prelude.{ℕ, suc, ◌≡◌, ◌≤◌, ◌⊎◌, Bool, t
 use Rattle.xen_turns.specs.declared.turn.Kind.{Kind}
 use Rattle.xen_turns.specs.declared.turn.Kind.TheVariants as kind
 use Rattle.xen_host.specs.Asks.{AllSized, Ask, TakeNone, WordsStay, needs_no_answer, op_of}
-use Rattle.xen_host.specs.declared.op.Op.{Op}
+use Rattle.xen_host.specs.declared.op.HostOp.{HostOp}
 
 -- Asks stand in front of a host's ops, as C gets them: no more than there is room for, and as many up to one that the step can't go on
 -- after. All but the last take no answer. The lent words stay, but for those that a WRITE takes.
-pub record Said (first : List Ask) (last : Ask) (ops ops_after : List Op) (count : ℕ) (lent lent_after : List ℕ) : Type 0 where
+pub record Said (first : List Ask) (last : Ask) (ops ops_after : List HostOp) (count : ℕ) (lent lent_after : List ℕ) : Type 0 where
   pub take_none : TakeNone first
   pub filled : ops_after ≡ map op_of first ++ op_of last ∷ drop count ops
   pub counted : count ≡ suc (length first)

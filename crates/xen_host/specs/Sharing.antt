@@ -7,7 +7,7 @@ use Rattle.bpf_note.specs.Shape.{IsCounter}
 use Rattle.bpf_note.specs.declared.op.Op.TheVariants.{Load}
 use Rattle.bpf_verify.specs.Consistent.{Accepted}
 use Rattle.xen_host.specs.Queues.{AreEnoughAtSeat, AreFewAtSeat, AreTheSame, HasSteppedAtSeat, resting, wired_to}
-use Rattle.xen_host.specs.declared.op.Op.{Op}
+use Rattle.xen_host.specs.declared.op.HostOp.{HostOp}
 use Rattle.xen_host.specs.declared.queue.Queue.{Queue}
 use Rattle.xen_host.specs.declared.sharing.Share.{Share}
 use Rattle.xen_host.specs.declared.sharing.ShareFault.{ShareFault}
@@ -88,7 +88,7 @@ IsPassFault q to fault.Maps = (wired_to to).program.shapes ≡ (wired_to q).prog
 IsPassFault q to fault.Seats = q.share ≡ None
 
 -- A step with the counters that the queue shares: the list of its seat at them grew by the program's operations and by no others.
-pub record StepsShared (old new : Queue) (lent lent_after : List ℕ) (ops ops_after : List Op) (count : ℕ) : Type 0 where
+pub record StepsShared (old new : Queue) (lent lent_after : List ℕ) (ops ops_after : List HostOp) (count : ℕ) : Type 0 where
   pub share : Share
   pub share_after : Share
   pub before : old.share ≡ Some share

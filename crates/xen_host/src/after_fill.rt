@@ -12,10 +12,10 @@ ghost use Rattle.xen_host.specs.EngineAt.{engine_at};
 use crate::engine::Engine;
 use crate::host::Host;
 use crate::room::Room;
-use crate::stage::{Answer, Purpose, Stage};
+use crate::stage::{Purpose, Stage};
 use crate::wires::Wires;
-use xen_rx_fill::Outcome;
-use xen_turns::decisions::{Reply, after_sending, delivered};
+use xen_rx_fill::TransmitOutcome;
+use xen_turns::decisions::{after_sending, delivered};
 use xen_turns::{Delivery, State};
 
 impl Engine {
@@ -24,7 +24,7 @@ impl Engine {
     pub(crate) fn filled<W: Wires, H: Host, R: Room>(
         &mut self,
         purpose: Purpose,
-        outcome: Outcome,
+        outcome: TransmitOutcome,
         wires: &W,
         packet: &mut R,
         host: &mut H,
@@ -47,7 +47,7 @@ impl Engine {
     fn sent<W: Wires, H: Host, R: Room>(
         &mut self,
         counted: u32,
-        outcome: Outcome,
+        outcome: TransmitOutcome,
         wires: &W,
         packet: &mut R,
         host: &mut H,
@@ -60,17 +60,13 @@ impl Engine {
         let slots = self.work.chain.len() as u32;
         match after_sending(&self.state, counted, slots, outcome) {
             Err(cause) => self.halt(cause, packet, host),
-            Ok(Reply { at, status, kind }) => self.respond(
-                Answer { at, status, kind },
-                wires,
-                host,
-            ),
+            Ok(answer) => self.respond(answer, wires, host),
         }
     }
 
     /// A delivery begins, with what was read of the rx producer. A halted queue has no use of it.
     #[inline(always)]
-    pub(crate) fn set_out<W: Wires, H: Host, R: Room>(
+    pub(crate) fn start_delivery<W: Wires, H: Host, R: Room>(
         &mut self,
         producer: u32,
         wires: &W,

@@ -7,7 +7,7 @@ ghost use Rattle.xen_host.specs.Hosts.{IsFresh, IsFree, IsSameLoan};
 ghost use Rattle.xen_host.specs.Queues.{HasBegun, HasStepped, HasSteppedAtSeat, resting, wired_to};
 
 use crate::host::Ops;
-use crate::op::Op;
+use crate::op::HostOp;
 use crate::queue::Queue;
 use bpf_maps::{CounterSeat, Counters};
 
@@ -27,7 +27,7 @@ impl Queue {
 
     /// Begins a turn, with what was read of the tx producer, and says its first op. How many: one.
     #[inline(always)]
-    pub(crate) fn say_first(&mut self, producer: u32, ops: &mut [Op]) -> usize
+    pub(crate) fn say_first(&mut self, producer: u32, ops: &mut [HostOp]) -> usize
         requires rests { IsSome (resting self.old) }
         requires room { 1 ≤ length ops.old }
         ensures begun { HasBegun self.old self.new producer ops.old ops.new result }
@@ -63,7 +63,7 @@ impl Queue {
         &mut self,
         words: &mut [u32],
         counters: &mut [u64],
-        ops: &mut [Op],
+        ops: &mut [HostOp],
     ) -> usize
         requires busy { resting self.old ≡ None }
         requires enough { 1024 ≤ length words.old }
@@ -106,7 +106,7 @@ impl Queue {
         words: &mut [u32],
         counters: &Counters,
         seat: &mut CounterSeat,
-        ops: &mut [Op],
+        ops: &mut [HostOp],
     ) -> usize
         requires busy { resting self.old ≡ None }
         requires enough { 1024 ≤ length words.old }

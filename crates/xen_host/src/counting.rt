@@ -10,7 +10,7 @@ ghost use Rattle.xen_host.specs.Queues.{resting, wired_to};
 use crate::host::Host;
 use crate::queue::Queue;
 use bpf_maps::{CounterSeat, Counters};
-use xdp_program::{Seated, Tallies, Words};
+use xdp_program::{CounterWords, Seated, Tallies};
 
 impl Queue {
     /// Goes on with what is under way: takes the answer that it waits for, and asks its host for what comes then.
@@ -30,7 +30,7 @@ impl Queue {
 
     /// As [`Queue::step_by`], in words that are lent.
     #[inline(always)]
-    fn step_in_words<H: Host>(&mut self, counters: &mut Words<'_>, host: &mut H)
+    fn step_in_words<H: Host>(&mut self, counters: &mut CounterWords<'_>, host: &mut H)
         requires busy { resting self.old ≡ None }
         requires counts { HasWords (wired_to self.old).program.shapes counters.old }
         requires fresh { H.is_fresh host.old }
@@ -56,7 +56,7 @@ impl Queue {
         ensures stepped { StepsOver H.was_asked H.is_full H.has_given self.old self.new counters.old counters.new host.old host.new }
         ensures share { self.new.share ≡ self.old.share }
     {
-        let mut own = Words { words: counters };
+        let mut own = CounterWords { words: counters };
         self.step_in_words(&mut own, host)
     }
 

@@ -17,13 +17,13 @@ use crate::work::Work;
 use xen_turns::decisions::halted;
 use xen_turns::{Halt, Kind, State};
 
-/// What a queue works with. Each of its steps is made by a function that sets the stage and says what leads there. What it is wired to and
-/// the room of its packet are lent to each.
+/// The engine of a queue. Each of its steps is made by a function that sets the stage and says what leads there. What it is wired
+/// to and the room of its packet are lent to each.
 #[derive(Drop)]
 pub struct Engine {
     pub(crate) state: State,
     pub(crate) stage: Stage,
-    /// What is left undone of the packet of the turn that is under way or over.
+    /// The work that is left undone of the packet of the turn that is under way or over.
     pub(crate) offload: Offload,
     pub(crate) work: Work,
 }

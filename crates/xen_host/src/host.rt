@@ -8,7 +8,7 @@ ghost use Rattle.xen_host.specs.Filling.{packet_words};
 ghost use Rattle.xen_host.specs.Hosts.{GavePage, IsFree, IsFresh, IsFull, IsPut, IsSameLoan, IsSettled, HasGiven};
 
 use crate::copying::push_words;
-use crate::op::Op;
+use crate::op::HostOp;
 use crate::page_words::put_words;
 use crate::room::Room;
 use crate::words::are_words;
@@ -16,8 +16,8 @@ use xen_netif::Fragment;
 use xen_page::{Place, Rights};
 use xen_turns::{Awaited, Delivery, Kind};
 
-/// Who does what an engine says. After a read nothing more is said before its answer is taken, and that is the first thing of the next
-/// step: only taking it makes the host free again.
+/// The host that does what an engine says. After a read nothing more is said before its answer is taken, and that is the first
+/// thing of the next step: only taking it makes the host free again.
 pub trait Host {
     // Which ask takes the host from which state to which. The words of a WRITE stand beside it.
     ghost was_asked: { Self → Ask → List ℕ → Self → Type 0 };
@@ -37,7 +37,7 @@ pub trait Host {
     // There is no room for more in this step.
     ghost is_full: { Self → Type 0 };
 
-    /// Whether there is room for more.
+    /// Returns whether there is room for more.
     fn has_room(&self) -> bool
         requires { is_settled self.now }
         ensures room { IsTrue result → is_free self.now }
@@ -137,8 +137,8 @@ pub trait Host {
 #[derive(Drop)]
 pub struct Ops<'a> {
     /// Room for ops.
-    pub(crate) ops: &'a mut [Op],
-    /// How many are said.
+    pub(crate) ops: &'a mut [HostOp],
+    /// The number that is said.
     pub(crate) count: usize,
     /// The lent words.
     pub(crate) words: &'a mut [u32],
@@ -156,7 +156,7 @@ impl<'a> Ops<'a> {
 
     /// Puts an op behind those that are said.
     #[inline(always)]
-    fn put(&mut self, op: Op)
+    fn put(&mut self, op: HostOp)
         requires { self.old.count < length self.old.ops.now }
         ensures ops { self.new.ops.now ≡ take self.old.count self.old.ops.now ++ op ∷ drop (self.old.count + 1) self.old.ops.now }
         ensures counted { self.new.count ≡ self.old.count + 1 }
@@ -189,53 +189,53 @@ impl<'a> Host for Ops<'a> {
 
     #[inline(always)]
     fn read(&mut self, at: Place, count: u32) {
-        self.put(Op::read(at, count))
+        self.put(HostOp::read(at, count))
     }
 
     #[inline(always)]
     fn read_entry(&mut self, at: Place, reference: u32, rights: Rights) {
-        self.put(Op::read_entry(at, reference, rights))
+        self.put(HostOp::read_entry(at, reference, rights))
     }
 
     #[inline(always)]
     fn write(&mut self, at: Place, bytes: &[u8], from: u32, count: u32) {
         put_words(bytes, from, count, self.words);
-        self.put(Op::write(at, count))
+        self.put(HostOp::write(at, count))
     }
 
     #[inline(always)]
     fn store(&mut self, at: Place, word: u32) {
-        self.put(Op::store(at, word))
+        self.put(HostOp::store(at, word))
     }
 
     #[inline(always)]
     fn store_two(&mut self, at: Place, first: u32, second: u32) {
-        self.put(Op::store_two(at, first, second))
+        self.put(HostOp::store_two(at, first, second))
     }
 
     #[inline(always)]
     fn push(&mut self, at: Place, word: u32, read: u32) {
-        self.put(Op::push(at, word, read))
+        self.put(HostOp::push(at, word, read))
     }
 
     #[inline(always)]
     fn notify(&mut self, port: u32) {
-        self.put(Op::notify(port))
+        self.put(HostOp::notify(port))
     }
 
     #[inline(always)]
     fn done(&mut self, kind: Kind) {
-        self.put(Op::done(kind))
+        self.put(HostOp::done(kind))
     }
 
     #[inline(always)]
     fn delivered(&mut self, delivery: Delivery) {
-        self.put(Op::delivered(delivery))
+        self.put(HostOp::delivered(delivery))
     }
 
     #[inline(always)]
     fn awaited(&mut self, awaited: Awaited) {
-        self.put(Op::awaited(awaited))
+        self.put(HostOp::awaited(awaited))
     }
 
     #[inline(always)]

@@ -9,10 +9,10 @@ ghost use Rattle.xen_host.specs.Rest.{rx_offload};
 use crate::engine::Engine;
 use crate::stage::Purpose;
 use xen_netif::RxOffload;
-use xen_rx_fill::{Grants, Packet, buffer_frame, response, slots_of, takes_extra};
+use xen_rx_fill::{Grants, RxPacket, buffer_frame, response, slots_of, takes_extra};
 
 impl Engine {
-    /// What the packet leaves to the frontend: nothing, if it is sent back.
+    /// Returns what the packet leaves to the frontend: nothing, if it is sent back.
     fn left(&self, purpose: Purpose) -> RxOffload
         ensures { result ≡ rx_offload purpose self.now.work.offload }
     {
@@ -22,7 +22,7 @@ impl Engine {
         }
     }
 
-    /// Whether it is known to leave nothing.
+    /// Returns whether it is known to leave nothing.
     #[inline(always)]
     fn is_whole(&self, purpose: Purpose) -> bool
         ensures { result ≡ true → rx_offload purpose self.now.work.offload ≡ Whole }
@@ -33,7 +33,7 @@ impl Engine {
         }
     }
 
-    /// How many slots the packet takes.
+    /// Returns the number of slots that the packet takes.
     #[inline(always)]
     pub(crate) fn slots(&self, purpose: Purpose, bytes: &[u8]) -> u32
         requires { length bytes.now ≤ 65535 }
@@ -42,7 +42,7 @@ impl Engine {
     {
         if self.is_whole(purpose) {
             let offload = RxOffload::Whole;
-            return slots_of(&Packet { offload, bytes });
+            return slots_of(&RxPacket { offload, bytes });
         }
         self.slots_left(purpose, bytes)
     }
@@ -54,10 +54,10 @@ impl Engine {
         ensures few { result ≤ 17 }
     {
         let offload = self.left(purpose);
-        slots_of(&Packet { offload, bytes })
+        slots_of(&RxPacket { offload, bytes })
     }
 
-    /// Whether the i-th slot takes the extra, and no page.
+    /// Returns whether the i-th slot takes the extra, and no page.
     #[inline(always)]
     pub(crate) fn takes_extra(&self, purpose: Purpose, i: u32) -> bool
         ensures { result ≡ takes_extra (rx_offload purpose self.now.work.offload) i }
@@ -111,7 +111,7 @@ impl Engine {
     {
         if self.is_whole(purpose) {
             let offload = RxOffload::Whole;
-            let packet = Packet { offload, bytes };
+            let packet = RxPacket { offload, bytes };
             return response(grants, &packet, &self.work.targets, i);
         }
         self.response_left(purpose, grants, bytes, i)
@@ -125,7 +125,7 @@ impl Engine {
             (target_at self.now.work.targets i).id }
     {
         let offload = self.left(purpose);
-        let packet = Packet { offload, bytes };
+        let packet = RxPacket { offload, bytes };
         response(grants, &packet, &self.work.targets, i)
     }
 }

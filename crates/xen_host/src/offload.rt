@@ -2,12 +2,12 @@
 
 use xen_netif::{Segments, TxFlags};
 
-/// What a guest leaves undone of its packet.
+/// The work that a guest leaves undone of its packet.
 #[derive(Clone, Copy, Debug, PartialEq, Eq)]
 pub struct Offload {
     /// The flags of its first slot.
     pub flags: TxFlags,
-    /// How it is to be segmented.
+    /// The segments into which it is to be cut.
     pub segments: Option<Segments>,
 }
 

@@ -10,7 +10,7 @@ ghost use Rattle.xen_host.specs.Filling.{packet_words};
 ghost use Rattle.xen_host.specs.Buses.{HasRead, IsAlways, IsFilled, IsInBus, IsMade, IsNever, IsSameBus, MayReadRun, MayWrite, ask_of, behind};
 
 use crate::host::Host;
-use crate::op::Op;
+use crate::op::HostOp;
 use crate::room::Room;
 use bpf_vm::Fill;
 use xen_netif::Fragment;
@@ -19,10 +19,10 @@ use xen_ring::{Port, Ports};
 use xen_rx_fill::packet_word;
 use xen_turns::{Awaited, Delivery, Kind};
 
-/// How many words a page has.
+/// The number of words that a page has.
 const PAGE_WORDS: u32 = 1024;
 
-/// What is over.
+/// The activity that is over.
 #[derive(Clone, Copy, Debug, PartialEq, Eq, Drop)]
 pub enum Over {
     Turn(Kind),
@@ -33,13 +33,13 @@ pub enum Over {
 impl Over {
     /// As C sees it.
     #[inline(always)]
-    pub fn op(self) -> Op
+    pub fn op(self) -> HostOp
         ensures { result ≡ op_of (ask_of self) }
     {
         match self {
-            Over::Turn(kind) => Op::done(kind),
-            Over::Delivery(delivery) => Op::delivered(delivery),
-            Over::Wait(awaited) => Op::awaited(awaited),
+            Over::Turn(kind) => HostOp::done(kind),
+            Over::Delivery(delivery) => HostOp::delivered(delivery),
+            Over::Wait(awaited) => HostOp::awaited(awaited),
         }
     }
 }
@@ -48,13 +48,13 @@ impl Over {
 /// What isn't in the bus's pages is neither read nor written: a word there is 0. No queue asks for such a word.
 #[derive(Drop)]
 pub struct OverBus<'a, 'p, B: Bus> {
-    /// Who reaches the pages.
+    /// The bus that reaches the pages.
     pub(crate) bus: &'a mut B,
-    /// Where notices go.
+    /// The ports to which notices go.
     pub(crate) ports: &'p Ports,
-    /// Where the words of the next answer are.
+    /// The place of the words of the next answer.
     pub(crate) at: Place,
-    /// What is over, if anything is.
+    /// The activity that is over, if one is.
     pub(crate) over: Option<Over>,
 }
 
@@ -74,7 +74,7 @@ impl<'a, 'p, B: Bus> OverBus<'a, 'p, B> {
         }
     }
 
-    /// What is over, if anything is.
+    /// Returns what is over, if anything is.
     #[inline(always)]
     pub fn over(&self) -> Option<Over>
         ensures { result ≡ self.now.over }
@@ -82,9 +82,9 @@ impl<'a, 'p, B: Bus> OverBus<'a, 'p, B> {
         self.over
     }
 
-    /// Whether `count` words, from the k-th behind a place on, are words of a page of the bus.
+    /// Returns whether `count` words, from the k-th behind a place on, are words of a page of the bus.
     #[inline(always)]
-    fn reaches(&self, at: Place, k: u32, count: u32) -> bool
+    fn are_in_bus(&self, at: Place, k: u32, count: u32) -> bool
         requires { k + count ≤ 1024 }
         ensures { IsTrue result ↔ IsInBus (B.size self.now.bus.now) (behind at k) count }
     {
@@ -109,7 +109,7 @@ impl<'a, 'p, B: Bus> OverBus<'a, 'p, B> {
         requires { k < 1024 }
         ensures { MayReadRun B.log B.access_gives B.size self.old k (result ∷ []) self.new }
     {
-        if self.reaches(self.at, k, 1) {
+        if self.are_in_bus(self.at, k, 1) {
             self.due(k)
         } else {
             0
@@ -123,7 +123,7 @@ impl<'a, 'p, B: Bus> OverBus<'a, 'p, B> {
         requires room { length room.old ≡ 4 * count }
         ensures { IsFilled B.log B.access_gives B.size self.old k count room.new self.new }
     {
-        if self.reaches(self.at, k, count) {
+        if self.are_in_bus(self.at, k, count) {
             let from = Place {
                 frame: self.at.frame,
                 word: self.at.word + k,
@@ -165,7 +165,7 @@ impl<'a, 'p, B: Bus> OverBus<'a, 'p, B> {
     fn put(&mut self, at: Place, word: u32)
         ensures { MayWrite B.log B.access_gives B.size self.old at word self.new }
     {
-        if self.reaches(at, 0, 1) {
+        if self.are_in_bus(at, 0, 1) {
             self.bus.write(at, word)
         }
     }
@@ -259,7 +259,7 @@ impl<'a, 'p, B: Bus> Host for OverBus<'a, 'p, B> {
 
     #[inline(always)]
     fn write(&mut self, at: Place, bytes: &[u8], from: u32, count: u32) {
-        if self.reaches(at, 0, count) {
+        if self.are_in_bus(at, 0, count) {
             self.put_packet(at, bytes, from, count)
         }
     }
@@ -271,7 +271,7 @@ impl<'a, 'p, B: Bus> Host for OverBus<'a, 'p, B> {
 
     #[inline(always)]
     fn store_two(&mut self, at: Place, first: u32, second: u32) {
-        if self.reaches(at, 0, 2) {
+        if self.are_in_bus(at, 0, 2) {
             self.bus.write(at, first);
             let next = Place {
                 frame: at.frame,
@@ -319,7 +319,7 @@ impl<'a, 'p, B: Bus> Host for OverBus<'a, 'p, B> {
 
     #[inline(always)]
     fn two(&mut self) -> [u32; 2] {
-        if !self.reaches(self.at, 0, 2) {
+        if !self.are_in_bus(self.at, 0, 2) {
             return [0; 2];
         }
         let first = self.due(0);
@@ -329,7 +329,7 @@ impl<'a, 'p, B: Bus> Host for OverBus<'a, 'p, B> {
 
     #[inline(always)]
     fn three(&mut self) -> [u32; 3] {
-        if !self.reaches(self.at, 0, 3) {
+        if !self.are_in_bus(self.at, 0, 3) {
             return [0; 3];
         }
         let first = self.due(0);

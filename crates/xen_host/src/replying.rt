@@ -17,17 +17,17 @@ use crate::room::Room;
 use crate::stage::{Fill, Purpose, Stage};
 use crate::wires::Wires;
 use xen_ring::{RSP_EVENT, RSP_PROD, due};
-use xen_rx_fill::{Grants, Outcome};
+use xen_rx_fill::{Grants, TransmitOutcome};
 use xen_steps::{header, rx_entry};
 
-/// What a transmit comes to that used `used` slots.
+/// Returns what a transmit comes to that used `used` slots.
 #[inline(always)]
-fn outcome_of(grants: Grants, used: u32) -> Outcome
+fn outcome_of(grants: Grants, used: u32) -> TransmitOutcome
     ensures { result ≡ outcome_of grants used }
 {
     match grants {
-        Grants::Passed => Outcome::Sent(used),
-        Grants::Refused => Outcome::Refused(used),
+        Grants::Passed => TransmitOutcome::Sent(used),
+        Grants::Refused => TransmitOutcome::Refused(used),
     }
 }
 

@@ -28,7 +28,7 @@ use crate::wires::Wires;
 use crate::words::are_words;
 use xen_netif::RxReq;
 use xen_page::{Entry, Place, Rights};
-use xen_rx_fill::{Grants, Outcome, Target, Targets, words_of};
+use xen_rx_fill::{Grants, Target, Targets, TransmitOutcome, words_of};
 use xen_steps::{requests_shown, rx_entry};
 
 impl Engine {
@@ -92,11 +92,11 @@ impl Engine {
             (W.wiring wires.now) (R.held packet.new) self.new) host.old host.new }
     {
         match requests_shown(self.state.rx_index, producer) {
-            None => self.filled(purpose, Outcome::Overflow, wires, packet, host),
+            None => self.filled(purpose, TransmitOutcome::Overflow, wires, packet, host),
             Some(shown) => {
                 let wanted = self.slots(purpose, packet.bytes());
                 if shown < wanted {
-                    return self.filled(purpose, Outcome::TooFew, wires, packet, host);
+                    return self.filled(purpose, TransmitOutcome::TooFew, wires, packet, host);
                 }
                 self.work.targets = Targets::new();
                 if wanted == 0 {

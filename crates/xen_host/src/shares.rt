@@ -4,13 +4,13 @@ ghost use Rattle.std.specs.Prelude.{◌≡◌, ◌↔◌, IfErr, IfOk, IsSome, I
 ghost use Rattle.xen_host.specs.Sharing.{HasPassed, IsPassFault, IsShareFault, SharesNow, StepsShared};
 ghost use Rattle.xen_host.specs.Queues.{wired_to};
 
-use crate::op::Op;
+use crate::op::HostOp;
 use crate::queue::Queue;
 use crate::sharing::{Share, ShareFault, SharedCounters};
 use xdp_program::Program;
 
 impl Queue {
-    /// Whether a program's maps are those of its own, in size.
+    /// Returns whether a program's maps are those of its own, in size.
     pub fn has_maps_of(&self, program: &Program) -> bool
         ensures { IsTrue result ↔ (program.now.shapes ≡ (wired_to self.now).program.shapes) }
     {
@@ -58,7 +58,7 @@ impl Queue {
         Ok(())
     }
 
-    /// Whether it shares counters.
+    /// Returns whether it shares counters.
     #[inline(always)]
     pub fn is_shared(&self) -> bool
         ensures shared { IsTrue result → IsSome self.now.share }
@@ -69,7 +69,7 @@ impl Queue {
 
     /// As [`Queue::step`], with the counters that it shares.
     #[inline(always)]
-    pub fn step_shared(&mut self, words: &mut [u32], ops: &mut [Op]) -> usize
+    pub fn step_shared(&mut self, words: &mut [u32], ops: &mut [HostOp]) -> usize
         requires { IsSome self.old.share }
         ensures words { length words.new ≡ length words.old }
         ensures steps { StepsShared self.old self.new words.old words.new ops.old ops.new result }

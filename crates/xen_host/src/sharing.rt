@@ -33,7 +33,7 @@ pub struct SharedCounters {
     ghost free: { All (IsSeatOf (arc_value counters)) seats.items },
 }
 
-/// Why there are no shared counters.
+/// The reason why there are no shared counters.
 #[derive(Clone, Copy, Debug, PartialEq, Eq, Drop)]
 pub enum SharedFault {
     Memory,
@@ -63,7 +63,7 @@ impl<T: Drop> From<AllocFailed<T>> for SharedFault {
     }
 }
 
-/// Why a queue doesn't share counters.
+/// The reason why a queue doesn't share counters.
 #[derive(Clone, Copy, Debug, PartialEq, Eq, Drop)]
 pub enum ShareFault {
     Memory,
@@ -148,10 +148,10 @@ impl SharedCounters {
     }
 }
 
-fn crosses<T: Send>() {}
+fn assert_send<T: Send>() {}
 
 /// Shared counters, and a seat at them, may be handed to another thread, or this call isn't proved.
 pub fn shared_counters_cross_threads() {
-    crosses::<SharedCounters>();
-    crosses::<Share>()
+    assert_send::<SharedCounters>();
+    assert_send::<Share>()
 }

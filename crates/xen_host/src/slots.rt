@@ -126,7 +126,7 @@ impl Slots {
         self.form = SlotForm::Empty;
     }
 
-    /// How many there are.
+    /// Returns their number.
     pub fn len(&self) -> usize
         ensures len { result ≡ length self.now }
         ensures few { result ≤ 23 }
@@ -138,7 +138,7 @@ impl Slots {
         }
     }
 
-    /// Whether there is none.
+    /// Returns whether there is none.
     pub fn is_empty(&self) -> bool
         ensures { IsTrue result ↔ (self.now ≡ []) }
     {
@@ -204,7 +204,7 @@ impl Slots {
         }
     }
 
-    /// How the packet of a chain is to be segmented, as [`Chain::segments`] gives it.
+    /// Returns how the packet of a chain is to be segmented, as [`Chain::segments`] gives it.
     #[inline(always)]
     #[tactic(auto, using(crate::proofs::OffloadLemmas::single_says))]
     pub fn segments(&self, offers: Offers) -> Option<Segments>

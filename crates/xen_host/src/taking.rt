@@ -6,7 +6,7 @@ ghost use Rattle.xen_turns.specs.Delivered.{is_frame};
 
 use xen_netif::{Accepts, RxOffload};
 
-/// Whether a frontend that accepts so much takes a packet that can be delivered.
+/// Returns whether a frontend that accepts so much takes a packet that can be delivered.
 pub fn is_taken(accepts: &Accepts, offload: &RxOffload, packet: &[u8]) -> bool
     requires { is_frame packet.now ≡ true }
     ensures { result ≡ is_taken_spec accepts.now (length packet.now) offload.now }

@@ -1,15 +1,4 @@
-//! What a queue is about.
-
-/// What a queue's next step is of.
-#[derive(Clone, Copy, Debug, PartialEq, Eq)]
-pub enum Task {
-    /// A turn: the next, if none is under way.
-    Turn,
-    /// A delivery of the host's own packet.
-    Delivery,
-    /// A wait for rx slots.
-    Wait,
-}
+//! The answer to what is to be begun.
 
 /// The answer to a packet that is to be delivered, or to a wait that is to be begun.
 #[derive(Clone, Copy, Debug, PartialEq, Eq)]

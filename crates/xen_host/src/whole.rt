@@ -122,7 +122,7 @@ impl Engine {
         let producer = self.look(wires.tx(), bus);
         let mut host = OverBus::new(bus, ports);
         self.begin_over(producer, wires, packet, &mut host);
-        match self.go_on(TURN_STEPS, wires, packet, counters, &mut host) {
+        match self.step_until_over(TURN_STEPS, wires, packet, counters, &mut host) {
             Over::Turn(kind) => kind,
             Over::Delivery(_) => unreachable!(),
             Over::Wait(_) => unreachable!(),
@@ -158,7 +158,7 @@ impl Engine {
         self.begin_delivery(producer, offload);
         let mut host = OverBus::new(bus, ports);
         self.step_over(wires, packet, counters, &mut host);
-        match self.go_on(DELIVERY_STEPS, wires, packet, counters, &mut host) {
+        match self.step_until_over(DELIVERY_STEPS, wires, packet, counters, &mut host) {
             Over::Delivery(delivery) => delivery,
             Over::Turn(_) => unreachable!(),
             Over::Wait(_) => unreachable!(),
@@ -222,7 +222,7 @@ impl Engine {
         self.begin_wait(pages);
         let mut host = OverBus::new(bus, ports);
         self.step_over(wires, packet, counters, &mut host);
-        match self.go_on(WAIT_STEPS, wires, packet, counters, &mut host) {
+        match self.step_until_over(WAIT_STEPS, wires, packet, counters, &mut host) {
             Over::Wait(awaited) => awaited,
             Over::Turn(_) => unreachable!(),
             Over::Delivery(_) => unreachable!(),

@@ -17,7 +17,7 @@ use crate::tx::TxReq;
 use arrayvec::ArrayVec;
 use std::marker::Model;
 
-/// What a chain wants next.
+/// The next need of a chain.
 #[derive(Clone, Copy, Debug, PartialEq, Eq)]
 pub enum ChainState {
     /// A data slot.
@@ -68,7 +68,7 @@ impl Chain {
         }
     }
 
-    /// How many slots there are, extras among them.
+    /// Returns the number of slots, extras among them.
     pub fn len(&self) -> usize
         ensures len { result ≡ length self.now }
         ensures few { result ≤ 23 }
@@ -76,14 +76,14 @@ impl Chain {
         self.slots.len()
     }
 
-    /// Whether there is no slot yet.
+    /// Returns whether there is no slot yet.
     pub fn is_empty(&self) -> bool
         ensures { IsTrue result ↔ (self.now ≡ []) }
     {
         self.slots.is_empty()
     }
 
-    /// What the chain wants next.
+    /// Returns what the chain wants next.
     pub fn state(&self) -> ChainState
         ensures grammar { Stands self.now (Some (Ok result)) }
         ensures standing { standing self.now ≡ Some (Ok result) }
@@ -151,7 +151,8 @@ impl Chain {
         fragments_in(self.slots.as_slice(), offers)
     }
 
-    /// How the packet is to be segmented. `None` if its chain has no extra, and where a queue that offers this doesn't take it.
+    /// Returns how the packet is to be segmented. `None` if its chain has no extra, and where a queue that offers this doesn't take
+    /// it.
     pub fn segments(&self, offers: Offers) -> Option<Segments>
         ensures { result ≡ segments_of offers self.now }
     {
@@ -159,7 +160,7 @@ impl Chain {
     }
 }
 
-/// How the packet of these slots is to be segmented.
+/// Returns how the packet of these slots is to be segmented.
 fn segments_in(slots: &[[u32; 3]], offers: Offers) -> Option<Segments>
     ensures { result ≡ segments_of offers slots.now }
 {

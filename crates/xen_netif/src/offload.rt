@@ -6,7 +6,7 @@ ghost use Rattle.xen_netif.specs.Offloads.{has_extra, is_taken, rx_extra, rx_fla
 use crate::flags::RxFlags;
 use crate::segments::{GsoExtra, NO_OFFERS, Offers, Segments};
 
-/// What a packet leaves to the frontend that gets it.
+/// The work that a packet leaves to the frontend that gets it.
 #[derive(Clone, Copy, Debug, PartialEq, Eq)]
 pub enum RxOffload {
     /// Nothing.
@@ -20,7 +20,7 @@ pub enum RxOffload {
 }
 
 impl RxOffload {
-    /// Whether an extra lies behind the packet's first slot.
+    /// Returns whether an extra lies behind the packet's first slot.
     pub fn has_extra(&self) -> bool
         ensures { result ≡ has_extra self.now }
     {
@@ -74,7 +74,7 @@ impl RxOffload {
     }
 }
 
-/// What a frontend says that it accepts.
+/// The offloads that a frontend says that it accepts.
 #[derive(Clone, Copy, Debug, Default, PartialEq, Eq)]
 pub struct Accepts {
     /// Packets whose checksum is blank, over IPv4 and IPv6.
@@ -90,7 +90,7 @@ pub const ACCEPTS_WHOLE: Accepts = Accepts {
 };
 
 impl Accepts {
-    /// Whether the frontend takes a packet of so many bytes.
+    /// Returns whether the frontend takes a packet of so many bytes.
     pub fn takes(&self, offload: &RxOffload, packet: u32) -> bool
         ensures { result ≡ is_taken self.now packet offload.now }
     {
@@ -104,7 +104,7 @@ impl Accepts {
     }
 }
 
-/// Whether a packet of so many bytes may stand for segments of this size.
+/// Returns whether a packet of so many bytes may stand for segments of this size.
 fn is_rx_segment(size: u16, packet: u32) -> bool
     ensures { result ≡ Rattle.xen_netif.specs.Offloads.is_rx_segment_size packet size }
 {

@@ -15,7 +15,7 @@ use crate::tx::TxReq;
 /// The fewest bytes of a segment: what any host takes (RFC 9293).
 const LEAST_SEGMENT: u16 = 536;
 
-/// What is segmented (`XEN_NETIF_GSO_TYPE_*`).
+/// The protocol that is segmented (`XEN_NETIF_GSO_TYPE_*`).
 #[derive(Clone, Copy, Debug, PartialEq, Eq)]
 pub enum GsoType {
     /// TCP over IPv4.
@@ -49,7 +49,7 @@ impl GsoType {
 /// An extra that says how to segment a packet (`struct xen_netif_extra_info`, `u.gso`).
 #[derive(Clone, Copy, Debug, Default, PartialEq, Eq)]
 pub struct GsoExtra {
-    /// Whether another extra follows (`XEN_NETIF_EXTRA_FLAG_MORE`).
+    /// True if another extra follows (`XEN_NETIF_EXTRA_FLAG_MORE`).
     pub more: bool,
     /// The most bytes of payload in a segment.
     pub size: u16,
@@ -92,7 +92,7 @@ impl GsoExtra {
     }
 }
 
-/// How a packet is to be segmented.
+/// The segments into which a packet is to be cut.
 #[derive(Clone, Copy, Debug, PartialEq, Eq)]
 pub struct Segments {
     pub kind: GsoType,
@@ -100,7 +100,7 @@ pub struct Segments {
     pub size: u16,
 }
 
-/// What a queue offers its frontend.
+/// The offers of a queue to its frontend.
 #[derive(Clone, Copy, Debug, Default, PartialEq, Eq)]
 pub struct Offers {
     /// `feature-gso-tcpv4`: the frontend may send TCP over IPv4 that is still to be segmented.
@@ -116,7 +116,7 @@ pub const NO_OFFERS: Offers = Offers {
 };
 
 impl Offers {
-    /// Whether packets of this type are taken unsegmented.
+    /// Returns whether packets of this type are taken unsegmented.
     pub fn has(&self, kind: GsoType) -> bool
         ensures { result ≡ is_offered self.now kind }
     {
@@ -126,7 +126,7 @@ impl Offers {
         }
     }
 
-    /// How a packet is segmented whose first slot and only extra these are. `None` if it isn't taken so.
+    /// Returns how a packet is segmented whose first slot and only extra these are. `None` if it isn't taken so.
     pub fn segments(&self, first: [u32; 3], extra: [u32; 3]) -> Option<Segments>
         ensures { result ≡ segments_said self.now first extra }
     {
@@ -148,7 +148,7 @@ impl Offers {
     }
 }
 
-/// Whether a packet of so many bytes may have segments of this size.
+/// Returns whether a packet of so many bytes may have segments of this size.
 fn is_segment(size: u16, packet: u16) -> bool
     ensures { result ≡ is_segment_size packet size }
 {

@@ -7,7 +7,7 @@ use xen_netif::{Chain, ChainFault, ChainState, Fragment, Offers, Segments, SizeF
 /// The most groups of slots that are pushed to one chain.
 const MOST_GROUPS: usize = 5;
 
-/// What is wanted after each group of slots, and how many slots the chain has then.
+/// The need after each group of slots, and the number of slots that the chain has then.
 pub type States = [Option<(Result<ChainState, ChainFault>, usize)>; MOST_GROUPS];
 
 /// Pushes the slots as long as one is wanted, and says what is wanted after them.
@@ -23,13 +23,13 @@ fn push_all(chain: &mut Chain, slots: &[[u32; 3]]) -> Result<ChainState, ChainFa
     Ok(chain.state())
 }
 
-/// What is wanted after these slots.
+/// Returns what is wanted after these slots.
 pub fn state_after(slots: &[[u32; 3]]) -> Result<ChainState, ChainFault> {
     let mut chain = Chain::new();
     push_all(&mut chain, slots)
 }
 
-/// What is wanted after each of the first groups of slots, and how many slots the chain has then.
+/// Returns what is wanted after each of the first groups of slots, and how many slots the chain has then.
 pub fn states_after(groups: &[&[[u32; 3]]]) -> States {
     let mut chain = Chain::new();
     let mut answers = [None; MOST_GROUPS];
@@ -49,7 +49,7 @@ pub fn states(wanted: &[(Result<ChainState, ChainFault>, usize)]) -> States {
     answers
 }
 
-/// Whether each of the first six slots is a request; and the last slot's request.
+/// Returns whether each of the first six slots is a request; and the last slot's request.
 pub fn requests_after(slots: &[[u32; 3]]) -> ([Option<bool>; 6], Option<Option<TxReq>>) {
     let mut chain = Chain::new();
     let _ = push_all(&mut chain, slots);
@@ -61,7 +61,7 @@ pub fn requests_after(slots: &[[u32; 3]]) -> ([Option<bool>; 6], Option<Option<T
     (are_data, requests.as_slice().last().copied())
 }
 
-/// Whether a chain of these slots has these fragments, or why there are none: it isn't complete, or has a fault.
+/// Returns whether a chain of these slots has these fragments, or why there are none: it isn't complete, or has a fault.
 pub fn has_fragments(slots: &[[u32; 3]], wanted: &[Fragment]) -> Result<bool, Option<SizeFault>> {
     let mut chain = Chain::new();
     let _ = push_all(&mut chain, slots);
@@ -74,10 +74,11 @@ pub fn has_fragments(slots: &[[u32; 3]], wanted: &[Fragment]) -> Result<bool, Op
     }
 }
 
-/// How a packet is segmented and how many fragments it has, or why there are none: its chain isn't complete, or it is refused.
+/// The segments of a packet and the number of its fragments, or the reason why there are none: its chain isn't complete, or it is
+/// refused.
 pub type Taken = Result<(Option<Segments>, usize), Option<SizeFault>>;
 
-/// What a queue that offers this makes of the chain of these slots.
+/// Returns what a queue that offers this makes of the chain of these slots.
 pub fn taken(slots: &[[u32; 3]], offers: Offers) -> Taken {
     let mut chain = Chain::new();
     let _ = push_all(&mut chain, slots);

@@ -26,7 +26,7 @@ pub enum Access {
 }
 
 impl Access {
-    /// What a read or a compare-exchange returned.
+    /// Returns what a read or a compare-exchange returned.
     pub fn answer(&self) -> Option<u32>
         ensures { result ≡ answer_of self.now }
     {

@@ -18,7 +18,7 @@ pub const GTF_READING: u16 = 8;
 /// The mark of a mapping that writes.
 pub const GTF_WRITING: u16 = 16;
 
-/// What a domain wants to do with a frame that it is granted.
+/// The rights that a domain wants to a frame that it is granted.
 #[derive(Clone, Copy, Debug, PartialEq, Eq)]
 pub enum Rights {
     /// To read it alone.
@@ -72,7 +72,7 @@ impl Entry {
         self.flags & GTF_READONLY != 0
     }
 
-    /// Whether the frame may be used with these rights.
+    /// Returns whether the frame may be used with these rights.
     fn allows(self, rights: Rights) -> bool
         ensures { result ≡ allows self rights }
     {
@@ -82,7 +82,7 @@ impl Entry {
         }
     }
 
-    /// Whether the entry carries the mark of a mapping.
+    /// Returns whether the entry carries the mark of a mapping.
     pub fn is_marked(self) -> bool
         ensures { result ≡ is_marked self }
     {
@@ -90,8 +90,8 @@ impl Entry {
     }
 }
 
-/// Whether `user` may reach the frame of an entry of `granter`'s table with these rights: the frame, which
-/// is then the granter's, or the first fault.
+/// Returns whether `user` may reach the frame of an entry of `granter`'s table with these rights: the frame, which is then the
+/// granter's, or the first fault.
 pub fn check(
     owners: &Owners,
     granter: u16,

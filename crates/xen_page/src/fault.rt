@@ -5,7 +5,7 @@ ghost use Rattle.std.specs.Prelude.{◌≡◌};
 use std::error::Error;
 use std::fmt;
 
-/// Why a grant may not be used, by grant_table.h's status codes.
+/// The reason why a grant may not be used, by grant_table.h's status codes.
 #[derive(Clone, Copy, Debug, PartialEq, Eq, Hash)]
 pub enum GrantFault {
     /// The reference is outside the table, or its entry permits no access (GNTST_bad_gntref).

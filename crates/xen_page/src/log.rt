@@ -49,7 +49,7 @@ impl Log {
         }
     }
 
-    /// Whether an access was left out.
+    /// Returns whether an access was left out.
     pub fn full(&self) -> bool
         ensures { result ≡ self.now.full }
     {

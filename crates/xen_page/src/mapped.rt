@@ -12,7 +12,7 @@ pub struct Mapped {
     pub(crate) granter: u16,
     pub(crate) frame: u32,
     pub(crate) rights: Rights,
-    /// Where the entry's flags word is.
+    /// The place of the entry's flags word.
     pub(crate) at: Place,
     /// The flags word, without the marks.
     pub(crate) word: u32,
@@ -45,7 +45,7 @@ impl Mapped {
         self.granter
     }
 
-    /// Where the entry's flags word is.
+    /// Returns where the entry's flags word is.
     pub fn entry(&self) -> Place
         ensures entry { result ≡ self.now.at }
         ensures in_page { self.now.at.word < 1024 }

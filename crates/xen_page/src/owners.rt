@@ -3,20 +3,23 @@
 ghost use Rattle.std.specs.Prelude.{◌≡◌, ◌<◌, ◌≤◌, ◌^◌, length, IfErr, IfOk, slice_get};
 ghost use Rattle.xen_page.specs.Owned.{IsFaultOf, domains_of};
 
-use crate::extents::{Extent, count, owner};
+use crate::extents::{Extent, count, ends, owner};
 use std::alloc::{AllocError, AllocFailed, Global};
 use std::marker::Model;
 
 /// The most frames whose owners can be listed one by one.
 pub const MAX_FRAMES: usize = 8192;
 
-/// How the owners are kept.
+/// The form in which the owners are kept.
 #[derive(Debug, Drop)]
 pub(crate) enum Kept {
     /// The domain of each frame.
     Each(Vec<u16>),
-    /// Extents, the first of which begins with frame 0.
-    InExtents(Vec<Extent>),
+    /// Extents, the first of which begins with frame 0, and the frame behind each one's last.
+    InExtents {
+        extents: Vec<Extent>,
+        ends: Vec<u32>,
+    },
 }
 
 /// The domain that owns each frame, in the order of the frames. Contracts see the list of the domains.
@@ -26,7 +29,7 @@ pub struct Owners {
     count: u32,
 }
 
-/// Why there are no owners.
+/// The reason why there are no owners.
 #[derive(Clone, Copy, Debug, PartialEq, Eq, Drop)]
 pub enum OwnersFault {
     /// Memory ran out.
@@ -59,13 +62,13 @@ impl<T: Drop> From<AllocFailed<T>> for OwnersFault {
 
 impl Model for Owners {
     ghost use Rattle.std.specs.Prelude.{ℕ, ◌≡◌, List, length};
-    ghost use Rattle.xen_page.specs.Owned.{AreCounted, domains_in};
+    ghost use Rattle.xen_page.specs.Owned.{AreCounted, HasEnds, domains_in};
 
     ghost Value = { List ℕ };
 
     ghost view = { λ o. domains_in o.kept };
 
-    ghost invariant = { λ o. (o.count ≡ length (domains_in o.kept)) × AreCounted (domains_in o.kept) };
+    ghost invariant = { λ o. (o.count ≡ length (domains_in o.kept)) × AreCounted (domains_in o.kept) × HasEnds o.kept };
 }
 
 impl Owners {
@@ -81,8 +84,7 @@ impl Owners {
         })
     }
 
-    /// The owners of the frames of these extents, the first of which begins with frame 0. Who owns a frame is searched from the
-    /// first extent on.
+    /// The owners of the frames of these extents, the first of which begins with frame 0. Who owns a frame is searched by halves.
     pub fn of_extents(alloc: Global, extents: &[Extent]) -> Result<Owners, OwnersFault>
         ensures owners { IfOk result (λ owners. owners ≡ domains_of extents.now) }
         ensures fault { IfErr result (IsFaultOf extents.now) }
@@ -91,7 +93,10 @@ impl Owners {
             return Err(OwnersFault::Frames);
         };
         Ok(Owners {
-            kept: Kept::InExtents(extents.to_vec(alloc)?),
+            kept: Kept::InExtents {
+                extents: extents.to_vec(alloc)?,
+                ends: ends(alloc, extents)?,
+            },
             count,
         })
     }
@@ -110,7 +115,7 @@ impl Owners {
     {
         match &self.kept {
             Kept::Each(domains) => domains.get(frame as usize).copied(),
-            Kept::InExtents(extents) => owner(extents, frame),
+            Kept::InExtents { extents, ends } => owner(extents, ends, frame),
         }
     }
 }

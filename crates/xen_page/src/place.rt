@@ -39,7 +39,7 @@ impl Place {
     }
 }
 
-/// Which word of all frames lies at a place, the frames one after another.
+/// Returns which word of all frames lies at a place, the frames one after another.
 pub(crate) fn place_of(at: Place) -> usize
     ensures { result ≡ index_of at }
 {

@@ -31,7 +31,7 @@ impl<B: Drop> Recorder<B> {
 }
 
 impl<B> Recorder<B> {
-    /// Whether an access was left out of the log.
+    /// Returns whether an access was left out of the log.
     pub fn full(&self) -> bool
         ensures { result ≡ (log_of self.now).full }
     {
@@ -45,7 +45,7 @@ impl<B> Recorder<B> {
         self.log.kept()
     }
 
-    /// What the kept reads and compare-exchanges returned, in order: a `ScriptBus` of these answers the same.
+    /// Returns what the kept reads and compare-exchanges returned, in order: a `ScriptBus` of these answers the same.
     pub fn answers(&self, alloc: Global) -> Result<Vec<u32>, AllocError>
         ensures { IfOk result (λ answers. answers.items ≡ filter_map answer_of (log_of self.now).kept) }
     {

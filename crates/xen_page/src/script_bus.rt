@@ -48,7 +48,7 @@ impl ScriptBus {
         })
     }
 
-    /// Whether an access was left out of the log.
+    /// Returns whether an access was left out of the log.
     pub fn full(&self) -> bool
         ensures { result ≡ self.now.log.full }
     {

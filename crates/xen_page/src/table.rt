@@ -71,7 +71,7 @@ impl Table {
         &self.frames[..self.count]
     }
 
-    /// Whether the table lies within a bus of `frames` frames, as `map` requires.
+    /// Returns whether the table lies within a bus of `frames` frames, as `map` requires.
     pub fn is_within(&self, frames: u32) -> bool
         ensures { IsTrue result ↔ All (λ frame. frame < frames) self.now }
     {

@@ -9,7 +9,7 @@ use crate::access::Access;
 use crate::place::{Place, WORDS};
 use crate::words::Words;
 
-/// How many steps a `WordRecorder` keeps.
+/// The number of steps that a `WordRecorder` keeps.
 pub const MAX_STEPS: usize = 16;
 
 const NOWHERE: Place = Place { frame: 0, word: 0 };
@@ -40,7 +40,7 @@ impl<W> WordRecorder<W> {
         }
     }
 
-    /// Whether a step was left out.
+    /// Returns whether a step was left out.
     pub fn full(&self) -> bool
         ensures { result ≡ (steps_of self.now).full }
     {

@@ -62,7 +62,7 @@ pub fn visit<T: Bus>(bus: &mut T) -> [u32; 4]
     [first, second, third, fourth]
 }
 
-/// What the check of an entry of these words answers.
+/// Returns what the check of an entry of these words answers.
 pub fn checked(alloc: Global, a: u32, b: u32, rights: Rights) -> Option<Result<u32, GrantFault>> {
     let owners = owners(alloc).ok()?;
     Some(check(&owners, FRONT, BACK, Entry::of_words(a, b), rights))
@@ -72,7 +72,7 @@ fn seen(mapped: &Mapped) -> Seen {
     (mapped.frame(), mapped.entry())
 }
 
-/// What mapping a reference answers over a bus that answers so, and its accesses. The table has these frames.
+/// Returns what mapping a reference answers over a bus that answers so, and its accesses. The table has these frames.
 pub fn mapped(
     alloc: Global,
     frames: &[u32],
@@ -93,14 +93,15 @@ pub fn mapped(
     Some((answer, log(bus.accesses())))
 }
 
-/// What is mapped, and whether the mapping is ended now.
+/// Returns what is mapped, and whether the mapping is ended now.
 fn ended_again(bus: &mut ScriptBus, mapped: Mapped) -> (Seen, bool) {
     let kept = seen(&mapped);
     let is_within = mapped.entry().frame < bus.frames();
     (kept, is_within && unmap(bus, mapped).is_ok())
 }
 
-/// What is mapped after a first try to end a mapping, and whether a second one ended it. If the first ended it, nothing is mapped.
+/// Returns what is mapped after a first try to end a mapping, and whether a second one ended it. If the first ended it, nothing is
+/// mapped.
 fn ended_once(bus: &mut ScriptBus, mapped: Mapped) -> Option<(Seen, bool)>
     requires { mapped.at.frame < bus.old.frames }
 {

@@ -5,10 +5,10 @@ ghost use Rattle.xen_ring.specs.Index.{is_due, place_of, unconsumed_of};
 
 use crate::overflow::Overflow;
 
-/// How many entries a ring of one page has.
+/// The number of entries that a ring of one page has.
 pub const RING_SIZE: u32 = 256;
 
-/// How many requests the producer `prod` shows that the consumer `cons` hasn't taken.
+/// Returns the number of requests that the producer `prod` shows that the consumer `cons` hasn't taken.
 ///
 /// `rsp` is the private response producer, up to which all requests are answered. A producer more than
 /// a whole ring past it would overwrite requests that are still open: that is the `Overflow` of ring.h's
@@ -23,8 +23,8 @@ pub fn unconsumed(prod: u32, cons: u32, rsp: u32) -> Result<u32, Overflow>
     }
 }
 
-/// Whether a producer that went from `old` to `new` passed the other side's event index, so that the
-/// other side wants a notice. This is ring.h's RING_PUSH_RESPONSES_AND_CHECK_NOTIFY.
+/// Returns whether a producer that went from `old` to `new` passed the other side's event index, so that the other side wants a
+/// notice. This is ring.h's RING_PUSH_RESPONSES_AND_CHECK_NOTIFY.
 pub fn due(old: u32, new: u32, event: u32) -> bool
     ensures { result ≡ is_due old new event }
 {

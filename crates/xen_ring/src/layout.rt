@@ -15,12 +15,12 @@ pub const RSP_PROD: u32 = 2;
 pub const RSP_EVENT: u32 = 3;
 /// The word at which the entries begin.
 pub const FIRST_ENTRY: u32 = 16;
-/// How many words an entry of a tx ring has.
+/// The number of words that an entry of a tx ring has.
 pub const TX_ENTRY_WORDS: u32 = 3;
-/// How many words an entry of an rx ring has.
+/// The number of words that an entry of an rx ring has.
 pub const RX_ENTRY_WORDS: u32 = 2;
 
-/// Where word `word` of the entry that `index` names stands in a tx ring's page.
+/// Returns where word `word` of the entry that `index` names stands in a tx ring's page.
 pub fn tx_entry_word(index: u32, word: u32) -> u32
     requires { word < 3 }
     ensures entry { result ≡ entry_word tx_entry_words index word }
@@ -29,7 +29,7 @@ pub fn tx_entry_word(index: u32, word: u32) -> u32
     FIRST_ENTRY + TX_ENTRY_WORDS * place(index) + word
 }
 
-/// Where word `word` of the entry that `index` names stands in an rx ring's page.
+/// Returns where word `word` of the entry that `index` names stands in an rx ring's page.
 pub fn rx_entry_word(index: u32, word: u32) -> u32
     requires { word < 2 }
     ensures entry { result ≡ entry_word rx_entry_words index word }

@@ -5,7 +5,7 @@ ghost use Rattle.std.specs.Option.{SomeIff};
 
 use std::marker::Model;
 
-/// How many event ports a domain has.
+/// The number of event ports that a domain has.
 pub const PORTS: u32 = 64;
 
 /// The number of an event port, 0 to 63.

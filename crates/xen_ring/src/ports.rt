@@ -29,7 +29,7 @@ impl Ports {
         self.pending.fetch_or(bit(port), Ordering::SeqCst);
     }
 
-    /// Whether the port was unmasked and pending; if so, it is no longer pending.
+    /// Returns whether the port was unmasked and pending; if so, it is no longer pending.
     pub fn take(&self, port: Port) -> bool {
         let bit = bit(port);
         if self.masked.load(Ordering::SeqCst) & bit != 0 {

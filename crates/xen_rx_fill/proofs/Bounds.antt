@@ -27,8 +27,8 @@ use Rattle.xen_rx_fill.specs.Entries.{entry, entry_at}
 use Rattle.xen_rx_fill.specs.Packets.{frame_in, pages, slot_of, slots, takes_extra, target_at, words}
 use Rattle.xen_rx_fill.specs.Transmit.{Posted, after_targets, fill, found, outcome_of, posted, read_targets, requested, rx_answer, rx_notice, rx_respond, targeted, transmit}
 use Rattle.xen_rx_fill.specs.Wired.{IsWired}
-use Rattle.xen_rx_fill.specs.declared.by_event.phase.Outcome.{Outcome}
-use Rattle.xen_rx_fill.specs.declared.by_event.phase.Outcome.TheVariants as outcome
+use Rattle.xen_rx_fill.specs.declared.by_event.phase.TransmitOutcome.{TransmitOutcome}
+use Rattle.xen_rx_fill.specs.declared.by_event.phase.TransmitOutcome.TheVariants as outcome
 use Rattle.xen_rx_fill.specs.declared.target.Grants.{Grants}
 use Rattle.xen_rx_fill.specs.declared.target.Grants.TheVariants.{Passed, Refused}
 use Rattle.xen_rx_fill.specs.declared.target.Target.{Target}
@@ -177,7 +177,7 @@ module _ (w : Vif) (h : IsWired w) where
   bounded_fill o ts packet (suc n) k a =
       (omega arith, (target_there ts (slot_of o (k / 1024)) a, omega arith), λ v. bounded_le within Any (fill o ts packet n (k + 1)) n (suc n - 1) (bounded_fill o ts packet n (k + 1) a) (omega arith))
 
-  bounded_rx_notice : (b : Bool) (o : Outcome) → Bounded within Any (rx_notice w b o) 1
+  bounded_rx_notice : (b : Bool) (o : TransmitOutcome) → Bounded within Any (rx_notice w b o) 1
   bounded_rx_notice false o = tt
   bounded_rx_notice true o = (omega arith, tt, λ a. tt)
 

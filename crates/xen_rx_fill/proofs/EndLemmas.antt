@@ -18,8 +18,8 @@ use Rattle.xen_steps.proofs.FinishLemmas.{ends_bind}
 use Rattle.xen_rx_fill.specs.Entries.{entry, entry_at}
 use Rattle.xen_rx_fill.specs.Packets.{slots, takes_extra, words}
 use Rattle.xen_rx_fill.specs.Transmit.{Posted, after_targets, fill, found, outcome_of, posted, read_targets, requested, rx_answer, rx_notice, rx_respond, targeted, transmit}
-use Rattle.xen_rx_fill.specs.declared.by_event.phase.Outcome.{Outcome}
-use Rattle.xen_rx_fill.specs.declared.by_event.phase.Outcome.TheVariants as outcome
+use Rattle.xen_rx_fill.specs.declared.by_event.phase.TransmitOutcome.{TransmitOutcome}
+use Rattle.xen_rx_fill.specs.declared.by_event.phase.TransmitOutcome.TheVariants as outcome
 use Rattle.xen_rx_fill.specs.declared.target.Grants.{Grants}
 use Rattle.xen_rx_fill.specs.declared.target.Grants.TheVariants.{Passed, Refused}
 use Rattle.xen_rx_fill.specs.declared.target.Target.{Target}
@@ -52,7 +52,7 @@ module _ (w : Vif) where
   ends_fill f ts packet zero k = tt
   ends_fill f ts packet (suc n) k = (tt, λ a e o. ends_fill f ts packet n (k + 1))
 
-  ends_rx_notice : (b : Bool) (o : Outcome) → Ends Any (rx_notice w b o)
+  ends_rx_notice : (b : Bool) (o : TransmitOutcome) → Ends Any (rx_notice w b o)
   ends_rx_notice false o = tt
   ends_rx_notice true o = (tt, λ a e p. tt)
 

@@ -16,7 +16,7 @@ use Rattle.xen_rx_fill.specs.Packets.{pages, slots, takes_extra, words}
 use Rattle.xen_rx_fill.specs.Places.{rx_word}
 use Rattle.xen_rx_fill.specs.Sending.{IsPosted, is_posted, AreTargets, all, refusing, passing, for_extra, buffer_writes, rx_writes, IsRxRespond, IsTransmit, rx_overflow, too_few, refused, sent}
 use Rattle.xen_rx_fill.specs.Shared.{IsEntry, outside, inside, notices}
-use Rattle.xen_rx_fill.specs.declared.by_event.phase.Outcome.{Outcome}
+use Rattle.xen_rx_fill.specs.declared.by_event.phase.TransmitOutcome.{TransmitOutcome}
 use Rattle.xen_rx_fill.specs.declared.target.Grants.{Grants}
 use Rattle.xen_rx_fill.specs.declared.target.Grants.TheVariants.{Passed, Refused}
 use Rattle.xen_rx_fill.specs.declared.target.Target.{Target}
@@ -120,7 +120,7 @@ n_reading w x Validated packet p grants ts s a = n_plain w x Validated packet p 
 n_reading w x Blank packet p grants ts s a = n_plain w x Blank packet p grants ts s a
 n_reading w x (Segmented g) packet p grants ts s a = n_extra w x g (pages packet) p grants ts (omega (arith, s)) a
 
-pub n_transmit : (w : Vif) (x : ℕ) (o : RxOffload) (packet : List ℕ) (p : List Event) (out : Outcome) → length packet ≤ 65535 → IsTransmit w x o packet p out →
+pub n_transmit : (w : Vif) (x : ℕ) (o : RxOffload) (packet : List ℕ) (p : List Event) (out : TransmitOutcome) → length packet ≤ 65535 → IsTransmit w x o packet p out →
     n p ≤ 16483 + 4 * extras (has_extra o)
 n_transmit w x o packet _ _ s (rx_overflow p l e) = omega arith
 n_transmit w x o packet _ _ s (too_few p m l e h) = omega arith
@@ -181,7 +181,7 @@ most_rx_respond w x o packet grants ts p h =
 most_after : (w : Vif) (v : ℕ) (p : List Event) → HasAtMost p 0 1 → HasAtMost (Read (rx_word w 0) v ∷ p) 0 1
 most_after w v p h = record { steps = h.steps; told = h.told }
 
-pub most_transmit : (w : Vif) (x : ℕ) (o : RxOffload) (packet : List ℕ) (p : List Event) (out : Outcome) → IsTransmit w x o packet p out → HasAtMost p 0 1
+pub most_transmit : (w : Vif) (x : ℕ) (o : RxOffload) (packet : List ℕ) (p : List Event) (out : TransmitOutcome) → IsTransmit w x o packet p out → HasAtMost p 0 1
 most_transmit w x o packet _ _ (rx_overflow p l e) = record { steps = omega arith; told = omega arith }
 most_transmit w x o packet _ _ (too_few p m l e h) = record { steps = omega arith; told = omega arith }
 most_transmit w x o packet _ _ (refused p m p1 p2 ts l e le a r) =

@@ -18,8 +18,8 @@ use Rattle.xen_rx_fill.specs.Places.{rx_slot, rx_word}
 use Rattle.xen_rx_fill.specs.Sending.{IsPosted, is_posted, AreTargets, all, refusing, passing, for_extra, buffer_writes, rx_writes, IsRxRespond, IsTransmit, rx_overflow, too_few, refused, sent}
 use Rattle.xen_steps.specs.Steps.{Steps, done, bind, Runs}
 use Rattle.xen_rx_fill.specs.Transmit.{Posted, targeted, requested, posted, read_targets, outcome_of, rx_notice, rx_answer, rx_respond, fill, after_targets, found, transmit}
-use Rattle.xen_rx_fill.specs.declared.by_event.phase.Outcome.{Outcome}
-use Rattle.xen_rx_fill.specs.declared.by_event.phase.Outcome.TheVariants as outcome
+use Rattle.xen_rx_fill.specs.declared.by_event.phase.TransmitOutcome.{TransmitOutcome}
+use Rattle.xen_rx_fill.specs.declared.by_event.phase.TransmitOutcome.TheVariants as outcome
 use Rattle.xen_rx_fill.specs.declared.target.Grants.{Grants}
 use Rattle.xen_rx_fill.specs.declared.target.Grants.TheVariants.{Passed, Refused}
 use Rattle.xen_rx_fill.specs.declared.target.Target.{Target}
@@ -150,14 +150,14 @@ runs_fill o ts packet zero k = refl
 runs_fill o ts packet (suc n) k = (0, (refl, refl), runs_fill o ts packet n (k + 1))
 
 -- the responses and the push
-notice_parts : (w : Vif) (b : Bool) (o : Outcome) (p : List Event) (u : Outcome) → Runs (rx_notice w b o) p u → (p ≡ notices w b) × (o ≡ u)
+notice_parts : (w : Vif) (b : Bool) (o : TransmitOutcome) (p : List Event) (u : TransmitOutcome) → Runs (rx_notice w b o) p u → (p ≡ notices w b) × (o ≡ u)
 notice_parts w false o [] u h = (refl, h)
 notice_parts w false o (e ∷ p) u h = absurd h
 notice_parts w true o [] u h = absurd h
 notice_parts w true o (e ∷ []) u h = (rw h.1.1 refl, h.2)
 notice_parts w true o (e ∷ y ∷ p) u h = absurd h.2
 
-answer_parts : (w : Vif) (x : ℕ) (o : RxOffload) (packet : List ℕ) (grants : Grants) (n i : ℕ) (ts : List Target) (p : List Event) (u : Outcome) → Runs (rx_answer w x o packet grants n i ts) p u →
+answer_parts : (w : Vif) (x : ℕ) (o : RxOffload) (packet : List ℕ) (grants : Grants) (n i : ℕ) (ts : List Target) (p : List Event) (u : TransmitOutcome) → Runs (rx_answer w x o packet grants n i ts) p u →
     (e : ℕ) × (e < 2 ^ 32) × (p ≡ rx_writes w x o packet grants n i ts ++ Write (rx_word w 2) (add32 x n) ∷ Read (rx_word w 3) e ∷ notices w (is_due x (add32 x n) e)) × (outcome_of grants n ≡ u)
 answer_parts w x o packet grants n i [] [] u h = absurd h
 answer_parts w x o packet grants n i [] (y ∷ []) u h = absurd h.2
@@ -170,7 +170,7 @@ answer_parts w x o packet grants n i (t ∷ ts) (y ∷ z ∷ p) u h =
     let q = answer_parts w x o packet grants n (i + 1) ts p u h.2.2 in
     (q.0, q.1, rw (h.1.1, h.2.1.1) (ap (λ l. Write (rx_slot w (add32 x i) 0) (response_word o grants packet n i t.id 0) ∷ Write (rx_slot w (add32 x i) 1) (response_word o grants packet n i t.id 1) ∷ l) q.2), q.3)
 
-runs_notice : (w : Vif) (b : Bool) (o : Outcome) → Runs (rx_notice w b o) (notices w b) o
+runs_notice : (w : Vif) (b : Bool) (o : TransmitOutcome) → Runs (rx_notice w b o) (notices w b) o
 runs_notice w false o = refl
 runs_notice w true o = (0, (refl, refl), refl)
 
@@ -187,7 +187,7 @@ less_none n = omega arith
 
 -- the rows
 module _ (w : Vif) (x : ℕ) (o : RxOffload) (packet : List ℕ) where
-  scan_rows : (p m : ℕ) (grants : Grants) (ts : List Target) (p1 q : List Event) (u : Outcome) → p < 2 ^ 32 → available x p ≡ Some m → slots o packet ≤ m →
+  scan_rows : (p m : ℕ) (grants : Grants) (ts : List Target) (p1 q : List Event) (u : TransmitOutcome) → p < 2 ^ 32 → available x p ≡ Some m → slots o packet ≤ m →
       AreTargets w x o 0 (slots o packet) p1 grants ts → Runs (after_targets w x o packet (scanned grants ts)) q u → IsTransmit w x o packet (Read (rx_word w 0) p ∷ (p1 ++ q)) u
   scan_rows p m Refused ts p1 q u l e le a h =
       let r = answer_parts w x o packet Refused (length ts) 0 ts q u h in
@@ -199,7 +199,7 @@ module _ (w : Vif) (x : ℕ) (o : RxOffload) (packet : List ℕ) where
       subst (λ v. IsTransmit w x o packet (Read (rx_word w 0) p ∷ (p1 ++ q)) v) r.3
       (subst (λ l. IsTransmit w x o packet (Read (rx_word w 0) p ∷ (p1 ++ l)) (outcome.Sent (length ts))) (sym j) (sent p m p1 i.back ts l e le a (r.0, r.1, r.2)))
 
-  enough_rows : (p m : ℕ) (lacking : Bool) (q : List Event) (u : Outcome) → p < 2 ^ 32 → available x p ≡ Some m → nat_lt m (slots o packet) ≡ lacking →
+  enough_rows : (p m : ℕ) (lacking : Bool) (q : List Event) (u : TransmitOutcome) → p < 2 ^ 32 → available x p ≡ Some m → nat_lt m (slots o packet) ≡ lacking →
       Runs (if lacking then done outcome.TooFew else bind (read_targets w x o (slots o packet) []) (after_targets w x o packet)) q u → IsTransmit w x o packet (Read (rx_word w 0) p ∷ q) u
   enough_rows p m true [] u l e le h = rw (← h) (too_few p m l e (ltb-true m (slots o packet) le))
   enough_rows p m true (y ∷ q) u l e le h = absurd h
@@ -208,17 +208,17 @@ module _ (w : Vif) (x : ℕ) (o : RxOffload) (packet : List ℕ) where
       let s = targets_parts w x o (slots o packet) [] i.front i.mid i.first in
       rw i.joined (scan_rows p m s.grants s.more i.front i.back u l e (ltb-false m (slots o packet) le) s.targets (subst (λ (z : Posted). Runs (after_targets w x o packet z) i.back u) s.ends i.later))
 
-  found_rows : (p : ℕ) (shown : Option ℕ) (q : List Event) (u : Outcome) → p < 2 ^ 32 → available x p ≡ shown → Runs (found w x o packet shown) q u → IsTransmit w x o packet (Read (rx_word w 0) p ∷ q) u
+  found_rows : (p : ℕ) (shown : Option ℕ) (q : List Event) (u : TransmitOutcome) → p < 2 ^ 32 → available x p ≡ shown → Runs (found w x o packet shown) q u → IsTransmit w x o packet (Read (rx_word w 0) p ∷ q) u
   found_rows p None [] u l e h = rw (← h) (rx_overflow p l e)
   found_rows p None (y ∷ q) u l e h = absurd h
   found_rows p (Some m) q u l e h = enough_rows p m (nat_lt m (slots o packet)) q u l e refl h
 
-  pub transmit_parts : (p : List Event) (u : Outcome) → Runs (transmit w x o packet) p u → IsTransmit w x o packet p u
+  pub transmit_parts : (p : List Event) (u : TransmitOutcome) → Runs (transmit w x o packet) p u → IsTransmit w x o packet p u
   transmit_parts [] u h = absurd h
   transmit_parts (y ∷ q) u h = rw h.1.1 (found_rows h.0 (available x h.0) q u h.1.0 refl h.2)
 
   -- and back
-  runs_found : (p m : ℕ) (p1 q : List Event) (grants : Grants) (ts : List Target) (u : Outcome) → p < 2 ^ 32 → available x p ≡ Some m → slots o packet ≤ m →
+  runs_found : (p m : ℕ) (p1 q : List Event) (grants : Grants) (ts : List Target) (u : TransmitOutcome) → p < 2 ^ 32 → available x p ≡ Some m → slots o packet ≤ m →
       AreTargets w x o 0 (slots o packet) p1 grants ts → Runs (after_targets w x o packet (scanned grants ts)) q u → Runs (transmit w x o packet) (Read (rx_word w 0) p ∷ (p1 ++ q)) u
   runs_found p m p1 q grants ts u l e le a h = (
     p,
@@ -228,7 +228,7 @@ module _ (w : Vif) (x : ℕ) (o : RxOffload) (packet : List ℕ) where
         (join (read_targets w x o (slots o packet) []) (after_targets w x o packet) p1 q (scanned grants ts) u (runs_targets w x o 0 (slots o packet) p1 grants ts a [] refl) h)),
   )
 
-  pub runs_transmit : (p : List Event) (u : Outcome) → IsTransmit w x o packet p u → Runs (transmit w x o packet) p u
+  pub runs_transmit : (p : List Event) (u : TransmitOutcome) → IsTransmit w x o packet p u → Runs (transmit w x o packet) p u
   runs_transmit _ _ (rx_overflow p l e) = (p, (l, refl), subst (λ (v : Option ℕ). Runs (found w x o packet v) [] outcome.Overflow) (sym e) refl)
   runs_transmit _ _ (too_few p m l e h) = (
     p,

@@ -8,7 +8,7 @@ use Rattle.xen_steps.specs.Event.{Event}
 use Rattle.xen_steps.specs.Steps.{Steps, done, ask, never, bind}
 use Rattle.xen_rx_fill.specs.Packets.{slots}
 use Rattle.xen_rx_fill.specs.Transmit.{after_targets, found, read_targets}
-use Rattle.xen_rx_fill.specs.declared.by_event.phase.Outcome.TheVariants as outcome
+use Rattle.xen_rx_fill.specs.declared.by_event.phase.TransmitOutcome.TheVariants as outcome
 use Rattle.xen_rx_fill.specs.declared.vif.Vif.{Vif}
 
 goes_bind : {A B : Type 0} (s s' : Steps A) (e : Event) (f : A → Steps B) → Goes s e s' → Goes (bind s f) e (bind s' f)

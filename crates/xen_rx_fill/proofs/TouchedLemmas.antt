@@ -16,7 +16,7 @@ use Rattle.xen_rx_fill.specs.Places.{rx_slot, rx_word}
 use Rattle.xen_rx_fill.specs.Sending.{IsPosted, is_posted, AreTargets, all, refusing, passing, for_extra, buffer_writes, rx_writes, IsRxRespond, IsTransmit, rx_overflow, too_few, refused, sent}
 use Rattle.xen_rx_fill.specs.Shared.{IsEntry, outside, inside, notices}
 use Rattle.xen_rx_fill.specs.Touched.{AreNext, here, later, IsGranted, IsAllowed, ring, entry_flags, entry_frame, source, tx_response, rx_response, pushed, announced, buffer, notified, instruction, loaded, added, AllAllowed}
-use Rattle.xen_rx_fill.specs.declared.by_event.phase.Outcome.{Outcome}
+use Rattle.xen_rx_fill.specs.declared.by_event.phase.TransmitOutcome.{TransmitOutcome}
 use Rattle.xen_rx_fill.specs.declared.target.Grants.{Grants}
 use Rattle.xen_rx_fill.specs.declared.target.Grants.TheVariants.{Passed, Refused}
 use Rattle.xen_rx_fill.specs.declared.target.Target.{Target}
@@ -167,7 +167,7 @@ of_rx_respond w t x o packet grants ts p h =
 page_of : (len k : ℕ) → k < (len + 3) / 4 → k / 1024 < (len + 4095) / 4096
 page_of len k h = omega arith
 
-pub of_transmit : (w : Vif) (x : ℕ) (o : RxOffload) (packet : List ℕ) (t : List Event) (out : Outcome) → IsTransmit w x o packet t out → AllAllowed w t t
+pub of_transmit : (w : Vif) (x : ℕ) (o : RxOffload) (packet : List ℕ) (t : List Event) (out : TransmitOutcome) → IsTransmit w x o packet t out → AllAllowed w t t
 of_transmit w x o packet _ _ (rx_overflow p l e) = (ring w.rx 0 p (inr refl) (omega arith), tt)
 of_transmit w x o packet _ _ (too_few p m l e h) = (ring w.rx 0 p (inr refl) (omega arith), tt)
 of_transmit w x o packet _ _ (refused p m p1 p2 ts l e le a r) =

@@ -1,4 +1,4 @@
--- For proofs: no claim rests on this file.
+-- Stated: claims rest on this file.
 -- A transmit that hasn't come to its outcome.
 use Rattle.std.specs.Prelude.{Bool, true, false}
 use Rattle.xen_rx_fill.specs.declared.by_event.phase.Phase.{Phase}

@@ -12,7 +12,7 @@ use Rattle.xen_rx_fill.specs.Transmit.{Posted, after_targets, fill_from, outcome
 use Rattle.xen_rx_fill.specs.Transmit.{rx_event, rx_notice, requested, targeted, transmit}
 use Rattle.xen_rx_fill.specs.declared.transmit.Progress.{Progress}
 use Rattle.xen_rx_fill.specs.declared.transmit.Progress.TheVariants as progress
-use Rattle.xen_rx_fill.specs.declared.by_event.phase.Outcome.{Outcome}
+use Rattle.xen_rx_fill.specs.declared.by_event.phase.TransmitOutcome.{TransmitOutcome}
 use Rattle.xen_rx_fill.specs.declared.by_event.phase.Phase.{Phase}
 use Rattle.xen_rx_fill.specs.declared.by_event.phase.Phase.TheVariants as phase
 use Rattle.xen_steps.specs.declared.want.Want.TheVariants as want
@@ -24,7 +24,7 @@ use Rattle.xen_page.specs.declared.entry.Rights.TheVariants.{ReadWrite}
 abbrev pub taking : Vif → ℕ → RxOffload → ℕ → List Target → RxReq → Steps Posted
 taking w x o left targets request = requested w (takes_extra o (length targets)) targets (read_targets w x o left) request
 
-abbrev pub rest_of : Vif → ℕ → RxOffload → List ℕ → Phase → Steps Outcome
+abbrev pub rest_of : Vif → ℕ → RxOffload → List ℕ → Phase → Steps TransmitOutcome
 rest_of w x o packet phase.Look = transmit w x o packet
 rest_of w x o packet (phase.First r) =
     bind (posted w (add32 x (length r.targets)) (taking w x o r.left r.targets)) (after_targets w x o packet)
@@ -44,6 +44,6 @@ rest_of w x o packet (phase.Notice grants n) = rx_notice w true (outcome_of gran
 rest_of w x o packet (phase.Over out) = done out
 
 -- what is left after one of its events
-abbrev pub rest_after : Vif → ℕ → RxOffload → List ℕ → Progress → Steps Outcome
+abbrev pub rest_after : Vif → ℕ → RxOffload → List ℕ → Progress → Steps TransmitOutcome
 rest_after w x o packet (progress.On t) = rest_of w x o packet t.phase
 rest_after w x o packet (progress.Over out) = done out

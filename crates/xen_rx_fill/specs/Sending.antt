@@ -12,8 +12,8 @@ use Rattle.xen_rx_fill.specs.Packets.{slots, takes_extra, words, word_of, buffer
 use Rattle.xen_rx_fill.specs.Shared.{IsEntry, notices}
 use Rattle.xen_steps.specs.Places.{add32, available}
 use Rattle.xen_rx_fill.specs.Places.{rx_slot, rx_word}
-use Rattle.xen_rx_fill.specs.declared.by_event.phase.Outcome.{Outcome}
-use Rattle.xen_rx_fill.specs.declared.by_event.phase.Outcome.TheVariants as outcome
+use Rattle.xen_rx_fill.specs.declared.by_event.phase.TransmitOutcome.{TransmitOutcome}
+use Rattle.xen_rx_fill.specs.declared.by_event.phase.TransmitOutcome.TheVariants as outcome
 use Rattle.xen_rx_fill.specs.declared.target.Grants.{Grants}
 use Rattle.xen_rx_fill.specs.declared.target.Grants.TheVariants.{Passed, Refused}
 use Rattle.xen_rx_fill.specs.declared.target.Target.{Target}
@@ -58,7 +58,7 @@ IsRxRespond w x o packet grants ts p =
     ∷ notices w (is_due x (add32 x (length ts)) event))
 
 -- A transmit. If a slot is refused, nothing is written to any buffer.
-pub data IsTransmit (w : Vif) (x : ℕ) (o : RxOffload) (packet : List ℕ) : List Event → Outcome → Type 0 where
+pub data IsTransmit (w : Vif) (x : ℕ) (o : RxOffload) (packet : List ℕ) : List Event → TransmitOutcome → Type 0 where
   rx_overflow : (p : ℕ) → p < 2 ^ 32 → available x p ≡ None → IsTransmit w x o packet (Read (rx_word w 0) p ∷ []) outcome.Overflow
   too_few : (p m : ℕ) → p < 2 ^ 32 → available x p ≡ Some m → m < slots o packet →
       IsTransmit w x o packet (Read (rx_word w 0) p ∷ []) outcome.TooFew

@@ -13,8 +13,8 @@ use Rattle.xen_rx_fill.specs.Packets.{slots, takes_extra, words, word_of, buffer
 use Rattle.xen_steps.specs.Places.{add32, available}
 use Rattle.xen_rx_fill.specs.Places.{rx_slot, rx_word}
 use Rattle.xen_steps.specs.Steps.{Steps, done, ask, bind}
-use Rattle.xen_rx_fill.specs.declared.by_event.phase.Outcome.{Outcome}
-use Rattle.xen_rx_fill.specs.declared.by_event.phase.Outcome.TheVariants as outcome
+use Rattle.xen_rx_fill.specs.declared.by_event.phase.TransmitOutcome.{TransmitOutcome}
+use Rattle.xen_rx_fill.specs.declared.by_event.phase.TransmitOutcome.TheVariants as outcome
 use Rattle.xen_rx_fill.specs.declared.target.Grants.{Grants}
 use Rattle.xen_rx_fill.specs.declared.target.Grants.TheVariants.{Passed, Refused}
 use Rattle.xen_rx_fill.specs.declared.target.Target.{Target}
@@ -48,29 +48,29 @@ read_targets w x o zero targets = done (Ok targets)
 read_targets w x o (suc left) targets =
     posted w (add32 x (length targets)) (requested w (takes_extra o (length targets)) targets (read_targets w x o left))
 
-abbrev pub outcome_of : Grants → ℕ → Outcome
+abbrev pub outcome_of : Grants → ℕ → TransmitOutcome
 outcome_of Refused used = outcome.Refused used
 outcome_of Passed used = outcome.Sent used
 
-abbrev pub rx_notice : Vif → Bool → Outcome → Steps Outcome
+abbrev pub rx_notice : Vif → Bool → TransmitOutcome → Steps TransmitOutcome
 rx_notice w false o = done o
 rx_notice w true o = ask (want.Notify w.port) (λ _. done o)
 
-abbrev pub rx_event : Vif → ℕ → Grants → ℕ → Steps Outcome
+abbrev pub rx_event : Vif → ℕ → Grants → ℕ → Steps TransmitOutcome
 rx_event w x grants n = ask (want.Read (rx_word w 3)) (λ event. rx_notice w (is_due x (add32 x n) event) (outcome_of grants n))
 
-abbrev pub rx_publish : Vif → ℕ → Grants → ℕ → Steps Outcome
+abbrev pub rx_publish : Vif → ℕ → Grants → ℕ → Steps TransmitOutcome
 rx_publish w x grants n = ask (want.Write (rx_word w 2) (add32 x n)) (λ _. rx_event w x grants n)
 
 -- the responses from the i-th of n on, two words each, and the push
-abbrev pub rx_answer : Vif → ℕ → RxOffload → List ℕ → Grants → ℕ → ℕ → List Target → Steps Outcome
+abbrev pub rx_answer : Vif → ℕ → RxOffload → List ℕ → Grants → ℕ → ℕ → List Target → Steps TransmitOutcome
 rx_answer w x o packet grants n i [] = rx_publish w x grants n
 rx_answer w x o packet grants n i (t ∷ ts) =
     ask (want.Write (rx_slot w (add32 x i) 0) (response_word o grants packet n i t.id 0))
     (λ _. ask (want.Write (rx_slot w (add32 x i) 1) (response_word o grants packet n i t.id 1))
     (λ _. rx_answer w x o packet grants n (i + 1) ts))
 
-abbrev pub rx_respond : Vif → ℕ → RxOffload → List ℕ → Grants → List Target → Steps Outcome
+abbrev pub rx_respond : Vif → ℕ → RxOffload → List ℕ → Grants → List Target → Steps TransmitOutcome
 rx_respond w x o packet grants targets = rx_answer w x o packet grants (length targets) 0 targets
 
 -- n words of the packet from the k-th on, into the buffers
@@ -78,17 +78,17 @@ abbrev pub fill : RxOffload → List Target → List ℕ → ℕ → ℕ → Ste
 fill o targets packet zero k = done tt
 fill o targets packet (suc n) k = ask (want.Write (buffer_word o targets k) (word_of packet k)) (λ _. fill o targets packet n (k + 1))
 
-abbrev pub fill_from : Vif → ℕ → RxOffload → List ℕ → List Target → ℕ → Steps Outcome
+abbrev pub fill_from : Vif → ℕ → RxOffload → List ℕ → List Target → ℕ → Steps TransmitOutcome
 fill_from w x o packet targets k = bind (fill o targets packet (words packet - k) k) (λ _. rx_respond w x o packet Passed targets)
 
-abbrev pub after_targets : Vif → ℕ → RxOffload → List ℕ → Posted → Steps Outcome
+abbrev pub after_targets : Vif → ℕ → RxOffload → List ℕ → Posted → Steps TransmitOutcome
 after_targets w x o packet (Ok targets) = fill_from w x o packet targets 0
 after_targets w x o packet (Err targets) = rx_respond w x o packet Refused targets
 
-abbrev pub found : Vif → ℕ → RxOffload → List ℕ → Option ℕ → Steps Outcome
+abbrev pub found : Vif → ℕ → RxOffload → List ℕ → Option ℕ → Steps TransmitOutcome
 found w x o packet None = done outcome.Overflow
 found w x o packet (Some m) = if nat_lt m (slots o packet) then done outcome.TooFew
     else bind (read_targets w x o (slots o packet) []) (after_targets w x o packet)
 
-abbrev pub transmit : Vif → ℕ → RxOffload → List ℕ → Steps Outcome
+abbrev pub transmit : Vif → ℕ → RxOffload → List ℕ → Steps TransmitOutcome
 transmit w x o packet = ask (want.Read (rx_word w 0)) (λ p. found w x o packet (available x p))

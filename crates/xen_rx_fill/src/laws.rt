@@ -13,25 +13,25 @@ ghost use Rattle.xen_rx_fill.specs.Touched.{AllAllowed};
 ghost use Rattle.xen_rx_fill.specs.Transmit.{transmit};
 ghost use Rattle.xen_rx_fill.specs.Whole.{PlainBuffers, PlainResponses, PlainSlots};
 ghost use Rattle.xen_rx_fill.specs.Wired.{IsWired};
-ghost use Rattle.xen_rx_fill.specs.declared.by_event.phase.Outcome.{Outcome};
+ghost use Rattle.xen_rx_fill.specs.declared.by_event.phase.TransmitOutcome.{TransmitOutcome};
 ghost use Rattle.xen_rx_fill.specs.declared.vif.Vif.{Vif};
 
 /// A transmit's traces are those that [`Transmit`](crate::Transmit) can have, and no others.
 pub fn transmits_are_runs()
-    ensures runs { (w : Vif) (x : ℕ) (o : RxOffload) (packet : List ℕ) (p : List Event) (out : Outcome) → Runs (transmit w x o packet) p out →
+    ensures runs { (w : Vif) (x : ℕ) (o : RxOffload) (packet : List ℕ) (p : List Event) (out : TransmitOutcome) → Runs (transmit w x o packet) p out →
         IsTransmit w x o packet p out }
-    ensures transmits { (w : Vif) (x : ℕ) (o : RxOffload) (packet : List ℕ) (p : List Event) (out : Outcome) → IsTransmit w x o packet p out →
+    ensures transmits { (w : Vif) (x : ℕ) (o : RxOffload) (packet : List ℕ) (p : List Event) (out : TransmitOutcome) → IsTransmit w x o packet p out →
         Runs (transmit w x o packet) p out }
 {}
 
 /// A transmit of a packet of at most 65,535 bytes makes at most 16,483 accesses, and four more for an extra. It touches the
 /// rings, the table and the frames that were granted to it, and nothing else.
 pub fn transmits_are_bounded()
-    ensures accesses { (w : Vif) (x : ℕ) (o : RxOffload) (packet : List ℕ) (p : List Event) (out : Outcome) → length packet ≤ 65535 →
+    ensures accesses { (w : Vif) (x : ℕ) (o : RxOffload) (packet : List ℕ) (p : List Event) (out : TransmitOutcome) → length packet ≤ 65535 →
         IsTransmit w x o packet p out → length (accesses p) ≤ 16487 }
-    ensures plain_accesses { (w : Vif) (x : ℕ) (o : RxOffload) (packet : List ℕ) (p : List Event) (out : Outcome) →
+    ensures plain_accesses { (w : Vif) (x : ℕ) (o : RxOffload) (packet : List ℕ) (p : List Event) (out : TransmitOutcome) →
         has_extra o ≡ false → length packet ≤ 65535 → IsTransmit w x o packet p out → length (accesses p) ≤ 16483 }
-    ensures touches { (w : Vif) (x : ℕ) (o : RxOffload) (packet : List ℕ) (p : List Event) (out : Outcome) → IsTransmit w x o packet p out →
+    ensures touches { (w : Vif) (x : ℕ) (o : RxOffload) (packet : List ℕ) (p : List Event) (out : TransmitOutcome) → IsTransmit w x o packet p out →
         AllAllowed w p p }
 {}
 

@@ -17,8 +17,8 @@ mod transmit;
 mod vif;
 mod words;
 
-pub use by_event::phase::Outcome;
-pub use packet::Packet;
+pub use by_event::phase::TransmitOutcome;
+pub use packet::RxPacket;
 pub use target::{Grants, Target, Targets};
 pub use transmit::{Progress, Transmit};
 pub use vif::Vif;

@@ -4,8 +4,8 @@ use xen_netif::RxOffload;
 
 /// A packet for the frontend.
 #[derive(Clone, Copy)]
-pub struct Packet<'p> {
-    /// What it leaves to the frontend.
+pub struct RxPacket<'p> {
+    /// The work that it leaves to the frontend.
     pub offload: RxOffload,
     pub bytes: &'p [u8],
 }

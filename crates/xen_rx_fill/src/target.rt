@@ -10,7 +10,7 @@ pub struct Target {
     pub frame: Option<u32>,
 }
 
-/// Whether the grants of a packet's slots passed their checks.
+/// The outcome of the checks of a packet's grants.
 #[derive(Clone, Copy, Debug, PartialEq, Eq)]
 pub enum Grants {
     /// All did. The packet is sent, and the responses say how long it is.

@@ -5,7 +5,7 @@ mod stepping;
 ghost use Rattle.std.specs.Prelude.{IsTrue};
 ghost use Rattle.xen_rx_fill.specs.Going.{is_going};
 
-use crate::by_event::phase::{Outcome, Phase};
+use crate::by_event::phase::{Phase, TransmitOutcome};
 
 /// A transmit that isn't over.
 #[derive(Drop)]
@@ -18,5 +18,5 @@ pub struct Transmit {
 #[derive(Drop)]
 pub enum Progress {
     On(Transmit),
-    Over(Outcome),
+    Over(TransmitOutcome),
 }

@@ -3,7 +3,7 @@
 use xen_page::{Owners, Table};
 use xen_ring::Port;
 
-/// What a back queue shares with its frontend.
+/// The parts that a back queue shares with its frontend.
 #[derive(Clone, Copy)]
 pub struct Vif<'p> {
     /// The frame of the tx ring's page.

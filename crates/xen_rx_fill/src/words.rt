@@ -5,7 +5,7 @@ ghost use Rattle.xen_rx_fill.specs.Packets.{buffer_word, extra_at, frame_in, has
 ghost use Rattle.xen_rx_fill.specs.Packets.{said, size_at, slot_of, slots, slots_for, status_at, takes_extra};
 ghost use Rattle.xen_rx_fill.specs.Packets.{target_at as target_at_spec, word_of, words};
 
-use crate::packet::Packet;
+use crate::packet::RxPacket;
 use crate::target::{Grants, Target, Targets};
 use xen_netif::{GsoExtra, RxOffload, RxRsp, Status};
 use xen_page::Place;
@@ -18,7 +18,7 @@ fn pages_of(bytes: &[u8]) -> u32
     (bytes.len() as u32 + 4095) / 4096
 }
 
-/// How many slots the first `n` pages take.
+/// Returns the number of slots that the first `n` pages take.
 fn slots_for(offload: &RxOffload, n: u32) -> u32
     requires { n ≤ 17 }
     ensures { result ≡ slots_for offload.now n }
@@ -26,8 +26,8 @@ fn slots_for(offload: &RxOffload, n: u32) -> u32
     if offload.has_extra() { n + 1 } else { n }
 }
 
-/// How many slots the packet takes.
-pub fn slots_of(packet: &Packet) -> u32
+/// Returns the number of slots that the packet takes.
+pub fn slots_of(packet: &RxPacket) -> u32
     requires { length packet.now.bytes.now ≤ 65535 }
     ensures value { result ≡ slots packet.now.offload packet.now.bytes.now }
     ensures few { result ≤ 17 }
@@ -35,7 +35,7 @@ pub fn slots_of(packet: &Packet) -> u32
     slots_for(&packet.offload, pages_of(packet.bytes))
 }
 
-/// Whether the i-th slot takes the extra, and no page.
+/// Returns whether the i-th slot takes the extra, and no page.
 pub fn takes_extra(offload: &RxOffload, i: u32) -> bool
     ensures { result ≡ takes_extra offload.now i }
 {
@@ -127,7 +127,7 @@ pub fn buffer_frame(offload: &RxOffload, targets: &Targets, page: u32) -> u32
     target_at(targets, slot).frame.unwrap_or(0)
 }
 
-/// Where the k-th word of the packet goes.
+/// Returns where the k-th word of the packet goes.
 pub(crate) fn buffer_at(offload: &RxOffload, targets: &Targets, k: u32) -> Place
     ensures { result ≡ buffer_word offload.now targets.now k }
 {
@@ -163,7 +163,7 @@ fn status(grants: Grants, bytes: &[u8], page: u32) -> i16
     }
 }
 
-/// Whether the response to a page's slot, one of `n`, says that there is more.
+/// Returns whether the response to a page's slot, one of `n`, says that there is more.
 fn has_more(offload: &RxOffload, grants: Grants, n: u32, page: u32) -> bool
     requires { page < 17 }
     ensures { result ≡ has_more offload.now grants n page }
@@ -174,7 +174,7 @@ fn has_more(offload: &RxOffload, grants: Grants, n: u32, page: u32) -> bool
     }
 }
 
-/// What the responses say of the offload.
+/// Returns what the responses say of the offload.
 fn said(grants: Grants, offload: &RxOffload) -> RxOffload
     ensures { result ≡ said grants offload.now }
 {
@@ -192,7 +192,7 @@ fn extra_at(offload: &RxOffload, i: u32) -> Option<GsoExtra>
 }
 
 /// The response to a page's slot, one of `n`.
-fn data_response(grants: Grants, packet: &Packet, n: u32, page: u32, id: u16) -> RxRsp
+fn data_response(grants: Grants, packet: &RxPacket, n: u32, page: u32, id: u16) -> RxRsp
     requires short { length packet.now.bytes.now ≤ 65535 }
     requires within { page < 17 }
     ensures { result ≡ rx_response packet.now.offload grants packet.now.bytes.now n page id }
@@ -207,7 +207,7 @@ fn data_response(grants: Grants, packet: &Packet, n: u32, page: u32, id: u16) ->
 }
 
 /// The words of the i-th response.
-pub fn response(grants: Grants, packet: &Packet, targets: &Targets, i: u32) -> [u32; 2]
+pub fn response(grants: Grants, packet: &RxPacket, targets: &Targets, i: u32) -> [u32; 2]
     requires short { length packet.now.bytes.now ≤ 65535 }
     requires within { i < length targets.now }
     ensures { result ≡ response_words packet.now.offload grants packet.now.bytes.now (length targets.now) i

@@ -17,9 +17,9 @@ use Rattle.xen_steps.proofs.StepsLemmas.{join, split}
 use Rattle.xen_rx_fill.specs.Sending.{IsTransmit}
 use Rattle.xen_rx_fill.specs.Transmit.{transmit}
 use Rattle.xen_rx_fill.specs.Wired.{IsWired}
-use Rattle.xen_rx_fill.specs.declared.by_event.phase.Outcome.{Outcome}
+use Rattle.xen_rx_fill.specs.declared.by_event.phase.TransmitOutcome.{TransmitOutcome}
 use Rattle.xen_rx_fill.specs.declared.vif.Vif.{Vif}
-use Rattle.xen_rx_fill.specs.declared.by_event.phase.Outcome.TheVariants as outcome
+use Rattle.xen_rx_fill.specs.declared.by_event.phase.TransmitOutcome.TheVariants as outcome
 use Rattle.xen_rx_fill.proofs.Bounds.{bounded_transmit}
 use Rattle.xen_rx_fill.proofs.EndLemmas.{ends_transmit}
 use Rattle.xen_rx_fill.proofs.SendParts.{runs_transmit, transmit_parts}
@@ -52,7 +52,7 @@ pub arrives : (w : Vif) (accepts : Accepts) (s : State) (g : RxOffload) (packet 
 arrives w accepts s g packet wired = framed w accepts s g packet (is_frame packet) wired
 
 -- after its transmit a delivery is over
-of_transmit : (w : Wiring) (s : State) (g : RxOffload) (packet : List ℕ) (p q : List Event) (o : Outcome) (r : Arrival) → IsDeliverable w.accepts g packet → s.halt ≡ None →
+of_transmit : (w : Wiring) (s : State) (g : RxOffload) (packet : List ℕ) (p q : List Event) (o : TransmitOutcome) (r : Arrival) → IsDeliverable w.accepts g packet → s.halt ≡ None →
     IsTransmit w.vif s.rx_index g packet p o → Runs (arrived s o) q r → IsDelivery w s g packet (p ++ q) r.0 r.1
 of_transmit w s g packet p (e ∷ q) o r f h t runs = absurd runs
 of_transmit w s g packet p [] outcome.Overflow r f h t runs =
@@ -88,7 +88,7 @@ of_frame w s g packet true p r f runs = of_taken w s g packet (is_taken w.accept
 pub delivery_rows : (w : Wiring) (s : State) (g : RxOffload) (packet : List ℕ) (p : List Event) (after : State) (what : Delivery) → Runs (whole_delivery w.vif w.accepts s g packet) p (after, what) → IsDelivery w s g packet p after what
 delivery_rows w s g packet p after what runs = of_frame w s g packet (is_frame packet) p (after, what) refl runs
 
-sends : (w : Wiring) (s : State) (g : RxOffload) (packet : List ℕ) (p : List Event) (o : Outcome) → IsDeliverable w.accepts g packet → s.halt ≡ None → IsTransmit w.vif s.rx_index g packet p o →
+sends : (w : Wiring) (s : State) (g : RxOffload) (packet : List ℕ) (p : List Event) (o : TransmitOutcome) → IsDeliverable w.accepts g packet → s.halt ≡ None → IsTransmit w.vif s.rx_index g packet p o →
     Runs (whole_delivery w.vif w.accepts s g packet) p (arrival s o)
 sends w s g packet p o f h t =
     let start = transmit w.vif s.rx_index g packet in

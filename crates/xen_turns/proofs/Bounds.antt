@@ -47,10 +47,10 @@ use Rattle.xen_rx_fill.specs.Entries.{entry}
 use Rattle.xen_turns.specs.Tree.{Left, Scan, look, seen, after_look, read_slot, read_slots, judged, after_scan, after_chain, after_copy, after_run, after_transmit, after_slots, send, answer, notice, respond, responses, answered, copy, entered, program, run_of, status_of, unless_halted, whole_turn}
 use Rattle.xen_steps.specs.Pages.{copy_words, covered}
 use Rattle.xen_rx_fill.specs.Transmit.{transmit}
-use Rattle.xen_rx_fill.specs.declared.by_event.phase.Outcome.{Outcome}
-use Rattle.xen_rx_fill.specs.declared.by_event.phase.Outcome.TheVariants as outcome
+use Rattle.xen_rx_fill.specs.declared.by_event.phase.TransmitOutcome.{TransmitOutcome}
+use Rattle.xen_rx_fill.specs.declared.by_event.phase.TransmitOutcome.TheVariants as outcome
 use Rattle.xen_turns.specs.Turned.{Ending, Turned, Refused, Ran}
-use Rattle.xen_turns.specs.declared.turn.Refusal.TheVariants as refusal
+use Rattle.xen_turns.specs.declared.turn.PacketRefusal.TheVariants as refusal
 use Rattle.xen_turns.specs.declared.state.State.{State}
 use Rattle.xen_turns.specs.declared.turn.Halt.{Halt}
 use Rattle.xen_turns.specs.declared.wiring.Wiring.{Wiring}
@@ -213,7 +213,7 @@ module _ (w : Wiring) (shapes : List Shape) (h : IsWired w.vif) where
       bounded_le within IsRead (read_slots w t left (slots ++ s ∷ [])) (3 * (24 - length (slots ++ s ∷ []))) (3 * (23 - length slots)) (bounded_slots t left (slots ++ s ∷ []) l) n))
       (omega arith)
 
-  bounded_after_transmit : (s : State) (slots : List Slot) (packet : List ℕ) (ops : ℕ) (o : Outcome) → length slots ≤ 23 → Bounded within Any (after_transmit w s slots packet ops o) 26
+  bounded_after_transmit : (s : State) (slots : List Slot) (packet : List ℕ) (ops : ℕ) (o : TransmitOutcome) → length slots ≤ 23 → Bounded within Any (after_transmit w s slots packet ops o) 26
   bounded_after_transmit s slots packet ops outcome.Overflow few = tt
   bounded_after_transmit s slots packet ops outcome.TooFew few = bounded_respond s slots status.Error (Refused refusal.FewSlots ops (length slots)) few
   bounded_after_transmit s slots packet ops (outcome.Refused used) few = bounded_respond (after_slots s used) slots status.Error (Refused refusal.RxGrant ops (length slots)) few

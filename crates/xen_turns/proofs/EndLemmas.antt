@@ -40,11 +40,11 @@ use Rattle.xen_steps.specs.Pages.{copy_words, covered}
 use Rattle.xen_turns.specs.Turned.{Ending, Turned, Ran, Refused}
 use Rattle.xen_turns.specs.Parts.{AllWords, IsCopy, behind, copied, denied, part}
 use Rattle.xen_rx_fill.specs.Transmit.{transmit}
-use Rattle.xen_rx_fill.specs.declared.by_event.phase.Outcome.{Outcome}
-use Rattle.xen_rx_fill.specs.declared.by_event.phase.Outcome.TheVariants as outcome
+use Rattle.xen_rx_fill.specs.declared.by_event.phase.TransmitOutcome.{TransmitOutcome}
+use Rattle.xen_rx_fill.specs.declared.by_event.phase.TransmitOutcome.TheVariants as outcome
 use Rattle.xen_turns.specs.declared.state.State.{State}
 use Rattle.xen_turns.specs.declared.turn.Halt.{Halt}
-use Rattle.xen_turns.specs.declared.turn.Refusal.TheVariants as refusal
+use Rattle.xen_turns.specs.declared.turn.PacketRefusal.TheVariants as refusal
 use Rattle.xen_turns.specs.declared.wiring.Wiring.{Wiring}
 use Rattle.xen_steps.specs.Drive.{Any}
 use Rattle.xen_turns.proofs.CopyParts.{copy_parts}
@@ -191,7 +191,7 @@ module _ (w : Wiring) where
       ends_bind Any Any (read_slot w (add32 t (length slots))) _ (tt, λ a x o. (tt, λ b y p. (tt, λ c z q. tt)))
       (λ s u. let r = standing_more slots s h in ends_judged (slots ++ s ∷ []) (standing (slots ++ s ∷ [])) (read_slots w t left (slots ++ s ∷ [])) r.0 r.1 (λ o. ends_slots t left (slots ++ s ∷ []) o))
 
-  ends_after_transmit : (s : State) (slots : List Slot) (packet : List ℕ) (ops : ℕ) (o : Outcome) → Ends Any (after_transmit w s slots packet ops o)
+  ends_after_transmit : (s : State) (slots : List Slot) (packet : List ℕ) (ops : ℕ) (o : TransmitOutcome) → Ends Any (after_transmit w s slots packet ops o)
   ends_after_transmit s slots packet ops outcome.Overflow = tt
   ends_after_transmit s slots packet ops outcome.TooFew = ends_respond s slots status.Error (Refused refusal.FewSlots ops (length slots))
   ends_after_transmit s slots packet ops (outcome.Refused used) = ends_respond (after_slots s used) slots status.Error (Refused refusal.RxGrant ops (length slots))

@@ -1,6 +1,6 @@
 -- How many accesses a turn makes at most.
 use Rattle.xen_netif.specs.declared.offload.RxOffload.TheVariants.{Whole}
-use Rattle.xen_rx_fill.specs.declared.by_event.phase.Outcome.{Outcome}
+use Rattle.xen_rx_fill.specs.declared.by_event.phase.TransmitOutcome.{TransmitOutcome}
 use Rattle.bpf_verify.specs.Consistent.{instructions}
 use Rattle.xen_steps.proofs.FigureLemmas.{HasAtMost, most_append, most_more}
 use Rattle.xen_rx_fill.proofs.Figures.{most_entry, most_notices, most_transmit}
@@ -306,7 +306,7 @@ module _ (w : Wiring) (s : State) where
   up : (p : List Event) (a b : ℕ) → HasAtMost p a b → a ≤ steps → b ≤ 2 → HasAtMost p steps 2
   up p a b h l m = most_more p a b steps 2 h l m
 
-  most_sent : (p p5 p6 : List Event) (slots : List Slot) (out : Left) (o : Outcome) (st : Status) → HasRun w s p slots out → IsTransmit w.vif s.rx_index Whole out.packet p5 o → IsRespond w s.tx_index slots st p6 →
+  most_sent : (p p5 p6 : List Event) (slots : List Slot) (out : Left) (o : TransmitOutcome) (st : Status) → HasRun w s p slots out → IsTransmit w.vif s.rx_index Whole out.packet p5 o → IsRespond w s.tx_index slots st p6 →
       HasAtMost (p ++ (p5 ++ p6)) steps 2
   most_sent p p5 p6 slots out o st a t g =
       up (p ++ (p5 ++ p6)) (steps + (0 + 0)) (0 + (1 + 1)) (most_append p (p5 ++ p6) steps 0 (0 + 0) (1 + 1) (most_run w s p slots out a)

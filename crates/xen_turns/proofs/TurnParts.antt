@@ -27,12 +27,12 @@ use Rattle.xen_rx_fill.specs.Shared.{notices}
 use Rattle.xen_rx_fill.specs.Transmit.{transmit}
 use Rattle.xen_turns.specs.Turns.{HasRun, IsTurn, still_halted, idle, overflown, short, broken, refused_sizes, refused_grant, ran, halted_rx, refused_few, refused_rx, ran_tx}
 use Rattle.xen_rx_fill.specs.Sending.{IsTransmit}
-use Rattle.xen_rx_fill.specs.declared.by_event.phase.Outcome.{Outcome}
-use Rattle.xen_rx_fill.specs.declared.by_event.phase.Outcome.TheVariants as outcome
+use Rattle.xen_rx_fill.specs.declared.by_event.phase.TransmitOutcome.{TransmitOutcome}
+use Rattle.xen_rx_fill.specs.declared.by_event.phase.TransmitOutcome.TheVariants as outcome
 use Rattle.xen_turns.specs.declared.state.State.{State}
 use Rattle.xen_turns.specs.declared.turn.Halt.{Halt}
 use Rattle.xen_turns.specs.declared.turn.Halt.TheVariants as halt
-use Rattle.xen_turns.specs.declared.turn.Refusal.TheVariants as refusal
+use Rattle.xen_turns.specs.declared.turn.PacketRefusal.TheVariants as refusal
 use Rattle.xen_turns.specs.declared.wiring.Wiring.{Wiring}
 use Rattle.xen_turns.proofs.CopyParts.{copy_parts}
 use Rattle.xen_turns.proofs.ProgramLemmas.{program_parts}
@@ -193,7 +193,7 @@ ended w s p r a b h t = subst (λ (z : Ending). IsTurn w s p z.0 z.1) h t
 
 -- the rows
 module _ (w : Wiring) (s : State) where
-  transmit_rows : (p p5 p6 : List Event) (slots : List Slot) (out : Left) (o : Outcome) (r : Ending) → HasRun w s p slots out → out.number ≡ 3 → IsTransmit w.vif s.rx_index Whole out.packet p5 o →
+  transmit_rows : (p p5 p6 : List Event) (slots : List Slot) (out : Left) (o : TransmitOutcome) (r : Ending) → HasRun w s p slots out → out.number ≡ 3 → IsTransmit w.vif s.rx_index Whole out.packet p5 o →
       Runs (after_transmit w s slots out.packet out.ops o) p6 r → IsTurn w s (p ++ (p5 ++ p6)) r.0 r.1
   transmit_rows p p5 [] slots out outcome.Overflow r a n t h = ended w s (p ++ (p5 ++ [])) r _ _ h (rw append-nil (halted_rx p p5 slots out a n t))
   transmit_rows p p5 (e ∷ p6) slots out outcome.Overflow r a n t h = absurd h

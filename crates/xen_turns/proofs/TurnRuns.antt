@@ -27,12 +27,12 @@ use Rattle.xen_rx_fill.specs.Shared.{notices}
 use Rattle.xen_rx_fill.specs.Transmit.{transmit}
 use Rattle.xen_turns.specs.Turns.{HasRun, IsTurn, still_halted, idle, overflown, short, broken, refused_sizes, refused_grant, ran, halted_rx, refused_few, refused_rx, ran_tx}
 use Rattle.xen_rx_fill.specs.Sending.{IsTransmit}
-use Rattle.xen_rx_fill.specs.declared.by_event.phase.Outcome.{Outcome}
-use Rattle.xen_rx_fill.specs.declared.by_event.phase.Outcome.TheVariants as outcome
+use Rattle.xen_rx_fill.specs.declared.by_event.phase.TransmitOutcome.{TransmitOutcome}
+use Rattle.xen_rx_fill.specs.declared.by_event.phase.TransmitOutcome.TheVariants as outcome
 use Rattle.xen_turns.specs.declared.state.State.{State}
 use Rattle.xen_turns.specs.declared.turn.Halt.{Halt}
 use Rattle.xen_turns.specs.declared.turn.Halt.TheVariants as halt
-use Rattle.xen_turns.specs.declared.turn.Refusal.TheVariants as refusal
+use Rattle.xen_turns.specs.declared.turn.PacketRefusal.TheVariants as refusal
 use Rattle.xen_turns.specs.declared.wiring.Wiring.{Wiring}
 use Rattle.xen_turns.proofs.CopyParts.{runs_copy}
 use Rattle.xen_turns.proofs.ProgramLemmas.{runs_program}
@@ -171,7 +171,7 @@ is_three n e = grind (arith, nat_tests)
 pub not_three : (n : ℕ) → n ≢ 3 → (n == 3) ≡ false
 not_three n e = grind (arith, nat_tests)
 
-transmit_runs : (w : Wiring) (s : State) (p p5 p6 : List Event) (slots : List Slot) (out : Left) (o : Outcome) (r : Ending) → HasRun w s p slots out → out.number ≡ 3 → IsTransmit w.vif s.rx_index Whole out.packet p5 o →
+transmit_runs : (w : Wiring) (s : State) (p p5 p6 : List Event) (slots : List Slot) (out : Left) (o : TransmitOutcome) (r : Ending) → HasRun w s p slots out → out.number ≡ 3 → IsTransmit w.vif s.rx_index Whole out.packet p5 o →
     Runs (after_transmit w s slots out.packet out.ops o) p6 r → Runs (whole_turn w s) (p ++ (p5 ++ p6)) r
 transmit_runs w s p p5 p6 slots out o r a n t h =
     run_runs w s p (p5 ++ p6) slots out r a

@@ -4,8 +4,8 @@ use Rattle.std.specs.Prelude.{ℕ}
 use Rattle.xen_netif.specs.Faults.{chain_fault_number, size_fault_number}
 use Rattle.xen_turns.specs.declared.turn.Halt.{Halt}
 use Rattle.xen_turns.specs.declared.turn.Halt.TheVariants as halt
-use Rattle.xen_turns.specs.declared.turn.Refusal.{Refusal}
-use Rattle.xen_turns.specs.declared.turn.Refusal.TheVariants as refusal
+use Rattle.xen_turns.specs.declared.turn.PacketRefusal.{PacketRefusal}
+use Rattle.xen_turns.specs.declared.turn.PacketRefusal.TheVariants as refusal
 
 abbrev pub halt_number : Halt → ℕ
 halt_number halt.TxProducer = 1
@@ -13,7 +13,7 @@ halt_number halt.ShortChain = 2
 halt_number (halt.Chain fault) = chain_fault_number fault
 halt_number halt.RxProducer = 6
 
-abbrev pub refusal_number : Refusal → ℕ
+abbrev pub refusal_number : PacketRefusal → ℕ
 refusal_number (refusal.Size fault) = size_fault_number fault
 refusal_number refusal.Grant = 4
 refusal_number refusal.FewSlots = 6

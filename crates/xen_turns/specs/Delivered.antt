@@ -6,7 +6,7 @@ use Rattle.xen_netif.specs.declared.offload.Accepts.{Accepts}
 use Rattle.xen_netif.specs.declared.offload.RxOffload.{RxOffload}
 use Rattle.xen_steps.specs.Event.{Event}
 use Rattle.xen_rx_fill.specs.Sending.{IsTransmit}
-use Rattle.xen_rx_fill.specs.declared.by_event.phase.Outcome.TheVariants as outcome
+use Rattle.xen_rx_fill.specs.declared.by_event.phase.TransmitOutcome.TheVariants as outcome
 use Rattle.xen_turns.specs.Responses.{after_slots}
 use Rattle.xen_turns.specs.declared.delivery.delivering.Delivery.{Delivery}
 use Rattle.xen_turns.specs.declared.delivery.delivering.Delivery.TheVariants as delivery

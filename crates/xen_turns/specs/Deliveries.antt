@@ -8,8 +8,8 @@ use Rattle.xen_steps.specs.Drive.{IsPageWant, IsPageWant-prop}
 use Rattle.xen_steps.specs.Finish.{Finishes, Finishes-prop}
 use Rattle.xen_steps.specs.Steps.{Steps, bind, done}
 use Rattle.xen_rx_fill.specs.Transmit.{transmit}
-use Rattle.xen_rx_fill.specs.declared.by_event.phase.Outcome.{Outcome}
-use Rattle.xen_rx_fill.specs.declared.by_event.phase.Outcome.TheVariants as outcome
+use Rattle.xen_rx_fill.specs.declared.by_event.phase.TransmitOutcome.{TransmitOutcome}
+use Rattle.xen_rx_fill.specs.declared.by_event.phase.TransmitOutcome.TheVariants as outcome
 use Rattle.xen_rx_fill.specs.declared.vif.Vif.{Vif}
 use Rattle.xen_turns.specs.Delivered.{is_frame}
 use Rattle.xen_turns.specs.Responses.{after_slots}
@@ -24,13 +24,13 @@ abbrev pub Arrival : Type 0
 Arrival = State × Delivery
 
 -- What a transmit of the host's packet comes to.
-abbrev pub arrival : State → Outcome → Arrival
+abbrev pub arrival : State → TransmitOutcome → Arrival
 arrival s outcome.Overflow = (record s { halt = Some halt.RxProducer }, delivery.Halted halt.RxProducer)
 arrival s outcome.TooFew = (s, delivery.FewSlots)
 arrival s (outcome.Refused used) = (after_slots s used, delivery.Refused used)
 arrival s (outcome.Sent used) = (after_slots s used, delivery.Sent used)
 
-abbrev pub arrived : State → Outcome → Steps Arrival
+abbrev pub arrived : State → TransmitOutcome → Steps Arrival
 arrived s o = done (arrival s o)
 
 abbrev pub unless_halted : Vif → State → RxOffload → List ℕ → Option Halt → Steps Arrival

@@ -25,12 +25,12 @@ use Rattle.xen_rx_fill.specs.Places.{tx_slot, tx_word}
 use Rattle.xen_steps.specs.Steps.{Steps, done, ask, never, bind}
 use Rattle.xen_rx_fill.specs.Transmit.{transmit}
 use Rattle.xen_turns.specs.Turned.{Ending, Turned, Idle, Ran, Refused, Halted}
-use Rattle.xen_rx_fill.specs.declared.by_event.phase.Outcome.{Outcome}
-use Rattle.xen_rx_fill.specs.declared.by_event.phase.Outcome.TheVariants as outcome
+use Rattle.xen_rx_fill.specs.declared.by_event.phase.TransmitOutcome.{TransmitOutcome}
+use Rattle.xen_rx_fill.specs.declared.by_event.phase.TransmitOutcome.TheVariants as outcome
 use Rattle.xen_turns.specs.declared.state.State.{State}
 use Rattle.xen_turns.specs.declared.turn.Halt.{Halt}
 use Rattle.xen_turns.specs.declared.turn.Halt.TheVariants as halt
-use Rattle.xen_turns.specs.declared.turn.Refusal.TheVariants as refusal
+use Rattle.xen_turns.specs.declared.turn.PacketRefusal.TheVariants as refusal
 use Rattle.xen_steps.specs.declared.want.Want.TheVariants as want
 use Rattle.xen_turns.specs.declared.wiring.Wiring.{Wiring}
 pub use Rattle.xen_turns.specs.Responses.{Left, answered, after_slots, response, responses, status_of}
@@ -116,7 +116,7 @@ program (Loading m k j to) ops = ask (want.Load m k j) (λ v. program (to v) (op
 program (Adding m k j delta to) ops = ask (want.Add m k j delta) (λ v. program (to v) (ops + 1))
 program Broken ops = never
 
-abbrev pub after_transmit : Wiring → State → List Slot → List ℕ → ℕ → Outcome → Steps Ending
+abbrev pub after_transmit : Wiring → State → List Slot → List ℕ → ℕ → TransmitOutcome → Steps Ending
 after_transmit w s slots packet ops outcome.Overflow = halted s halt.RxProducer
 after_transmit w s slots packet ops outcome.TooFew = respond w s slots status.Error (Refused refusal.FewSlots ops (length slots))
 after_transmit w s slots packet ops (outcome.Refused used) = respond w (after_slots s used) slots status.Error

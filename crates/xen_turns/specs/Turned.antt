@@ -4,7 +4,7 @@ use Rattle.std.specs.Prelude.{ℕ, ◌≡◌, ◌≤◌, List, length}
 use Rattle.bpf_vm.specs.Actions.{action_of}
 use Rattle.xen_turns.specs.declared.state.State.{State}
 use Rattle.xen_turns.specs.declared.turn.Halt.{Halt}
-use Rattle.xen_turns.specs.declared.turn.Refusal.{Refusal}
+use Rattle.xen_turns.specs.declared.turn.PacketRefusal.{PacketRefusal}
 use Rattle.xen_turns.specs.declared.turn.Kind.{Kind}
 use Rattle.xen_turns.specs.declared.turn.Kind.TheVariants as kind
 use Rattle.xen_turns.specs.declared.turn.Turn.{Turn}
@@ -13,7 +13,7 @@ use Rattle.xen_turns.specs.declared.turn.Turn.TheVariants as turn
 pub data Turned : Type 0 where
   Idle : Turned
   Ran : (number : ℕ) → (packet : List ℕ) → (ops slots : ℕ) → Turned
-  Refused : (cause : Refusal) → (ops slots : ℕ) → Turned
+  Refused : (cause : PacketRefusal) → (ops slots : ℕ) → Turned
   Halted : (cause : Halt) → Turned
 
 -- the state and the turn that a turn ends in

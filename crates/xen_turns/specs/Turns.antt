@@ -14,11 +14,11 @@ use Rattle.xen_netif.specs.declared.offload.RxOffload.TheVariants.{Whole}
 use Rattle.xen_rx_fill.specs.Sending.{IsTransmit}
 use Rattle.xen_turns.specs.Responses.{Left, answered, after_slots, status_of}
 use Rattle.xen_turns.specs.Turned.{Turned, Idle, Ran, Refused, Halted}
-use Rattle.xen_rx_fill.specs.declared.by_event.phase.Outcome.TheVariants as outcome
+use Rattle.xen_rx_fill.specs.declared.by_event.phase.TransmitOutcome.TheVariants as outcome
 use Rattle.xen_turns.specs.declared.state.State.{State}
 use Rattle.xen_turns.specs.declared.turn.Halt.{Halt}
 use Rattle.xen_turns.specs.declared.turn.Halt.TheVariants as halt
-use Rattle.xen_turns.specs.declared.turn.Refusal.TheVariants as refusal
+use Rattle.xen_turns.specs.declared.turn.PacketRefusal.TheVariants as refusal
 use Rattle.xen_turns.specs.declared.wiring.Wiring.{Wiring}
 
 -- A packet was copied, and the program ran on it.

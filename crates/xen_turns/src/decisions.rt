@@ -11,10 +11,10 @@ ghost use Rattle.xen_steps.specs.Places.{add32};
 pub use crate::delivery::delivering::{can_be_delivered, delivered};
 pub use crate::delivery::wait::wait_answer;
 use crate::state::State;
-use crate::turn::{Halt, Kind, Refusal};
+use crate::turn::{Halt, Kind, PacketRefusal};
 use bpf_vm::{XDP_DROP, XDP_PASS, XDP_TX};
 use xen_netif::{Chain, Status, TxReq, TxRsp};
-use xen_rx_fill::Outcome;
+use xen_rx_fill::TransmitOutcome;
 
 /// The status of the responses to a packet that isn't sent back, by the number that the program ended with.
 pub fn status(number: u32) -> Status
@@ -92,32 +92,37 @@ pub struct Reply {
     pub kind: Kind,
 }
 
-/// What follows a transmit: an answer to the packet's chain, or a halt.
-pub fn after_sending(state: &State, ops: u32, slots: u32, outcome: Outcome) -> Result<Reply, Halt>
+/// Returns what follows a transmit: an answer to the packet's chain, or a halt.
+pub fn after_sending(
+    state: &State,
+    ops: u32,
+    slots: u32,
+    outcome: TransmitOutcome,
+) -> Result<Reply, Halt>
     ensures { (w : WiringView) → (chain : List Slot) → (packet : List ℕ) → length chain ≡ slots →
         after_transmit w state.now chain packet ops outcome ≡ after_reply w state.now chain packet result }
 {
     match outcome {
-        Outcome::Overflow => Err(Halt::RxProducer),
-        Outcome::TooFew => Ok(Reply {
+        TransmitOutcome::Overflow => Err(Halt::RxProducer),
+        TransmitOutcome::TooFew => Ok(Reply {
             at: *state,
             status: Status::Error,
             kind: Kind::Refused {
-                cause: Refusal::FewSlots,
+                cause: PacketRefusal::FewSlots,
                 ops,
                 slots,
             },
         }),
-        Outcome::Refused(used) => Ok(Reply {
+        TransmitOutcome::Refused(used) => Ok(Reply {
             at: after_slots(state, used),
             status: Status::Error,
             kind: Kind::Refused {
-                cause: Refusal::RxGrant,
+                cause: PacketRefusal::RxGrant,
                 ops,
                 slots,
             },
         }),
-        Outcome::Sent(used) => Ok(Reply {
+        TransmitOutcome::Sent(used) => Ok(Reply {
             at: after_slots(state, used),
             status: Status::Okay,
             kind: Kind::Ran {

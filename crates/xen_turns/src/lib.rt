@@ -18,5 +18,5 @@ mod wiring;
 pub use delivery::delivering::Delivery;
 pub use delivery::wait::Awaited;
 pub use state::State;
-pub use turn::{Halt, Kind, Refusal, Turn};
+pub use turn::{Halt, Kind, PacketRefusal, Turn};
 pub use wiring::Wiring;

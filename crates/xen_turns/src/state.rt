@@ -9,6 +9,6 @@ pub struct State {
     pub tx_index: u32,
     /// The index up to which rx requests are answered.
     pub rx_index: u32,
-    /// Why the queue has halted, if it has.
+    /// The reason why the queue has halted, if it has.
     pub halt: Option<Halt>,
 }

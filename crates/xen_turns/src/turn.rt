@@ -6,7 +6,7 @@ ghost use Rattle.xen_turns.specs.Causes.{halt_number, refusal_number};
 use bpf_vm::Action;
 use xen_netif::{ChainFault, SizeFault};
 
-/// Why a queue has halted.
+/// The reason why a queue has halted.
 #[derive(Clone, Copy, Debug, PartialEq, Eq)]
 pub enum Halt {
     /// The tx ring's producer is more than a whole ring ahead.
@@ -19,9 +19,9 @@ pub enum Halt {
     RxProducer,
 }
 
-/// Why a packet is refused.
+/// The reason why a packet is refused.
 #[derive(Clone, Copy, Debug, PartialEq, Eq)]
-pub enum Refusal {
+pub enum PacketRefusal {
     /// The chain has an extra, or its sizes are wrong.
     Size(SizeFault),
     /// A fragment's grant failed its check.
@@ -47,7 +47,7 @@ pub enum Turn<'t> {
     },
     /// The packet was refused, and its slots were answered with ERROR.
     Refused {
-        cause: Refusal,
+        cause: PacketRefusal,
         ops: u32,
         slots: u32,
     },
@@ -67,7 +67,7 @@ pub enum Kind {
         slots: u32,
     },
     Refused {
-        cause: Refusal,
+        cause: PacketRefusal,
         ops: u32,
         slots: u32,
     },
@@ -90,16 +90,16 @@ impl Halt {
     }
 }
 
-impl Refusal {
+impl PacketRefusal {
     /// The cause's number in reports.
     pub fn number(self) -> u8
         ensures { result ≡ refusal_number self }
     {
         match self {
-            Refusal::Size(fault) => fault.number(),
-            Refusal::Grant => 4,
-            Refusal::FewSlots => 6,
-            Refusal::RxGrant => 7,
+            PacketRefusal::Size(fault) => fault.number(),
+            PacketRefusal::Grant => 4,
+            PacketRefusal::FewSlots => 6,
+            PacketRefusal::RxGrant => 7,
         }
     }
 }

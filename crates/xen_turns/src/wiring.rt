@@ -5,16 +5,17 @@ use bpf_verify::Verified;
 use xen_netif::{Accepts, Offers};
 use xen_rx_fill::Vif;
 
-/// What a queue shares with its frontend and offers it, and its program with the lists of its maps and the numbers that it sees.
+/// The parts that a queue shares with its frontend, its offers, and its program with the lists of its maps and the numbers that it
+/// sees.
 #[derive(Clone, Copy)]
 pub struct Wiring<'p> {
     pub vif: Vif<'p>,
     pub offers: Offers,
-    /// What the frontend accepts of the host's packets.
+    /// The offloads that the frontend accepts of the host's packets.
     pub accepts: Accepts,
     pub program: &'p Verified,
-    /// What is given for the maps that are no arrays, by the maps' numbers. A map without rows finds nothing, and one without
-    /// constants reads 0.
+    /// The lists that are given for the maps that are no arrays, by the maps' numbers. A map without rows finds nothing, and one
+    /// without constants reads 0.
     pub lists: &'p [Option<MapList>],
     pub ifindex: u32,
     pub queue: u32,

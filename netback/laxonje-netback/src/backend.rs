@@ -5,7 +5,7 @@ use crate::device::{told, Device, Id, Shared};
 use crate::ffi::SIGHUP;
 use crate::guests::{Guests, News, Report};
 use crate::keys;
-use crate::log::Log;
+use crate::log::{plain, Log};
 use crate::options::Options;
 use crate::os::{allow_priority, keep_capabilities, lock, restrict_to_service, wait_for_all, Keeps, Signals, Wanted, FROM_USERS};
 use crate::stats;
@@ -37,6 +37,8 @@ pub struct Backend {
     log: Log,
     /// Devices that aren't served, and lines about them.
     wrong: BTreeMap<Id, String>,
+    /// Lines about list files that nothing reads.
+    unread: Vec<String>,
     /// Devices that the kernel's xen-netback hasn't bound, and when they may be taken.
     unbound: BTreeMap<Id, Instant>,
     looked: Instant,
@@ -61,8 +63,8 @@ impl Backend {
         }
         store.watch(BACKENDS, TOKEN)?;
         let shared = Shared { store, options, guests: RefCell::new(guests), filters: RefCell::default() };
-        let (devices, wrong, unbound, looked) = (BTreeMap::new(), BTreeMap::new(), BTreeMap::new(), Instant::now());
-        Ok(Backend { shared, control, signals, devices, log, wrong, unbound, looked })
+        let (devices, wrong, unread, unbound, looked) = (BTreeMap::new(), BTreeMap::new(), Vec::new(), BTreeMap::new(), Instant::now());
+        Ok(Backend { shared, control, signals, devices, log, wrong, unread, unbound, looked })
     }
 
     /// Serves until a signal says to end. Guests stay connected: their packets wait for the next process.
@@ -166,7 +168,9 @@ impl Backend {
     }
 
     fn find(&mut self, id: Id) {
-        match Device::find(&self.shared, id) {
+        let found = Device::find(&self.shared, id);
+        self.say_unread();
+        match found {
             Ok(Some(device)) => {
                 self.wrong.remove(&id);
                 self.devices.insert(id, device);
@@ -180,6 +184,13 @@ impl Backend {
                 }
             }
         }
+    }
+
+    /// Says once which list files nothing reads.
+    fn say_unread(&mut self) {
+        let unread = self.shared.filters.borrow().unread();
+        unread.iter().filter(|line| !self.unread.contains(line)).for_each(|line| self.log.line(line));
+        self.unread = unread;
     }
 
     /// The process of a guest that has no device ends.
@@ -231,12 +242,14 @@ impl Backend {
         }
     }
 
-    /// What was done: a line for each device whose filter is another now, or would be.
+    /// What was done: a line for each device whose filter is another now, or would be, and for each list file that nothing reads.
     fn reload(&mut self) -> String {
+        self.shared.filters.borrow_mut().look_again();
         let lines: Vec<_> = self.devices.values_mut().filter_map(|device| device.reload(&self.shared)).collect();
         let wrong: BTreeSet<Id> = self.wrong.keys().copied().collect();
         self.follow(wrong);
-        lines.iter().map(|line| format!("{line}\n")).collect()
+        self.say_unread();
+        lines.iter().chain(&self.unread).map(|line| plain(line) + "\n").collect()
     }
 
     fn answer(&mut self) {

@@ -1,7 +1,7 @@
 //! Filters: which settings file a device has, and the program of it.
 use crate::ffi::O_NONBLOCK;
 use crate::lists::{self, ListError};
-use crate::settings::Settings;
+use crate::settings::{begins_above_0, Settings};
 use laxonje::{LoadError, Offers, Program};
 use std::collections::BTreeMap;
 use std::error::Error;
@@ -38,6 +38,8 @@ pub enum FilterError {
     Read(PathBuf, io::Error),
     Load(PathBuf, LoadError),
     List(PathBuf, ListError),
+    /// Its counters are to begin with other numbers than 0, which those of queues don't.
+    Begins(PathBuf),
     /// None of these is there.
     None(Vec<PathBuf>),
 }
@@ -56,6 +58,9 @@ impl fmt::Display for FilterError {
                 }
             }
             FilterError::List(path, error) => write!(to, "{}: {error}", path.display()),
+            FilterError::Begins(path) => {
+                write!(to, "{}: it gives counters numbers to begin with (values), and here they begin with 0", path.display())
+            }
             FilterError::None(paths) => {
                 let names: Vec<_> = paths.iter().map(|path| path.display().to_string()).collect();
                 write!(to, "there is no filter: none of {}", names.join(", "))
@@ -111,6 +116,8 @@ pub fn relisted(program: &Program, text: &[u8]) -> Option<Program> {
 pub struct Filters {
     known: BTreeMap<PathBuf, Known>,
     next: u64,
+    /// By settings file the list files that are of none of its maps.
+    unread: BTreeMap<PathBuf, Vec<PathBuf>>,
 }
 
 /// The last text of a file that was accepted, and one since then that wasn't.
@@ -136,9 +143,20 @@ impl Filters {
             None => return Err(FilterError::None(places)),
         };
         let text = whole(path)?;
+        self.unread.insert(path.clone(), unread_lists(path, &text));
         let known = self.known.get(path).and_then(|known| known.of(&text));
         let filter = known.unwrap_or_else(|| self.learn(path, text));
         filter.map_err(|error| FilterError::Load(path.clone(), error))
+    }
+
+    /// All files are looked at again: what was said of list files holds no longer.
+    pub fn look_again(&mut self) {
+        self.unread.clear();
+    }
+
+    /// What there is to say of list files that nothing reads, a line each.
+    pub fn unread(&self) -> Vec<String> {
+        self.unread.iter().flat_map(|(settings, files)| files.iter().map(|file| unread_line(settings, file))).collect()
     }
 
     fn learn(&mut self, path: &Path, text: Vec<u8>) -> Result<Rc<Filter>, LoadError> {
@@ -161,6 +179,9 @@ fn whole(path: &Path) -> Result<Vec<u8>, FilterError> {
         Ok(plain) => plain,
         Err(_) => return Ok(text), // which is refused
     };
+    if begins_above_0(plain) {
+        return Err(FilterError::Begins(path.to_owned()));
+    }
     let mut all = Vec::new();
     for name in lists::names(plain) {
         if let Some(place) = lists::place(path, &name).filter(|place| is_there(place)) {
@@ -170,6 +191,15 @@ fn whole(path: &Path) -> Result<Vec<u8>, FilterError> {
         }
     }
     Ok(lists::with_rows(plain, &all).into_bytes())
+}
+
+/// The list files beside a settings file that are of none of its maps: their names may be misspelt.
+pub fn unread_lists(path: &Path, text: &[u8]) -> Vec<PathBuf> {
+    lists::unread(path, &lists::names(&String::from_utf8_lossy(text)))
+}
+
+pub fn unread_line(settings: &Path, file: &Path) -> String {
+    format!("{} isn't read: {} has no map of that name", file.display(), settings.display())
 }
 
 /// Whether there is a file, or a link to one: one that leads nowhere is refused when it is read, as is one that can't be looked at.

@@ -19,6 +19,8 @@ const MOST_BYTES: usize = 64;
 pub enum ListError {
     /// The file is too long.
     Long,
+    /// The file has no byte: whoever writes it may have begun just now, or failed.
+    Empty,
     /// The line of this number is no row, and why.
     Line(usize, String),
     /// The settings don't say in lines of their own what the map of this name is, or it has no keys.
@@ -29,6 +31,7 @@ impl fmt::Display for ListError {
     fn fmt(&self, to: &mut fmt::Formatter<'_>) -> fmt::Result {
         match self {
             ListError::Long => write!(to, "more than {MOST_TEXT} bytes"),
+            ListError::Empty => to.write_str("the file is empty: a list without a row is a line with a comment"),
             ListError::Line(number, why) => write!(to, "line {number}: {why}"),
             ListError::Map(name) => write!(to, "the settings have no list {name} below a line [[map]]"),
         }
@@ -40,6 +43,25 @@ pub fn place(settings: &Path, name: &str) -> Option<PathBuf> {
     let stem = settings.file_stem()?.to_str()?;
     let is_plain = !name.is_empty() && !name.contains(&['/', '\0'][..]);
     is_plain.then(|| settings.with_file_name(format!("{stem}.{name}.list")))
+}
+
+/// The list files beside settings that are of none of their maps, which have these names, nor of other settings: of web.0.hosts.list these are
+/// web.0.toml, if it is there.
+pub fn unread(settings: &Path, names: &BTreeSet<String>) -> Vec<PathBuf> {
+    let stem = settings.file_stem().and_then(|stem| stem.to_str()).map(|stem| format!("{stem}.")).unwrap_or_default();
+    let entries = settings.parent().and_then(|folder| folder.read_dir().ok()).into_iter().flatten().flatten();
+    let is_of_others = |name: &str| {
+        let mut parts = name.match_indices('.').map(|(end, _)| settings.with_file_name(format!("{stem}{}.toml", &name[..end])));
+        parts.any(|other| other.exists())
+    };
+    let is_unread = |path: &PathBuf| {
+        let file = path.file_name().and_then(|file| file.to_str());
+        let name = file.and_then(|file| file.strip_prefix(&stem)?.strip_suffix(".list"));
+        name.map_or(false, |name| !names.contains(name) && !is_of_others(name))
+    };
+    let mut files: Vec<_> = entries.map(|entry| entry.path()).filter(is_unread).collect();
+    files.sort();
+    files
 }
 
 /// What the keys of a list are.
@@ -137,6 +159,9 @@ pub fn names(text: &str) -> BTreeSet<String> {
 pub fn rows(text: &str, name: &str, lines: &str) -> Result<String, ListError> {
     if lines.len() as u64 > MOST_TEXT {
         return Err(ListError::Long);
+    }
+    if lines.is_empty() {
+        return Err(ListError::Empty);
     }
     let table = tables(text).into_iter().find(|table| table.name == name);
     table.ok_or_else(|| ListError::Map(name.to_owned()))?.rows_of(lines)

@@ -12,6 +12,11 @@ const EACH: Duration = Duration::from_secs(10);
 /// Takes whom a line is about, and its text.
 pub type Sink = Box<dyn Fn(&str, &str) + Send>;
 
+/// A text in one line: what isn't plain text in it is replaced.
+pub fn plain(text: &str) -> String {
+    text.chars().map(|one| if one.is_control() { '?' } else { one }).collect()
+}
+
 /// Where lines go. `None`: to standard error.
 static SINK: Mutex<Option<Sink>> = Mutex::new(None);
 
@@ -34,7 +39,7 @@ impl Log {
 
     /// Writes a line. What isn't plain text in it, which a guest may have written, is replaced.
     pub fn line(&self, text: &str) {
-        let plain: String = text.chars().map(|one| if one.is_control() { '?' } else { one }).take(500).collect();
+        let plain: String = plain(text).chars().take(500).collect();
         match &*SINK.lock().unwrap_or_else(PoisonError::into_inner) {
             Some(sink) => sink(&self.about, &plain),
             None => drop(writeln!(std::io::stderr(), "laxonje-netback: {}: {plain}", self.about)),

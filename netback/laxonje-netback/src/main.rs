@@ -21,8 +21,9 @@ mod stats;
 mod xen;
 
 use backend::Backend;
-use filters::Filter;
+use filters::{unread_line, unread_lists, Filter};
 use laxonje::Offers;
+use log::plain;
 use options::{Command, Options};
 use std::io::{self, Write};
 use std::path::Path;
@@ -74,10 +75,11 @@ fn check(file: &Path) -> Result<(), String> {
         .map_names()
         .iter()
         .zip(filter.program.maps())
-        .map(|(name, map)| format!(", map {name} {}x{}", map.entries, map.counters))
+        .map(|(name, map)| format!(", map {} {}x{}", plain(name), map.entries, map.counters))
         .collect();
     let gso = if filter.offers == Offers::ALL { "" } else { ", gso = false" };
-    say(&format!("accepted, {} instructions{}{gso}\n", filter.program.instructions(), maps.concat()))
+    let unread: String = unread_lists(file, &filter.text).iter().map(|list| plain(&unread_line(file, list)) + "\n").collect();
+    say(&format!("accepted, {} instructions{}{gso}\n{unread}", filter.program.instructions(), maps.concat()))
 }
 
 fn serve(options: Options) -> Result<(), String> {

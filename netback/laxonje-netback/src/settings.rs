@@ -4,6 +4,8 @@ use laxonje::Offers;
 use std::borrow::Cow;
 
 const KEY: &[u8] = b"gso";
+/// The key of a map whose counters begin with other numbers than 0.
+const BEGINNINGS: &str = "values";
 
 /// A settings text.
 #[derive(Debug)]
@@ -25,6 +27,37 @@ impl Settings<'_> {
             None => Settings { offers: Offers::ALL, text: Cow::Borrowed(text) },
         }
     }
+}
+
+/// Whether a text says that counters begin with other numbers than 0 (`values`), as `xdpbox` has it. Here they begin with 0.
+pub fn begins_above_0(text: &str) -> bool {
+    let is_above_0 =
+        |list: &str| list.split(']').next().unwrap_or_default().contains(|digit: char| digit != '0' && digit.is_ascii_hexdigit());
+    without_texts(text).split(BEGINNINGS).skip(1).any(|rest| rest.trim_start().strip_prefix('=').map_or(false, is_above_0))
+}
+
+/// A text without comments, and without texts in quotes but for those that are the key.
+fn without_texts(text: &str) -> String {
+    let (mut out, mut rest) = (String::new(), text);
+    while let Some(at) = rest.find(&['#', '"', '\''][..]) {
+        let (before, quote, behind) = (&rest[..at], &rest[at..at + 1], &rest[at + 1..]);
+        let end = if quote == "#" { behind.find('\n').unwrap_or(behind.len()) } else { end_of_text(behind, quote) };
+        let is_key = quote != "#" && &behind[..end] == BEGINNINGS;
+        out.extend([before, if is_key { BEGINNINGS } else { " " }]);
+        rest = behind.get(end + usize::from(quote != "#")..).unwrap_or_default();
+    }
+    out + rest
+}
+
+/// Where a text in these quotes ends, which begins here.
+fn end_of_text(text: &str, quote: &str) -> usize {
+    let mut is_escaped = false;
+    let ends = |(_, one): &(usize, char)| {
+        let is_end = !is_escaped && quote.starts_with(*one);
+        is_escaped = !is_escaped && *one == '\\' && quote == "\"";
+        is_end
+    };
+    text.char_indices().find(ends).map_or(text.len(), |(at, _)| at)
 }
 
 /// The first line that says anything, without its end, and where it starts.
@@ -64,6 +97,35 @@ fn value(line: &[u8]) -> Option<bool> {
 #[cfg(test)]
 mod tests {
     use super::*;
+
+    #[test]
+    fn counters_that_begin_above_0_are_seen_wherever_it_is_said() {
+        let map = |line: &str| format!("program = []\n[[map]]\nname = \"a\"\nentries = 4\n{line}\n");
+        for line in [
+            "values = [7]",
+            "values=[\n  0, # none\n  0x1f,\n]",
+            "\"values\" = [0, 1]",
+            "  'values'\t= [ 5 ]",
+            "counters = 1 # x\nvalues = [9]",
+        ] {
+            assert!(begins_above_0(&map(line)), "{line}");
+        }
+        assert!(begins_above_0("map = [{ name = \"a # \\\" b\", entries = 1, values = [2] }]"));
+        for line in [
+            "",
+            "values = []",
+            "values = [0, 0]\nentries = 9",
+            "# values = [7]",
+            "rows = [\"values = [7]\"]",
+            "key = 'values' # = [7]",
+            "rows = [\"07\"]",
+        ] {
+            assert!(!begins_above_0(&map(line)), "{line}");
+        }
+        for text in ["\"", "'", "#", "\"\\", "values", "values =", "\u{e9}\"\u{e9}"] {
+            assert!(!begins_above_0(text), "{text}");
+        }
+    }
 
     #[test]
     fn the_key_is_the_first_line() {

@@ -1,4 +1,5 @@
 //! What is counted of a queue, and how it is told: as text, and as JSON.
+use crate::log::plain;
 use laxonje::{Halt, MapSize, Program, Refusal};
 use std::fmt::Write;
 use std::sync::atomic::{AtomicU64, Ordering::Relaxed};
@@ -204,11 +205,12 @@ impl DeviceStats {
     }
 }
 
-/// The devices as lines of text.
+/// The devices as lines of text. A name is part of one line, whoever chose it.
 pub fn text(devices: &[DeviceStats]) -> String {
     let mut out = String::new();
     for device in devices {
-        let DeviceStats { domain, device: number, guest, interface, state, filter, queues, .. } = device;
+        let DeviceStats { domain, device: number, interface, state, queues, .. } = device;
+        let (guest, filter) = (plain(&device.guest), plain(&device.filter));
         let _ = writeln!(out, "{interface}: domain {domain} ({guest}) device {number}, {state}, queues {queues}, filter {filter}");
         for (name, value) in &device.totals {
             let _ = writeln!(out, "  {} {value}", name.replace('_', "-"));
@@ -226,8 +228,9 @@ pub fn text(devices: &[DeviceStats]) -> String {
             let _ = writeln!(out, "  halted {cause} {count} ({})", Halt(*cause));
         }
         for map in &device.maps {
+            let name = plain(&map.name);
             for (entry, counter, value) in &map.values {
-                let _ = writeln!(out, "  counter {} {entry} {counter} {value}", map.name);
+                let _ = writeln!(out, "  counter {name} {entry} {counter} {value}");
             }
         }
     }
@@ -331,7 +334,16 @@ mod tests {
             text.contains("  refused 4 2 (a slot's grant failed its check)\n  halted 1 1 (the tx producer is more than a ring ahead)\n")
         );
         assert!(text.contains("  rings 0 tx 7 6 rx 9 4\n  rings 1 unknown"));
-        assert!(text.ends_with("17 0 9\n"));
+        assert!(text.ends_with("\n  counter a \"b\"? 17 0 9\n"));
+    }
+
+    #[test]
+    fn a_name_is_no_line_of_another_device() {
+        let lie = "x 0 0 1\nvif9.0: domain 9 (other) device 0, connected, queues 1, filter none\n  passed 77\n  counter y".to_owned();
+        let mut device = device();
+        (device.maps[0].name, device.guest, device.filter) = (lie.clone(), lie.clone(), lie);
+        let text = text(&[device]);
+        assert!(!text.contains("\nvif9.0: ") && !text.contains("\n  passed 77"), "{text}");
     }
 
     #[test]

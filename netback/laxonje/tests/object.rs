@@ -12,7 +12,10 @@
 //!     return actions[ip->protocol];
 //! }
 //! ```
+mod packets;
+
 use laxonje::{Action, LoadError, MapSize, ObjectCause, Program};
+use packets::udp;
 
 const COUNT: &str = include_str!("count-protocols.hex");
 
@@ -22,13 +25,6 @@ fn object(hex: &str) -> Vec<u8> {
     let digits: Vec<u8> = hex.bytes().filter(u8::is_ascii_hexdigit).collect();
     let byte = |pair: &[u8]| u8::from_str_radix(core::str::from_utf8(pair).unwrap(), 16).unwrap();
     digits.chunks(2).map(byte).collect()
-}
-
-fn udp() -> Vec<u8> {
-    let mut packet = vec![0; 60];
-    packet[12..15].copy_from_slice(&[8, 0, 0x45]);
-    packet[23] = 17;
-    packet
 }
 
 #[test]

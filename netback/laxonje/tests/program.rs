@@ -1,19 +1,14 @@
 //! Programs: accepted, refused with a cause, run, handed to another thread.
+mod packets;
+
 use laxonje::{Action, Cause, Extent, Fault, LoadError, MapSize, Outcome, Packet, Program, Queue, Setup};
+use packets::udp;
 use std::ops::Range;
 use std::sync::Arc;
 
 /// r0 = 2; exit.
 const PASS: [u8; 16] = [0xb7, 0, 0, 0, 2, 0, 0, 0, 0x95, 0, 0, 0, 0, 0, 0, 0];
 const COUNT: &str = include_str!("count-protocols.toml");
-
-/// An Ethernet frame with IPv4 whose protocol is UDP.
-fn udp() -> Vec<u8> {
-    let mut packet = vec![0; 60];
-    packet[12..15].copy_from_slice(&[8, 0, 0x45]);
-    packet[23] = 17;
-    packet
-}
 
 #[test]
 fn a_program_is_accepted_and_run() {

@@ -19,6 +19,8 @@ rt: top NOT PROVED
 # What the gate's parts call.
 PARTS = re.findall(r"^(?:part|one) .*?tools/([\w/-]+)", (ROOT / ".ci/run").read_text(), re.MULTILINE)
 
+SHARED = ("progress", "proving", "others-enter", "laxonje_tools.py")
+
 
 class Gate:
     """A repository of three crates with the gate of this one, whose parts are stubs."""
@@ -27,12 +29,12 @@ class Gate:
         self.folder = pathlib.Path(folder, "repository")
         self.beside = pathlib.Path(folder, "bin")
         self.beside.mkdir()
-        for name in (".ci/run", "tools/progress", "tools/proving", "tools/laxonje_tools/repository.py", "tools/others-enter", "tools/commit"):
+        for name in (".ci/run", "tools/commit", "tools/laxonje_tools/repository.py", *(f"tools/parts/{it}" for it in SHARED)):
             (self.folder / name).parent.mkdir(parents=True, exist_ok=True)
             shutil.copy(ROOT / name, self.folder / name)
         for name in PARTS:
             self.part(name, f"echo '{name}: a line'\necho '3 passed, 0 failed'")
-        self.part("link-aligned", 'echo program > "$2"')
+        self.part("parts/link-aligned", 'echo program > "$2"')
         self.part("build-host", 'mkdir "$1" && echo archive > "$1/liblaxonje.a"')
         (self.folder / "crates.txt").write_text("low:\nhigh: low\ntop: high low\n")
         (self.folder / ".gitignore").write_text("out/\n")
@@ -83,6 +85,11 @@ def gate_tests():
         gate.kit("2 passed, 0 failed\n", 1)
         yield "an rt that fails and counts no failure", gate.run()[1].splitlines()[-1].endswith(", 1 failed")
         gate.kit("2 passed, 0 failed\n", 0)
+        gate.part("gate/test-pcap", "echo 'libpcap: laxonje-pcap is left out'; echo '0 passed, 0 failed'")
+        yield "a part that is left out", gate.run()[1].splitlines()[-1].endswith(", 0 failed")
+        gate.part("gate/test-pcap", "echo '0 passed, 0 failed'")
+        yield "a part that tries nothing", gate.run()[1].splitlines()[-1].endswith(", 1 failed")
+        gate.part("gate/test-pcap", "echo '3 passed, 0 failed'")
         gate.part("gate/inlined", "echo 'inlined: it is not'; exit 1")
         status, text, _ = gate.run()
         yield "a part that fails as a whole", status == 1 and "inlined: it is not\nthe interpreter is inlined, and its loop aligned: FAILED" in text
@@ -111,21 +118,21 @@ def proving_tests():
         gate = Gate(folder)
         (gate.folder / "crates/high").mkdir(parents=True)
         gate.kit(BUILT, 0)
-        status, text, error = gate.run("high", "run", "--", "check", tool="tools/proving")
+        status, text, error = gate.run("high", "run", "--", "check", tool="tools/parts/proving")
         head, *lines = text.splitlines()
         yield "what is to be done", head.startswith("proves high and what it stands on, 2 crates in all: minutes ") and head.endswith("out/proving-high.log")
         yield "each crate once it is done", (status, error, lines) == (0, "", ["[1/2, 0 s] low", "[2/2, 0 s] high"])
         yield "all lines", (gate.folder / "out/proving-high.log").read_text() == "rt run -- check\n" + BUILT
         gate.kit("fn high::first: no proof\n", 1)
-        status, text, error = gate.run("high", "lib", tool="tools/proving")
+        status, text, error = gate.run("high", "lib", tool="tools/parts/proving")
         yield "an rt that fails", status == 1 and error.startswith("rt lib: status 1. ")
         yield "the end of what it said", error.endswith("\nrt lib\nfn high::first: no proof\n")
-        yield "no such crate", gate.run("none", "lib", tool="tools/proving") == (2, "", "there is no crate none\n")
+        yield "no such crate", gate.run("none", "lib", tool="tools/parts/proving") == (2, "", "there is no crate none\n")
 
 
 def progress_tests():
     """What is read of an rt's lines, and what is guessed."""
-    progress = script("progress")
+    progress = script("parts/progress")
     now = [0]
     counted = progress.Counted({"low": 100, "high": 300, "top": 600}, lambda: now[0])
     yield "a line of no crate", counted.read("fn low::first: proved\n") is None
@@ -142,9 +149,37 @@ def progress_tests():
     yield "what it says of the time", counted.read("rt: low proved\n") == "[2/3, 1 min, about 6 min left] low"
     yield "a crate and those below it", progress.below("b", {"a": [], "b": ["a"], "c": ["b"]}) == {"a", "b"}
     with tempfile.TemporaryDirectory() as folder:
-        words = [TOOLS / "progress", "--crates", "none", f"{folder}/log"]
+        words = [TOOLS / "parts/progress", "--crates", "none", f"{folder}/log"]
         given = "one\nFAILED two\nrt: waiting for another\n3 passed, 1 failed\nlast\n"
         text = said(words, stdin=None, input=given)[1]
         yield "what a person has to see", text == "FAILED two\nrt: waiting for another\n3 passed, 1 failed\n"
         yield "all lines", said([*words[:1], "--all", *words[1:]], stdin=None, input=given)[1] == given[: -len("last\n")]
         yield "the file", pathlib.Path(folder, "log").read_text() == 2 * given
+
+
+def netback_tests():
+    """The tests of the hosts in Rust over a cargo that counts three tests: what ends before it counts has failed."""
+    with tempfile.TemporaryDirectory() as folder:
+        top, beside = pathlib.Path(folder, "repository"), pathlib.Path(folder, "bin")
+        for path in (top / "tools", top / "netback", beside):
+            path.mkdir(parents=True)
+        shutil.copy(TOOLS / "build-netback", top / "tools")
+        (top / "liblaxonje.a").write_text("")
+
+        def answers(path, text):
+            path.write_text(f"#!/bin/sh\n{text}\n")
+            path.chmod(0o755)
+
+        def tested(tests, outside):
+            for name, text in (("cargo", tests), ("rustc", "exit 1")):
+                answers(beside / name, text)
+            answers(top / "netback/outside", outside)
+            env = {**os.environ, "PATH": f"{beside}:{os.environ['PATH']}", "CC": "cat", "LAXONJE_DIR": str(top)}  # a compiler reads its input
+            status, text, _ = said([top / "tools/build-netback", "--test", top / "out"], env=env)
+            return status, text.splitlines()[-1]
+
+        counted, two = "echo 'test result: ok. 3 passed; 0 failed; 0 ignored'", "echo '2 passed, 0 failed'"
+        yield "hosts in Rust", tested(counted, two) == (0, "5 passed, 0 failed")
+        yield "hosts in Rust that end before they are counted", tested(counted, "echo 'no room' >&2; exit 1") == (1, "3 passed, 1 failed")
+        yield "hosts in Rust of which one fails", tested(counted, "echo '2 passed, 1 failed'; exit 1") == (1, "5 passed, 1 failed")
+        yield "a cargo that counts nothing", tested("exit 101", two) == (101, "2 passed, 1 failed")

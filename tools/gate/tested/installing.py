@@ -90,6 +90,8 @@ def package_tests(prefix):
         status, text, _ = said(["pkg-config", "--cflags", "--libs", "laxonje"], env=env)
         words = shlex.split(text)
         yield "its flags are words", status == 0 and words == [f"-I{prefix}/include", f"-L{prefix}/lib&|", "-llaxonje"]
+    else:
+        print("left out: what pkg-config says of the library, since it isn't installed")
     named = ["doc/laxonje/examples/host-vm-memory/../../netback/laxonje/Cargo.toml", "laxonje/crates/laxonje/../../docs/HOST.md"]
     named += ["laxonje/crates/laxonje/../../examples/host-vm-memory/README.md", "doc/laxonje/docs/../netback/laxonje/README.md"]
     yield "what crates, documents and examples name is there", all((prefix / "share" / name).is_file() for name in named)
@@ -159,6 +161,7 @@ def release_tests():
         yield "its sums", sums.returncode == 0 and count == len(files_below(made)) - 1
         yield "no licence", (made / "NO-LICENCE").is_file()
         yield "which sources these are", said([made / "tools/commit"])[1].strip() == commit
+        yield from built_tests(made)
         fake_build(top / "out/unproved", False)
         yield "an unproved build of another commit", "isn't of" in release("--unproved")[2]
         (top / "out/unproved/README").write_text(f"UNPROVED, from {commit}.\n")
@@ -167,6 +170,18 @@ def release_tests():
         with open(top / "CHANGELOG.md", "a", encoding="utf-8") as file:
             file.write("more\n")
         yield "a change", "with changes" in release()[2]
+
+
+def built_tests(made):
+    """The parts that a release's own command runs, each a stub, over what it has."""
+    parts = re.search(r"for part in (.*); do", (made / "tools/test-built").read_text())[1].split()
+    yield "the parts of a release's tests", len(parts) == 4 and all((TOOLS / "gate" / part).is_file() for part in parts)
+    for part in parts:
+        (made / "tools/gate" / part).write_text('#!/bin/sh\n[ -x "$XDPBOX" ] && [ -f "$ARCHIVE/liblaxonje.a" ] && echo "2 passed, 0 failed"\n')
+    status, text, error = said([made / "tools/test-built"], cwd="/")
+    yield "a release's tests", (status, error) == (0, "") and text.splitlines()[-1] == "8 passed, 0 failed"
+    (made / "tools/gate" / parts[0]).write_text('#!/bin/sh\necho "2 passed, 0 failed"\nexit 1\n')
+    yield "one of them that fails", said([made / "tools/test-built"])[1].splitlines()[-1] == "8 passed, 1 failed"
 
 
 def version_tests():

@@ -5,6 +5,9 @@ import shutil
 import subprocess
 import tempfile
 
+from laxonje_tools.statements import headlines, lost, rows, statement
+from laxonje_tools.statements import tests as made_up
+from laxonje_tools.statements.tree import Node, Tree
 from tested.common import ROOT, script
 
 
@@ -58,6 +61,52 @@ def missing_tests():
             (copy / "away").rename(copy / file)
 
 
+BASE = "crates/low/specs/Base.antt"
+INNER = "crates/low/src/inner.rt"
+WHOLE = "ensures small { Rattle.low.specs.Machinery.two ≡ result }"
+NESTED = "\nmodule _ (a : ℕ) where\n  module _ (b : ℕ) where\n    abbrev pub inside : ℕ\n    inside = a\n"
+
+
+def lost_tests():
+    """Definitions that are named by a whole path, or that the reader doesn't find; and rows without a wrong body."""
+
+    def tree(room, **files):
+        return made_up.written(pathlib.Path(room), {**made_up.FILES, "crates/low/specs/Machinery.antt": made_up.MACHINERY, **files})
+
+    files = made_up.FILES
+    with tempfile.TemporaryDirectory() as room:
+        yield "nothing is lost", not list(lost.findings(tree(room)))
+        named = tree(room, **{INNER: files[INNER].replace("ensures small { IsSmall result }", WHOLE)})
+        make = next(it for it in named.contracts("low") if it.path == "low::inner::make")
+        yield "a definition by its whole path", Node("definition", "low", ("Machinery",), "two") in named.roots(make)
+        above = tree(room, **{BASE: files[BASE].replace("other n = IsSmall n", "other n = Rattle.low.specs.Machinery.two ≡ n")})
+        yield "one that a definition names so", Node("definition", "low", ("Machinery",), "two") in above.below(Node("definition", "low", ("Base",), "other"))
+        for what, file, text in [
+            ("a whole path that leads nowhere", INNER, files[INNER].replace("ensures small { IsSmall result }", WHOLE.replace("two", "three"))),
+            ("an import that leads nowhere", INNER, files[INNER].replace("Base.{IsSmall, other}", "Base.{IsSmall, other, three}")),
+            ("a definition of a section in a section", INNER, files[INNER].replace("Base.{IsSmall, other}", "Base.{IsSmall, other, inside}")),
+        ]:
+            found = list(lost.findings(tree(room, **{file: text, BASE: files[BASE] + NESTED})))
+            yield what, len(found) == 1 and "leads to no definition that is read" in found[0]
+        asked = tree(room, **{INNER: files[INNER].replace("{ words.now ≡ words.now }", "{ other 1 }")})
+        nodes = statement.statement(asked, [statement.part(asked, "low::make (small)")]).nodes
+        yield "what a caller has to establish", Node("definition", "low", ("Base",), "other") in nodes
+        claim = '[[claim]]\nnumber = {}\nreading = ""\ncontracts = {}\nrefused = []\n'
+        for what, second, wanted in [("claims with contracts", '["low::make"]', []), ("a claim with none", "[]", [2])]:
+            tree(room, **{f"{headlines.LIST}": claim.format(1, '["low::make"]') + claim.format(2, second)})
+            yield what, headlines.without_contracts(pathlib.Path(room)) == wanted
+        tree(room, **{f"{headlines.LIST}": claim.format(2, '["low::make"]')})
+        yield "a claim that the list leaves out", headlines.without_contracts(pathlib.Path(room)) == [1]
+        long = 'fn long() -> &str {\n    "one { [ \\\n     two\\n"\n}\n'
+        read = tree(room, **{INNER: long + files[INNER]})
+        yield "a string of two lines", not list(lost.findings(read)) and any(it.path == "low::inner::make" for it in read.contracts("low"))
+        half = tree(room, **{INNER: files[INNER] + "fn outer() {\n    fn inner() {}\n}\n"})
+        yield "a function that isn't read", [it for it in lost.findings(half) if "1 of its functions aren't read" in it] != []
+        for what, words, count in [("a row of a function without a wrong body", "no wrong body", 1), ("one that says why", "no wrong body of its own: it follows", 0)]:
+            page = files[made_up.ROWS].replace("refused: `make`", words)
+            yield what, len([it for it in rows.findings(tree(room, **{made_up.ROWS: page})) if "which is no law" in it]) == count
+
+
 VERDICTS = ["== xdp_load", "logic=proved functions=3 axioms=9 sum=0", "== xdpbox", "crate xdpbox: modules loaded=1 checked=2"]
 
 
@@ -76,3 +125,7 @@ def assumed_tests():
     unlinked = ["== xdp_host", "logic=proved functions=3 sum=0"]
     yield "a library that isn't linked", assumed.finding("3 for the library for C", unlinked, "xdp_host") == ""
     yield "another number of the library's", assumed.finding("4 for the library for C", library, "xdp_host") != ""
+    lost = ["== xdpbox", "verdict: proved", "rt: xdpbox proved"]
+    yield "a program that was proved without a verdict", assumed.finding(readme, lost) != ""
+    built = [*unlinked, "rt: xdp_host proved", "crate xdp_host: modules loaded=1 checked=2", library[1]]
+    yield "one that was proved and built", assumed.finding("3 for the library for C", built, "xdp_host") == ""

@@ -102,8 +102,12 @@ def bad_edit_tests():
     ill_typed = "./specs/Part.antt:3:9: error: `first`: the two types differ"
     yield "a definition that doesn't type check", wrong_bodies.unread(ill_typed, {"specs/Part.antt"}) == ill_typed
     contract = "fn first() -> u32\n    ensures { result ≡ place }\n{\n    place\n}\n"
-    yield "a clause that is changed", wrong_bodies.is_in_contract(contract, "≡ place")
-    yield "a body that is changed", not wrong_bodies.is_in_contract(contract, "    place")
+    was = wrong_bodies.contracts_of(contract)
+    yield "a clause that is changed", was != wrong_bodies.contracts_of(contract.replace("≡ place", "≡ 1"))
+    yield "a clause that is added", was != wrong_bodies.contracts_of(contract.replace("-> u32\n", "-> u32\n    requires { ⊥ }\n"))
+    yield "a function with a clause that is added", was != wrong_bodies.contracts_of(contract + contract.replace("first", "second"))
+    yield "a ghost field that is added", was != wrong_bodies.contracts_of(contract + "struct Held {\n    ghost few: { ⊥ },\n}\n")
+    yield "a body that is changed", was == wrong_bodies.contracts_of(contract.replace("    place", "    1"))
 
 
 class Crate:
@@ -216,8 +220,24 @@ def trial_tests():
         yield "a text that isn't there", tried.outcomes(tried.edit("three", "wrong")) == (["BAD"], 0)
         yield "a text that stands twice", tried.outcomes(tried.edit("fn ", "fn"), other) == (["BAD", "CLAUSE"], 1)
         yield "an edit without a text", tried.outcomes(tried.edit("", "")) == (["BAD"], 0)
+        tried.source.write_text("#[tactic(auto, unfolding(one))]\nfn first() {\n    let _value = *self;\n    one // first\n}\n")
+        for what, old, new in [
+            ("an attribute", "#[tactic(auto, unfolding(one))]", ""),
+            ("a comment", "// first", "// wrong"),
+            ("what is named for the proof", "let _value = *self;", ""),
+            ("blanks", "    one", "  one"),
+        ]:
+            yield f"an edit of {what} alone", tried.outcomes(tried.edit(old, new)) == (["BAD"], 0)
+        of_proof = tried.edit("goal.returns", "goal.other")
+        path = pathlib.Path(of_proof)
+        path.write_text(path.read_text().replace("src/part.rt", "proofs/part/first/Answers.antt"))
+        yield "an edit of a proof", tried.outcomes(of_proof) == (["BAD"], 0)
+        whole = edits.Trial(Crate(tried.folder), [])
+        for file, line, wanted in [("part/first/Answers", 3, "CLAUSE"), ("part/first/Answers", 6, "SAFETY"), ("part/first/Invariants", 1, "INVARIANT"), ("Lemmas", 6, "CLAUSE")]:
+            yield f"line {line} of {file}, of a whole crate", whole.of_goals([], [(f"proofs/{file}.antt", line, "")]).name == wanted
         tried.source.write_text("fn first()\n    ensures { result ≡ three }\n{\n    one\n}\n")
         yield "an edit of a clause", tried.outcomes(tried.edit("three", "four")) == (["BAD"], 0)
+        yield "an edit that adds a clause", tried.outcomes(tried.edit("fn first()", "fn first() requires { two }")) == (["BAD"], 0)
 
 
 def kept_tests():

@@ -10,16 +10,16 @@ WORDS = {
     "tools/build-host": ["--fast"],
     "tools/build-xdpbox": ["all"],
     "tools/build-pcap": ["out"],
-    "tools/pack-host": ["out"],
-    "tools/proving": ["xdpbox"],
-    "tools/progress": ["--fast"],
-    "tools/others-enter": [],
+    "tools/parts/pack-host": ["out"],
+    "tools/parts/proving": ["xdpbox"],
+    "tools/parts/progress": ["--fast"],
+    "tools/parts/others-enter": [],
     "tools/version": ["2"],
     "tools/commit": ["2"],
     "tools/install": ["--fast"],
     "tools/install-host": ["--fast"],
-    "tools/link-aligned": ["out"],
-    "tools/man-of-header": [],
+    "tools/parts/link-aligned": ["out"],
+    "tools/parts/man-of-header": [],
     "tools/release": ["--fast"],
     "tools/test-built": ["--fast"],
     "tools/packets-of-pcap": [],
@@ -40,7 +40,7 @@ WORDS = {
 
 def tools():
     """Each program in the folders of tools."""
-    found = [it for folder in ("tools", "tools/gate", "tools/dev") for it in (ROOT / folder).iterdir()]
+    found = [it for folder in ("tools", "tools/parts", "tools/gate", "tools/dev") for it in (ROOT / folder).iterdir()]
     return sorted(str(it.relative_to(ROOT)) for it in found if it.is_file() and os.access(it, os.X_OK))
 
 

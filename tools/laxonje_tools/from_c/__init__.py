@@ -7,7 +7,13 @@
     frames    how much of the stack a function uses
     absent    what isn't here, with Linux's answer where there is none of it either
     own_device  redirects to the device that a packet came from
+    repeated  functions that helpers call again and again
+    sums      bpf_csum_diff
     memory    constants and globals
+    large     which values are written as rows, and where they lie then
+    places    what registers have of the addresses of such values
+    layouts   which rows there are
+    in_rows   a program with such values in rows
     looked_up  globals whose values are looked up in front of a program
     maps      maps, and what is given of them
     lists     files of addresses and prefixes

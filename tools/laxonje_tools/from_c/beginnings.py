@@ -6,13 +6,16 @@ from typing import TYPE_CHECKING, Iterator, NamedTuple, Optional
 
 from laxonje_tools.output import fail
 
+from .layouts import COUNTER_BYTES, Cell
 from .values import SIZES, fault_of, number_in, with_number
 
 if TYPE_CHECKING:
+    from collections.abc import Sequence
+
     from .btf import MapOfC
+    from .layouts import Layout
     from .maps import Map
 
-COUNTER_BYTES = 8
 MOST = (1 << 63) - 1  # of a number in settings
 
 
@@ -61,26 +64,31 @@ def parts_of(row: Map, declared: Optional[MapOfC]) -> list[Part]:
     return parts
 
 
-def counters_of(row: Map, declared: Optional[MapOfC], lines: list[Line]) -> tuple[int, ...]:
-    """What the counters of a map begin with, value by value."""
-    parts = parts_of(row, declared)
-    if len(lines) > row.entries:
-        raise Fault(f"it has {len(lines)} values, and the map {row.name} {row.entries}")
-    return tuple(counter for line in lines for counter in counters_in(row, parts, line))
+def counters_of(row: Map, declared: Optional[MapOfC], lines: list[Line], layout: Optional[Layout] = None) -> tuple[int, ...]:
+    """What the counters of a map begin with, value by value. `layout`: where its values lie, if these are rows."""
+    parts, entries = parts_of(row, declared), row.entries if layout is None else layout.shape.entries
+    if len(lines) > entries:
+        raise Fault(f"it has {len(lines)} values, and the map {row.name} {entries}")
+    cells = whole_counters(row.counters) if layout is None else layout.cells
+    return tuple(counter for line in lines for counter in counters_in(row, parts, line, cells))
 
 
-def counters_in(row: Map, parts: list[Part], line: Line) -> Iterator[int]:
-    """What the counters of one value begin with."""
+def whole_counters(count: int) -> list[Cell]:
+    return [Cell(at, COUNTER_BYTES) for at in range(0, COUNTER_BYTES * count, COUNTER_BYTES)]
+
+
+def counters_in(row: Map, parts: list[Part], line: Line, cells: Sequence[Cell]) -> Iterator[int]:
+    """What the counters of one value begin with. `cells`: the bytes of each."""
     if len(line.numbers) != len(parts):
         raise Fault(f"line {line.place}: it has {len(line.numbers)} numbers, and a value of the map {row.name} {len(parts)}")
-    data = bytes(COUNTER_BYTES * row.counters)
+    data = bytes(max(cell.end for cell in cells))
     for part, number in zip(parts, line.numbers):
         fault = fault_of(part.name, part.size, number)
         if fault is not None:
             raise Fault(f"line {line.place}: {fault}")
         data = with_number(data, part.place, part.size, number)
-    for at in range(0, len(data), COUNTER_BYTES):
-        counter = int.from_bytes(data[at : at + COUNTER_BYTES], "little")
+    for at, cell in enumerate(cells):
+        counter = int.from_bytes(data[cell.place : cell.end], "little")
         if counter > MOST:
-            raise Fault(f"line {line.place}: counter {at // COUNTER_BYTES} would begin with {counter}: settings have numbers of at most 2^63 - 1")
+            raise Fault(f"line {line.place}: counter {at} would begin with {counter}: settings have numbers of at most 2^63 - 1")
         yield counter

@@ -13,7 +13,9 @@ from .elf import text_at
 if TYPE_CHECKING:
     from .elf import Function, Part
 
-COUNTER_BYTES, LINE_BYTES = 8, 16
+COUNTER_BYTES = 8
+# a row of .BTF.ext, and where its header has the place of the lines
+EXT_ROW_BYTES, LINES_IN_HEADER = 16, 16
 MOST_NUMBERS, MOST_VISITS = 256, 20000  # of a value that are looked at, and of types and members on the way to them
 MOST_BITS = 0xFFFFFF  # of a member's place, below a bit field's size
 INT, POINTER, ARRAY, STRUCT, UNION, VARIABLE, SECTION = 1, 2, 3, 4, 5, 14, 15
@@ -204,26 +206,33 @@ def maps_in(sections: dict[str, Part]) -> Iterator[MapOfC]:
         yield from Types(sections[".BTF"].data).maps()
 
 
-def lines_of(sections: dict[str, Part], function: Function, source: str) -> dict[int, str]:
-    """The line of C of each slot at which one begins, as `file.c:12`: what .BTF.ext has, if it is there."""
+def rows_of_ext(sections: dict[str, Part], place: int, what: str) -> Iterator[tuple[bytes, str, tuple[int, ...]]]:
+    """The rows of a part of .BTF.ext, whose own place stands at this place of the header, if that is so long: each as the texts of .BTF,
+    its section's name and four numbers."""
     if ".BTF.ext" not in sections or ".BTF" not in sections:
-        return {}
+        return
     names, more = Types(sections[".BTF"].data).names, sections[".BTF.ext"].data
     (header,) = struct.unpack_from("<I", more, 4)
-    start, length = struct.unpack_from("<II", more, 16)
+    start, length = struct.unpack_from("<II", more, place) if header >= place + 8 else (0, 0)
     at, end = header + start, header + start + length
     if length < 4:
-        return {}
-    (size,), at, lines = struct.unpack_from("<I", more, at), at + 4, {}
-    if size < LINE_BYTES:
-        raise ValueError("a line has fewer bytes than it needs")
+        return
+    (size,), at = struct.unpack_from("<I", more, at), at + 4
+    if size < EXT_ROW_BYTES:
+        raise ValueError(f"a {what} has fewer bytes than it needs")
     while at < end:
         section, count = struct.unpack_from("<II", more, at)
         at += 8
         for _ in range(count):
-            place, file, _, line = struct.unpack_from("<IIII", more, at)
-            inside = function.place <= place < function.place + len(function.code)
-            if text_at(names, section) == function.section and inside and line >> 10:
-                lines[(place - function.place) // 8] = f"{named(text_at(names, file), source)}:{line >> 10}"
+            yield names, text_at(names, section), struct.unpack_from("<IIII", more, at)
             at += size
+
+
+def lines_of(sections: dict[str, Part], function: Function, source: str) -> dict[int, str]:
+    """The line of C of each slot at which one begins, as `file.c:12`: what .BTF.ext has, if it is there."""
+    lines = {}
+    for names, section, (place, file, _, line) in rows_of_ext(sections, LINES_IN_HEADER, "line"):
+        inside = function.place <= place < function.place + len(function.code)
+        if section == function.section and inside and line >> 10:
+            lines[(place - function.place) // 8] = f"{named(text_at(names, file), source)}:{line >> 10}"
     return lines

@@ -9,16 +9,17 @@ import struct
 from functools import partial
 from typing import TYPE_CHECKING, AbstractSet, Callable, Iterator, NamedTuple, Optional
 
-from .absent import ABORTED, ACTION, ALL_DEVICES, DEVICES, DROPPED, PRINTS, REDIRECT, REDIRECT_MAP, SENT_BACK
+from .absent import ABORTED, ACTION, ALL_DEVICES, DEVICES, DROPPED, LOCKS, PRINTS, REDIRECT, REDIRECT_MAP, SENT_BACK
 from .elf import SLOT_BYTES
 from .frames import below_frames, check_frames, frame_of, move_frame, named_by
 from .lines import (
-    CALL, EXIT, JUMP, MOV_CONSTANT, SAVED, STACK_BYTES, Fault, Line, constant_in, lines_of, map_in, packed, read_later, set_in, writes,
-    written,
+    CALL, EXIT, JUMP, MOV_CONSTANT, SAVED, STACK_BYTES, Fault, Line, constant_in, lines_of, map_in, packed, put_all, read_later, set_in,
+    writes, written,
 )  # fmt: skip
 from .own_device import DEVICE_FIELD, sent_back
-from .repeated import LOOP, NAME, check_flags, repeated
+from .repeated import EACH, LOOP, NAMES, check_flags, for_each, repeated
 from .sequences import answered, sequence_of
+from .sums import summed_of
 
 if TYPE_CHECKING:
     from collections.abc import Mapping
@@ -27,26 +28,21 @@ if TYPE_CHECKING:
     from .elf import Function
 
 LOCAL, FRAME, MOST_DEPTH, MOST_SLOTS = 1, 10, 8, 4096
-MOV_64, MOV_32, ADD_CONSTANT, ADD, SUB, XOR_CONSTANT, AND, AND_CONSTANT, LSH_CONSTANT, RSH_CONSTANT, ARSH_CONSTANT = (
-    0xBF, 0xBC, 0x07, 0x0F, 0x1F, 0xA7, 0x5F, 0x57, 0x67, 0x77, 0xC7,
+MOV_64, MOV_32, ADD_CONSTANT, ADD, SUB, XOR_CONSTANT, AND, AND_CONSTANT, LSH_CONSTANT, ARSH_CONSTANT = (
+    0xBF, 0xBC, 0x07, 0x0F, 0x1F, 0xA7, 0x5F, 0x57, 0x67, 0xC7,
 )  # fmt: skip
 LOAD_BYTE, LOAD_HALF, LOAD_WORD, LOAD_DOUBLE = 0x71, 0x69, 0x61, 0x79
 STORE_BYTE, STORE_HALF, STORE_WORD, STORE_DOUBLE = 0x73, 0x6B, 0x63, 0x7B
 DOUBLE = 8  # bytes
 COPIES = {1: (LOAD_BYTE, STORE_BYTE), 2: (LOAD_HALF, STORE_HALF), 4: (LOAD_WORD, STORE_WORD), 8: (LOAD_DOUBLE, STORE_DOUBLE)}  # by size
-IF_ABOVE, IF_ABOVE_CONSTANT, IF_NOT_CONSTANT, IF_EQUAL, IF_EQUAL_CONSTANT, IF_AT_MOST_SIGNED, IF_AT_LEAST = 0x2D, 0x25, 0x55, 0x1D, 0x15, 0xD5, 0x3D
+IF_ABOVE, IF_ABOVE_CONSTANT, IF_NOT_CONSTANT, IF_EQUAL, IF_EQUAL_CONSTANT, IF_AT_MOST_SIGNED = 0x2D, 0x25, 0x55, 0x1D, 0x15, 0xD5
 LOOKUP, UPDATE, ANY, THERE, TOO_BIG = 1, 2, 0, 2, -7  # the third and fourth are flags: BPF_ANY, BPF_EXIST; the last is E2BIG
-PRINTK, CPU, CSUM_DIFF, CHECK_MTU, VPRINTK, BUFF_LEN, LOAD_BYTES, STORE_BYTES = 6, 8, 28, 163, 177, 188, 189, 190
+LOCK, UNLOCK, PRINTK, CPU, CSUM_DIFF, CHECK_MTU, VPRINTK, BUFF_LEN, LOAD_BYTES, STORE_BYTES = 93, 94, 6, 8, 28, 163, 177, 188, 189, 190
 TOO_FAR, TOO_LONG, MOST_OFFSET = -14, -22, 0xFFFF  # of Linux: EFAULT, EINVAL, and the offset from which on it is the former
 NO_FLAGS, NO_DEVICE, TOO_LARGE, HEADER_BYTES = -22, -19, 1, 14  # of Linux: EINVAL, ENODEV, BPF_MTU_CHK_RET_FRAG_NEEDED; of Ethernet
-MOST_COPIED, MOST_SUMMED = 128, 512  # bytes
+MOST_COPIED = 128  # bytes
 START_FIELD, END_FIELD = 0, 4  # of the context
-WORD = 4  # bytes
-# of a sum: what is carried out of 32 bits is added to them, and out of 16; and each bit of 32 is turned over
-TO_32_BITS = [(MOV_64, 2, 0), (RSH_CONSTANT, 2, 0, 0, 32), (MOV_32, 0, 0), (ADD, 0, 2)] * 2
-TO_16_BITS = [(MOV_64, 2, 0), (RSH_CONSTANT, 2, 0, 0, 16), (AND_CONSTANT, 0, 0, 0, 0xFFFF), (ADD, 0, 2)] * 3
-TURNED = [(XOR_CONSTANT, 0, 0, 0, -1), (MOV_32, 0, 0)]
-TAKEN_OFF = [*TO_32_BITS, *TURNED]
+WITHOUT_LOCK = "the lock is left out: while another queue judges too, what it guards isn't done in one step"
 TO_ITS_DEVICE = "bpf_redirect to the device that the packet came from gives XDP_TX"
 OF_ODD_SIZES = "bpf_csum_diff of a size that is no multiple of 4 gives -EINVAL, as in Linux before 6.13"
 OF_ITS_DEVICE = "bpf_check_mtu answers for the packet's own device, with an MTU of {}; any other device isn't there (-ENODEV)"
@@ -71,9 +67,16 @@ class Inlined(NamedTuple):
     used: int
 
 
+class Array(NamedTuple):
+    """An array: the numbers of a value, as (place, size), and how many values there are."""
+
+    parts: list[tuple[int, int]]
+    entries: int
+
+
 class Calls:
-    """The functions of a file, and of a call the one that it leads to. `absent`: what is left out. `arrays`: by name the numbers
-    of a value of each array, as (place, size). `frames`: by name how much of the stack a function uses, None of an object file. `mtu`:
+    """The functions of a file, and of a call the one that it leads to. `absent`: what is left out. `arrays`: those by their
+    names. `frames`: by name how much of the stack a function uses, None of an object file. `mtu`:
     that of the device that packets come from, None if it isn't said; `clock`: the nanoseconds between two calls for the time, the same."""
 
     def __init__(
@@ -81,7 +84,7 @@ class Calls:
         functions: list[Function],
         relocations: Callable,
         absent: Absent,
-        arrays: Mapping[str, list[tuple[int, int]]],
+        arrays: Mapping[str, Array],
         frames: Optional[Mapping[str, int]],
         mtu: Optional[int] = None,
         clock: Optional[int] = None,
@@ -120,9 +123,7 @@ class Calls:
                 if called is not None:
                     inner = self.call(line, called, depth, used, needed[line])
                 elif again is not None:
-                    call = partial(self.call, function=again, depth=depth, needed=needed[line])
-                    times = constant_in(lines, line, 1)
-                    inner = Inlined(*repeated(line, times, used, lambda row, above, call=call: call(row, above=above)))
+                    inner = self.again(line, lines, used, partial(self.call, function=again, depth=depth, needed=needed[line]))
                 else:
                     inner = Inlined(self.helped(line, lines, used), used)
                 out += inner.lines
@@ -144,16 +145,30 @@ class Calls:
             section, place = line.row.section, line.row.place + SLOT_BYTES * (line.immediate + 1)
         return next((other for other in self.functions if (other.section, other.place) == (section, place)), None)
 
+    def again(self, line: Line, lines: list[Line], used: int, call: Callable) -> Inlined:
+        """The lines in the place of a call that calls a function again and again."""
+
+        def called(row: Line, above: int) -> Inlined:
+            return call(row, above=above)
+
+        if line.immediate == LOOP:
+            return Inlined(*repeated(line, constant_in(lines, line, 1), used, called))
+        name = map_in(lines, line, 1)
+        if name not in self.arrays:
+            raise Fault(f"calls {NAMES[EACH]} of a map that is no array: count the loop by a constant, in C")
+        return Inlined(*for_each(line, name, self.arrays[name].entries, used, called))
+
     def repeats(self, line: Line, lines: list[Line]) -> Optional[Function]:
-        """The function that bpf_loop calls at a line, whose address is no more needed then; None if it is no such call."""
-        if (line.opcode, line.source, line.immediate) != (CALL, 0, LOOP):
+        """The function that bpf_loop, or bpf_for_each_map_elem, calls at a line, whose address is no more needed then; None if it
+        is no such call."""
+        if (line.opcode, line.source) != (CALL, 0) or line.immediate not in NAMES or line.row is not None:
             return None
         address = set_in(lines, line, 2)
         place = (address.row.section, address.row.place) if address is not None and address.row is not None else None
         found = next((other for other in self.functions if (other.section, other.place) == place), None)
         if found is None:
-            raise Fault(f"calls {NAME} of a function that the lines in front of it don't say")
-        check_flags(constant_in(lines, line, 4))
+            raise Fault(f"calls {NAMES[line.immediate]} of a function that the lines in front of it don't say")
+        check_flags(NAMES[line.immediate], constant_in(lines, line, 4))
         address.put(MOV_CONSTANT, 2)
         return found
 
@@ -207,6 +222,9 @@ class Calls:
         if number == REDIRECT_MAP and DEVICES in self.absent.left_out:
             self.notes.append((line.origin, "bpf_redirect_map gives the action in its flags, as in Linux while the map is empty"))
             return action_in_flags(line)
+        if number in (LOCK, UNLOCK) and LOCKS in self.absent.left_out:
+            self.notes.append((line.origin, WITHOUT_LOCK))
+            return put_all(line, [(MOV_CONSTANT, 0)])
         if number in (PRINTK, VPRINTK) and PRINTS in self.absent.left_out:
             self.notes.append((line.origin, "what it prints is left out, and the answer is 0"))
             return put_all(line, [(MOV_CONSTANT, 0)])
@@ -218,19 +236,12 @@ class Calls:
         if number in (LOAD_BYTES, STORE_BYTES):
             return copied(line, constant_in(lines, line, 4), number == STORE_BYTES)
         if number == UPDATE and map_in(lines, line, 1) in self.arrays and constant_in(lines, line, 4) in (ANY, THERE):
-            return updated(line, self.arrays[map_in(lines, line, 1)], above)
+            return updated(line, self.arrays[map_in(lines, line, 1)].parts, above)
         if number == CSUM_DIFF:
             sizes = constant(2), constant(4)
             self.notes += [(line.origin, OF_ODD_SIZES)] if None in sizes else []
             return summed_of(line, *sizes)
         return [line]
-
-
-def put_all(line: Line, rows: list[tuple]) -> list[Line]:
-    """Instructions in the place of a line, which becomes the first of them."""
-    first, *rest = rows
-    line.put(*first)
-    return [line, *(Line(packed(*fields), line.origin) for fields in rest)]
 
 
 def copied(line: Line, size: Optional[int], is_store: bool) -> list[Line]:
@@ -292,51 +303,6 @@ def compared_with_mtu(line: Line, mtu: int) -> list[Line]:
     for at, to in (1, -1), (3, 8), (5, 8), (7, -1), (9, 14), (13, 15), (21, -1):
         out[at].target = out[to]
     return out
-
-
-def summed_of(line: Line, first: Optional[int], second: Optional[int]) -> list[Line]:
-    """bpf_csum_diff of constant sizes, or of one side alone that a register bounds."""
-    if (first, second) == (0, None):
-        return summed_in_loop(line, 3, 4, False)
-    if (first, second) == (None, 0):
-        return summed_in_loop(line, 1, 2, True)
-    return summed(line, first, second)
-
-
-def summed_in_loop(line: Line, address: int, size: int, is_taken_off: bool) -> list[Line]:
-    """bpf_csum_diff of as many bytes as a register says, a multiple of four, at an address in another one: a loop, of which what bounds
-    the size bounds the steps."""
-    at, word = 5, 2 if size == 4 else 4
-    begin = [(MOV_32, 0, 5), *(TURNED if is_taken_off else [])]
-    begin += [(MOV_64, at, size), (AND_CONSTANT, at, 0, 0, WORD - 1), (IF_NOT_CONSTANT, at), (MOV_CONSTANT, at)]
-    loop = [(IF_AT_LEAST, at, size), (LOAD_WORD, word, address), (ADD, 0, word), (ADD_CONSTANT, address, 0, 0, WORD)]
-    loop += [(ADD_CONSTANT, at, 0, 0, WORD), (JUMP,)]
-    end = [*(TAKEN_OFF if is_taken_off else []), *TO_16_BITS, (JUMP,)]
-    out = put_all(line, [*begin, *loop, *end, (MOV_CONSTANT, 0, 0, 0, TOO_LONG), (JUMP,)])
-    first, behind = len(begin), len(begin) + len(loop)
-    targets = (first - 2, -2), (first, behind), (behind - 1, first), (behind + len(end) - 1, -1)
-    for source, target in targets:
-        out[source].target = out[target]
-    return out
-
-
-def summed(line: Line, first: Optional[int], second: Optional[int]) -> list[Line]:
-    """bpf_csum_diff: (from, its size, to, its size, a sum to begin with), as Linux does it from 6.13 on: it is folded to 16 bits. What is
-    taken off alone is so from the whole, and else turned over and added."""
-    if None in (first, second) or first % WORD or second % WORD or not 0 <= first + second <= MOST_SUMMED or min(first, second) < 0:
-        raise Fault(
-            f"calls bpf_csum_diff of sizes that aren't constant multiples of four, at most {MOST_SUMMED} in all: use constants, or one"
-            " size that is bounded, and 0 for the other one"
-        )
-    rows = [(MOV_CONSTANT, 0)] if first and second else [(MOV_32, 0, 5), *(TURNED if first else [])]
-    rows += added_words(1, first) + (TAKEN_OFF if first else [])
-    rows += [(MOV_32, 5, 5), (ADD, 0, 5)] if first and second else []
-    return put_all(line, [*rows, *added_words(3, second), *TO_16_BITS])
-
-
-def added_words(address: int, size: int) -> list[tuple]:
-    """What adds the words at an address to a sum."""
-    return [row for at in range(0, size, WORD) for row in ((LOAD_WORD, 2, address, at), (ADD, 0, 2))]
 
 
 def updated(line: Line, parts: list[tuple[int, int]], above: int) -> list[Line]:

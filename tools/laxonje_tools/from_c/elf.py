@@ -5,6 +5,7 @@ import struct
 from typing import Iterator, NamedTuple, Optional
 
 MAP_ADDRESS, FUNCTION_CALL = 1, 10  # R_BPF_64_64, R_BPF_64_32
+TAKES = {MAP_ADDRESS: 0x18, FUNCTION_CALL: 0x85}  # by a relocation's kind the opcode that takes its address
 OBJECT, FUNCTION, SECTION = 1, 2, 3  # STT_OBJECT, STT_FUNC, STT_SECTION
 NO_BITS = 8  # SHT_NOBITS: zeros, which aren't in the file
 CONSTANTS, VARIABLES = (".rodata", ".data.rel.ro"), (".data", ".bss")
@@ -14,6 +15,7 @@ MEMORY = CONSTANTS + VARIABLES
 # of an object's header: 64 bits and little end; and what kind of file it is, for which machine
 MAGIC, OF_64_BITS, LITTLE_END, RELOCATABLE, BPF = b"\x7fELF", 2, 1, 1, 247
 SLOT_BYTES = 8
+MANY = ".group", ".debug", ".rel.debug", ".rela.debug"  # sections that an object may have several of
 MOST_ZEROS = 1 << 24  # bytes of a section that isn't in the file
 
 
@@ -85,7 +87,18 @@ def sections_of(elf: bytes) -> dict[str, Part]:
     table, size, count, names = struct.unpack_from("<Q", elf, 40)[0], *struct.unpack_from("<HHH", elf, 58)
     rows = [struct.unpack_from("<IIQQQQII", elf, table + size * number) for number in range(count)]
     parts = [Part(number, bytes_of(elf, row[1], row[4], row[5])) for number, row in enumerate(rows)]
-    return {text_at(parts[names].data, row[0]): part for row, part in zip(rows, parts)}
+    named = [(text_at(parts[names].data, row[0]), part) for row, part in zip(rows, parts)]
+    check_names([name for name, _ in named])
+    return dict(named)
+
+
+def check_names(names: list[str]) -> None:
+    """Raises NoObject if two sections that matter have one name: what is in one of them would be taken for what is in the other."""
+    known = set()
+    for name in names:
+        if name in known and not name.startswith(MANY):
+            raise NoObject(f"this object file has two sections {name}")
+        known.add(name or MANY[0])
 
 
 def symbols_of(sections: dict[str, Part]) -> list[Symbol]:
@@ -124,8 +137,11 @@ def relocations_of(sections: dict[str, Part], function: Function) -> Iterator[Re
         at -= function.place
         if not 0 <= at < len(function.code):
             continue
+        slot, kind = at // SLOT_BYTES, info & 0xFFFFFFFF
+        if at % SLOT_BYTES or kind in TAKES and function.code[at] != TAKES[kind]:
+            raise NoObject(f"this object file has a relocation of {function.name} that doesn't fit its slot {slot}")
         symbol, constant = symbols[info >> 32], struct.unpack_from("<i", function.code, at + 4)[0]
-        slot, kind, section = at // SLOT_BYTES, info & 0xFFFFFFFF, names.get(symbol.section, "")
+        section = names.get(symbol.section, "")
         if symbol.kind == SECTION and symbol.section == maps:
             yield Relocation(slot, kind, objects.get((maps, constant), ""), 0)
         elif section.startswith(MEMORY) and kind == MAP_ADDRESS:

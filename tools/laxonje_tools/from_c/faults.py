@@ -23,8 +23,8 @@ INLINED_LATER = ("memcmp", "memcpy", "memmove", "memset")
 ARRAYS, PER_CPU, KEYED = (2, 6), (5, 6, 10), {1: EXACT, 5: EXACT, 9: EXACT, 10: EXACT, 11: PREFIX}
 
 NO_ROWS = (
-    "a program adds no row and takes none away: those of a BPF_MAP_TYPE_HASH or LPM_TRIE are given by --list; state by"
-    " address is counted in a BPF_MAP_TYPE_ARRAY, under a hash of the address"
+    "a program adds no row and takes none away: keep state by address in a BPF_MAP_TYPE_ARRAY, under a hash of the address, as"
+    " examples/straightened/budget-by-source does; the rows of a list are given by --list"
 )
 LISTED = f"{NO_ROWS}; or make it a BPF_MAP_TYPE_HASH, if it is such a list"
 NO_REDIRECT = (
@@ -66,18 +66,18 @@ MAP_TYPES = {
     32: ("CGRP_STORAGE", NO_STATE),
     33: ("ARENA", NO_STATE),
 }
-NO_UPDATE = "a value is changed by adding to its counters alone: __sync_fetch_and_add(value, n), or `*value += n`"
 NO_CLOCK = (
     "there is no clock: count here, and judge rates in the host, which reads the counters; or --clock N answers with a"
     " time that goes on by N nanoseconds at each call"
 )
 NO_PRINTS = "nothing is printed: --without-prints leaves it out, or count it in a map instead"
+NO_LOCKS = "--without-locks leaves it out, which is right while one queue judges at a time; or count by additions alone, `*value += n`"
 NO_RESIZE = "a packet keeps its length: pass it on as it is, or write over its bytes"
 NO_KERNEL = "there is no kernel to ask"
 NO_SOCKETS = "there is no socket here: --without-devices answers as Linux does where there is none"
 # the helpers of Linux's uapi/linux/bpf.h that XDP programs call
 HELPERS = {
-    2: ("bpf_map_update_elem", f"{NO_UPDATE}; {NO_ROWS}"),
+    2: ("bpf_map_update_elem", NO_ROWS),
     3: ("bpf_map_delete_elem", NO_ROWS),
     4: ("bpf_probe_read", NO_KERNEL),
     5: ("bpf_ktime_get_ns", NO_CLOCK),
@@ -96,8 +96,8 @@ HELPERS = {
     87: ("bpf_map_push_elem", NO_STATE),
     88: ("bpf_map_pop_elem", NO_STATE),
     89: ("bpf_map_peek_elem", NO_STATE),
-    93: ("bpf_spin_lock", NO_UPDATE),
-    94: ("bpf_spin_unlock", NO_UPDATE),
+    93: ("bpf_spin_lock", NO_LOCKS),
+    94: ("bpf_spin_unlock", NO_LOCKS),
     99: ("bpf_skc_lookup_tcp", NO_SOCKETS),
     100: ("bpf_tcp_check_syncookie", NO_SOCKETS),
     110: ("bpf_tcp_gen_syncookie", NO_SOCKETS),
@@ -136,8 +136,8 @@ def faults_of_map(declared: MapOfC) -> Iterator[str]:
     yield from faults_of_key(declared)
     if not 0 < declared.value_bytes <= COUNTER_BYTES * MOST_COUNTERS:
         yield (
-            f"the values of the map {declared.name} have {declared.value_bytes} bytes: a value has 1 to"
-            f" {COUNTER_BYTES * MOST_COUNTERS}, as {MOST_COUNTERS} counters of {COUNTER_BYTES}"
+            f"the values of the map {declared.name} have {declared.value_bytes} bytes: those of a list have 1 to"
+            f" {COUNTER_BYTES * MOST_COUNTERS}; more of them may lie in a BPF_MAP_TYPE_ARRAY, under a number in the list's value"
         )
     if not declared.entries:
         yield f"the map {declared.name} has no number of entries: say __uint(max_entries, N)"

@@ -68,10 +68,10 @@ def move_frame(lines: list[Line], above: int) -> None:
     for line in lines:
         kind = line.opcode & 7
         is_access = kind in STORES and line.destination == FRAME or kind == LOADS and line.source == FRAME
+        if computes_with_frame(line):
+            raise Fault("calls a function that computes with the frame's address")
         if is_access:
             line.raw = line.raw[:2] + struct.pack("<h", line.offset - above) + line.raw[4:]
-        elif kind in (ALU32, ALU64) and line.opcode & BY_REGISTER and line.source == FRAME and line.opcode != MOV_64:
-            raise Fault("calls a function that computes with the frame's address")
     for at in reversed(range(len(lines))):
         line = lines[at]
         if line.opcode == MOV_64 and line.source == FRAME:
@@ -81,6 +81,18 @@ def move_frame(lines: list[Line], above: int) -> None:
                 following.raw = packed(ADD_CONSTANT, line.destination, 0, 0, following.immediate - above)
             else:
                 lines.insert(at + 1, Line(packed(ADD_CONSTANT, line.destination, 0, 0, -above), line.origin))
+
+
+def computes_with_frame(line: Line) -> bool:
+    """Whether a line does something with the frame's address itself, but for a copy of it in a register: it stores it, compares it, or
+    computes with it."""
+    kind, is_source = line.opcode & 7, line.source == FRAME
+    if kind == BY_REGISTER_STORED:
+        return is_source
+    if line.is_jump and line.destination == FRAME:
+        return True
+    is_number = kind in (ALU32, ALU64) and line.opcode != MOV_64
+    return bool(line.opcode & BY_REGISTER) and is_source and (is_number or line.is_jump)
 
 
 # --- of an object file
@@ -172,7 +184,7 @@ def held_behind(line: Line, held: Held) -> Held:
     behind = {key: address for key, address in held.items() if not isinstance(key, int) or not writes(line, key)}
     if is_kept(line):
         behind.pop((line.offset,), None)
-        put(behind, (line.offset,), held.get(line.source))
+        put(behind, (line.offset,), address_in(held, line, line.source))
     else:
         put(behind, line.destination, made_by(line, held))
     return behind

@@ -179,3 +179,10 @@ def written(lines: list[Line]) -> tuple[bytes, list[Relocation], list[int]]:
         if line.row is not None:
             rows.append(line.row._replace(slot=slots[line]))
     return out, rows, origins
+
+
+def put_all(line: Line, rows: list[tuple]) -> list[Line]:
+    """Instructions in the place of a line, which becomes the first of them."""
+    first, *rest = rows
+    line.put(*first)
+    return [line, *(Line(packed(*fields), line.origin) for fields in rest)]

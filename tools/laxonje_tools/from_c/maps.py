@@ -8,9 +8,13 @@ from laxonje_tools.output import stop_on
 from . import beginnings, btf, elf, faults, lists
 
 if TYPE_CHECKING:
+    from collections.abc import Mapping
+
     from .btf import MapOfC
     from .compiler import Compiler
     from .elf import Part
+    from .layouts import Layout
+    from .large import InRows
     from .program import Asked
 
 TEXT = ".text"  # a section of functions that others call
@@ -42,13 +46,19 @@ def settings_of(maps: list[Map]) -> dict:
 
 
 def maps_of(
-    asked: Asked, sections: dict[str, Part], of_globals: list[SizedMap], named: set[str], compiler: Optional[Compiler]
+    asked: Asked,
+    sections: dict[str, Part],
+    of_globals: list[SizedMap],
+    named: set[str],
+    compiler: Optional[Compiler],
+    large: Optional[InRows] = None,
 ) -> tuple[list[Map], list[MapOfC]]:
     """The maps: those of the command line, those that are declared, and globals, the latter two in the order in which
     the file declares them; and what is declared of the second. `named`: maps that the function names. Other arrays are
-    there if it is the one function of the file, and if settings can have them."""
+    there if it is the one function of the file, and if settings can have them. `large`: which have their values in rows."""
     source, said = asked.source, {name: (entries, counters) for name, entries, counters in asked.maps}
-    declared = list(declared_in(asked, sections, named | set(said)))
+    as_declared = list(declared_in(asked, sections, named | set(said)))
+    declared = as_declared if large is None else [large.declared(row) for row in as_declared]
     stop_on(f"{source}: {fault}" for row in declared for fault in faults.faults_of_map(row))
     if compiler is not None and len(declared) + len(of_globals) > 1:
         order = order_by(compiler.declared())
@@ -61,7 +71,7 @@ def maps_of(
     stop_on(f"{source}: {fault}" for fault in faults.faults_of_sizes(maps))
     symbols = {row.name for row in elf.symbols_of(sections)}
     stop_on(f"{source}: there is no map {name} in it" for name in sorted(set(said) - symbols))
-    return with_values(asked, with_lists(asked, maps), declared), declared
+    return with_values(asked, with_lists(asked, maps), as_declared, {} if large is None else large.layouts), declared
 
 
 def declared_in(asked: Asked, sections: dict[str, Part], named: set[str]) -> Iterator[MapOfC]:
@@ -69,6 +79,8 @@ def declared_in(asked: Asked, sections: dict[str, Part], named: set[str]) -> Ite
     declared = list(btf.maps_in(sections))
     missing = dict(asked.entries).keys() - {row.name for row in declared}
     stop_on(f"{asked.source}: it declares no map {name}" for name in sorted(missing))
+    names = [row.name for row in declared]
+    stop_on(f"{asked.source}: it declares two maps {name}: give one of them another name" for name in sorted(set(names)) if names.count(name) > 1)
     entries = {**dict(asked.entries), **{name: number for name, number, _ in asked.maps}}
     is_alone = len({row.section for row in elf.functions_of(sections)} - {TEXT}) == 1 and asked.program is None
     for row in declared:
@@ -94,14 +106,15 @@ def with_lists(asked: Asked, maps: list[Map]) -> list[Map]:
     return [row._replace(rows=tuple(key.row(row.kind) for key in keys.get(row.name, []))) for row in maps]
 
 
-def with_values(asked: Asked, maps: list[Map], declared: list[MapOfC]) -> list[Map]:
+def with_values(asked: Asked, maps: list[Map], declared: list[MapOfC], layouts: Mapping[str, Layout]) -> list[Map]:
     """The maps with what a command says that their counters begin with."""
     files, numbers = dict(asked.beginnings), {row.name: row for row in declared}
     missing = files.keys() - {row.name for row in maps}
     stop_on(f"{asked.source}: it uses no map {name}" for name in sorted(missing))
     given = {name: beginnings.lines_of_file(path) for name, path in files.items()}
     try:
-        values = {row.name: beginnings.counters_of(row, numbers.get(row.name), given[row.name]) for row in maps if row.name in given}
+        rows = [(row, numbers.get(row.name), given[row.name], layouts.get(row.name)) for row in maps if row.name in given]
+        values = {row.name: beginnings.counters_of(row, *of_value) for row, *of_value in rows}
     except beginnings.Fault as fault:
         stop_on([f"{asked.source}: {fault}"])
     return [row._replace(values=values.get(row.name, ())) for row in maps]

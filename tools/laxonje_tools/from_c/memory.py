@@ -19,13 +19,15 @@ PARTS = 1, 2, 4  # sizes of numbers that are kept in the lowest bytes of a count
 class Memory(NamedTuple):
     """`constants`: bytes by section. `tables`: of slots, where in a section their address leads, and from where to
     where the variable there lies. `globals`: of slots, the map that a global became, and the place in its value.
-    `maps`: those maps, as (name, entries, counters). `beginnings`: by name what the counters of some of them begin with."""
+    `maps`: those maps, as (name, entries, counters). `beginnings`: by name what the counters of some of them begin with. `doubled`: the
+    slots of globals whose name another global has, which a linker took from another file."""
 
     constants: dict
     tables: list
     globals: list
     maps: list
     beginnings: dict
+    doubled: list
 
     def settings(self) -> dict:
         """What it adds to settings, for the tools alone."""
@@ -48,7 +50,7 @@ def beginning_of(part: Part, variable: Optional[Symbol]) -> tuple[int, ...]:
 
 def memory_of(sections: dict[str, Part], relocations: list[Relocation], changed: AbstractSet[tuple[str, int]] = frozenset()) -> Memory:
     """The memory that a program's relocations name. `changed`: places of sections that it stores to, as (section, place)."""
-    symbols, memory = symbols_of(sections), Memory({}, [], [], [], {})
+    symbols, memory, counters = symbols_of(sections), Memory({}, [], [], [], {}, []), {}
     places = {(section, variable_at(symbols, sections[section].number, place)) for section, place in changed}
     for row in relocations:
         if row.kind != MAP_ADDRESS or not row.section.startswith(MEMORY):
@@ -57,6 +59,8 @@ def memory_of(sections: dict[str, Part], relocations: list[Relocation], changed:
         variable = variable_at(symbols, part.number, row.place)
         beginning = beginning_of(part, variable)
         if is_counter(row.section, variable, beginning, (row.section, variable) in places):
+            if counters.setdefault(variable.name, (row.section, variable)) != (row.section, variable):
+                memory.doubled.append((row.slot, f"takes the address of a second global {variable.name}: give one of them another name"))
             memory.beginnings.update({variable.name: beginning} if any(beginning) else {})
             memory.globals.append({"slot": row.slot, "map": variable.name, "place": row.place - variable.place})
             size = 1, max(1, variable.size // COUNTER_BYTES)

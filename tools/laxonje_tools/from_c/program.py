@@ -3,16 +3,18 @@ from __future__ import annotations
 
 import struct
 import tempfile
-from typing import TYPE_CHECKING, Callable, Iterable, NamedTuple, Optional
+from typing import TYPE_CHECKING, Callable, Iterable, Iterator, NamedTuple, Optional
 
 from laxonje_tools.output import fail, stop_on
 
 from . import btf, constants, elf, faults
 from .absent import Absent, kinds_of
-from .calls import Calls, Fault, Replaced, has_calls
+from .calls import Array, Calls, Fault, Replaced, has_calls
 from .changed import stored_to
 from .compiler import Compiler
 from .frames import stack_of
+from .kernel import faults_of_kernel
+from .large import large_values
 from .maps import SizedMap, maps_of, settings_of
 from .memory import COUNTER_BYTES, faults_of_memory, memory_of
 from .values import SIZES, Constant, set_values, values_of
@@ -33,7 +35,8 @@ class Filter(NamedTuple):
     """`settings`: of the program as clang made it. If it has constants or globals in memory, keys of the tools'
     own say so, which `xdpbox` doesn't know; `forms` has those that can be maps as maps. `place`: of a slot its line of C,
     or None. `per_cpu`: the maps that are per CPU in Linux. `narrow`: those whose values have numbers of fewer than eight bytes.
-    `notes`: what its author should know. `values`: its constants that can be set."""
+    `notes`: what its author should know. `values`: its constants that can be set. `again`: the same with more values in rows, None if
+    there are none."""
 
     settings: dict
     place: Callable
@@ -41,6 +44,7 @@ class Filter(NamedTuple):
     narrow: set
     notes: list
     values: list[Constant]
+    again: Callable[[], Optional[Filter]] = lambda: None
 
     @property
     def forms(self) -> list[dict]:
@@ -123,18 +127,55 @@ def filter_of(asked: Asked, sections: dict[str, Part], compiler: Optional[Compil
     source, function = asked.source, chosen(asked, sections)
     stop_on(f"{source}: {fault}" for fault in set_values(sections, asked.values))
     place = place_in_c(btf.lines_of(sections, function, source))
+    stop_on(f"{place(slot) or f'{source}: slot {slot}'} {fault}" for slot, fault in faults_of_kernel(sections, function))
     frames = None if compiler is None else compiler.frames()
     made = without_calls(asked, sections, function, frames, place)
+    given = Given(asked, sections, compiler, made, place)
+    try:
+        return with_rows(given, False)
+    except Fault as fault:
+        slot = made.origins[fault.slot]
+        fail(f"{place(slot) or f'{source}: slot {slot}'} {fault}")
+
+
+class Given(NamedTuple):
+    """A function whose calls are written out, of an object."""
+
+    asked: Asked
+    sections: dict[str, Part]
+    compiler: Optional[Compiler]
+    made: Replaced
+    place: Callable
+
+    def again(self) -> Optional[Filter]:
+        """The filter with more values in rows; None if there are none, or not so."""
+        try:
+            return with_rows(self, True)
+        except Fault:
+            return None
+
+
+def with_rows(given: Given, is_again: bool) -> Optional[Filter]:
+    """The filter with values in rows that need it. `is_again`: whether more are; None if there are no more."""
+    asked, sections, compiler, made, place = given
+    source = asked.source
+    large = large_values(asked, sections, made, stored_to(made.code, made.relocations), is_again)
+    if large is None and is_again:
+        return None
+    made = made if large is None else large.made
     notes = [f"{place(slot) or f'slot {slot}'}: {note}" for slot, note in made.notes]
     place, relocations = (lambda slot, before=place: before(made.origins[slot])), made.relocations
     memory = memory_of(sections, relocations, stored_to(made.code, relocations))
     named = {row.name for row in relocations}
     added = [(name, 1, 1) for name in made.maps]
-    maps, declared = maps_of(asked, sections, [*memory.maps, *added], named, compiler)
-    maps = [row if row.values else row._replace(values=memory.beginnings.get(row.name, ())) for row in maps]
+    of_rows = [] if large is None else large.maps
+    maps, declared = maps_of(asked, sections, [*memory.maps, *of_rows, *added], named, compiler, large)
+    begun = {**memory.beginnings, **({} if large is None else large.globals)}
+    maps = [row if row.values else row._replace(values=begun.get(row.name, ())) for row in maps]
     rows = [
         *faults.faults_of_program(made.code, relocations, [row.name for row in maps]),
         *faults_of_memory(sections, relocations),
+        *memory.doubled,
     ]
     stop_on(f"{place(slot) or f'{source}: slot {slot}'} {fault}" for slot, fault in sorted(rows))
     relocations = [row for row in relocations if not row.section]
@@ -146,11 +187,12 @@ def filter_of(asked: Asked, sections: dict[str, Part], compiler: Optional[Compil
         **memory.settings(),
         "numbers": numbers_of(sections, declared, memory.maps),
         "stack": made.stack,
+        "laid": [] if large is None else large.comments(sections),
     }
     per_cpu = {row.name for row in declared if row.type in faults.PER_CPU}
-    narrow = {row.name for row in declared if row.has_parts}
-    kept = [row for row in values_of(sections) if row.name not in memory.beginnings]
-    return Filter(settings, place, per_cpu, narrow, notes, kept)
+    narrow = {row.name for row in declared if row.has_parts} | (set() if large is None else large.narrow)
+    kept = [row for row in values_of(sections) if row.name not in begun]
+    return Filter(settings, place, per_cpu, narrow, notes, kept, lambda: None if is_again else given.again())
 
 
 def without_calls(
@@ -160,13 +202,22 @@ def without_calls(
     relocations, found = list(elf.relocations_of(sections, function)), Absent(asked.left_out, kinds_of(btf.maps_in(sections)))
     if next(has_calls(function.code), None) is None and not any(found.has(row.name) for row in relocations):
         return Replaced(function.code, relocations, range(len(function.code) // 8), [], [], stack_of(function.code, function.name, frames))
-    arrays = {row.name: parts_of_value(row) for row in btf.maps_in(sections) if row.type in faults.ARRAYS}
+    entries = {**dict(asked.entries), **{name: number for name, number, _ in asked.maps}}
+    declared = [row for row in btf.maps_in(sections) if row.type in faults.ARRAYS]
+    arrays = {row.name: Array(parts_of_value(row), entries.get(row.name, row.entries)) for row in declared}
     functions = list(elf.functions_of(sections))
-    calls = Calls(functions, lambda of: elf.relocations_of(sections, of), found, arrays, frames, asked.mtu, asked.clock)
+    calls = Calls(functions, lambda of: relocations_in(sections, of), found, arrays, frames, asked.mtu, asked.clock)
     try:
         return calls.replaced(function)
     except Fault as fault:
         fail(f"{place(fault.slot) or f'{asked.source}: slot {fault.slot}'} {fault}")
+
+
+def relocations_in(sections: dict[str, Part], function: Function) -> Iterator[Relocation]:
+    """Those of a function that is called. What it asks of the kernel is a fault of the call."""
+    for _, fault in faults_of_kernel(sections, function):
+        raise Fault(f"calls {function.name}, which {fault}")
+    return elf.relocations_of(sections, function)
 
 
 def parts_of_value(declared: btf.MapOfC) -> list[tuple[int, int]]:

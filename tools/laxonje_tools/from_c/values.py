@@ -63,12 +63,14 @@ def constants_in(sections: dict[str, Part]) -> Iterator[tuple[str, Symbol]]:
 
 def set_values(sections: dict[str, Part], values: Iterable[tuple[str, int]]) -> Iterator[str]:
     """Puts numbers in the place of what constants have, as a loader does in Linux. What is wrong with them."""
-    found = {row.name: (section, row) for section, row in reversed(list(constants_in(sections)))} if values else {}
+    rows = list(constants_in(sections)) if values else []
     for name, number in values:
-        if name not in found:
-            yield f"there is no constant {name} to set: write `const volatile` in front of it"
+        found = [(section, row) for section, row in rows if row.name == name]
+        if len(found) != 1:
+            none = f"there is no constant {name} to set: write `const volatile` in front of it"
+            yield f"there are {len(found)} constants {name}: give each another name" if found else none
             continue
-        section, row = found[name]
+        section, row = found[0]
         fault = fault_of(name, row.size, number)
         if fault is not None:
             yield fault
@@ -88,9 +90,10 @@ def values_of(sections: dict[str, Part]) -> list[Constant]:
 
 
 def comments_of(settings: dict, values: Iterable[Constant]) -> list[str]:
-    """Where the numbers lie in those settings, a line each."""
-    maps = {row["name"] for row in settings["map"] if row.get("key") == KIND}
-    return [str(constant) for constant in values if constant.map in maps]
+    """Where the numbers lie in those settings, a line each; none of numbers that have one name."""
+    maps, rows = {row["name"] for row in settings["map"] if row.get("key") == KIND}, list(values)
+    names = [row.name for row in rows]
+    return [str(row) for row in rows if row.map in maps and names.count(row.name) == 1]
 
 
 class Unset(Exception):

@@ -76,6 +76,8 @@ def definition_of(module: tuple[str, ...], file: str, first: int, lines: list[st
     body = [it for it in lines if not it.startswith("--")]
     head = next((it for it in body if not it.startswith("infix")), body[0])
     found = HEAD.match(head)
+    if found is None:  # of a section in a section, which isn't read
+        return Definition(module, "", file, first, lines, "def", [], section)
     kind = found[2] or found[1] or "def"
     cases = []
     if kind == "data":

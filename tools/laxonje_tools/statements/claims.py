@@ -1,4 +1,5 @@
-"""docs/CLAIMS.md has the claims of each crate, docs/statements/rows.md for each the functions whose contracts carry it; and their links."""
+"""docs/CLAIMS.md has claims of crates, docs/statements/rows.md the others too, and for each the functions whose contracts carry it; and
+their links."""
 import os
 import pathlib
 import re
@@ -55,6 +56,8 @@ def with_claims(rows: str, claims: str) -> str:
 
     def part_with_claims(part: str) -> str:
         here = said.get(part.partition("\n")[0], {})
+        if not here:
+            return part
 
         def item(found: re.Match) -> str:
             number, carried = int(found[1]), " ".join(found[2].split()).rpartition(BY)[2]

@@ -94,6 +94,13 @@ def claims(root: pathlib.Path) -> list[Claim]:
     return found
 
 
+def without_contracts(root: pathlib.Path) -> list[int]:
+    """The numbers of README's claims that no contract carries."""
+    said = sentences((root / "README.md").read_text(encoding="utf-8"))
+    carried = {it.number for it in claims(root) if it.contracts}
+    return [number for number in said if number not in carried]
+
+
 def claim(root: pathlib.Path, name: str) -> list[Claim]:
     """The claim of this number, by its parts, or the part of this name."""
     every = claims(root)

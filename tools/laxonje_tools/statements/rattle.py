@@ -6,7 +6,8 @@ from collections.abc import Iterator
 
 from .antt import Import, imports_of
 
-CODE = re.compile(r'//[^\n]*|b?"(?:\\.|[^"\\])*"|b?\'(?:\\.|[^\\\'\n])\'')
+# Comments, strings, of which a line may go on in the next one, and characters.
+CODE = re.compile(r'//[^\n]*|b?"(?:\\[\s\S]|[^"\\])*"|b?\'(?:\\.|[^\\\'\n])\'')
 ITEM = re.compile(
     r"(?P<test>#\[cfg\(test\)\]\s*)?(?:#\[[^\]]*\]\s*)*(?P<pub>pub(?P<inside>\([a-z ]+\))? )?"
     r'(?:(?P<ghost>ghost use) (?P<spec>[^;]+);|(?P<use>use) (?P<path>[^;]+);|(?:const |unsafe |extern\s+)*(?P<fn>fn) (?P<name>\w+)'

@@ -1,12 +1,13 @@
 """What the rows of docs/statements/rows.md and docs/CLAIMS.md name: wrong bodies, clauses and definitions. Each has to be there, and
-each wrong body of must-fail has to be named; each claim has a row, and each row a wrong body, or says that there is none."""
+each wrong body of must-fail has to be named; each claim has a row, and each row a claim, which stands on the page of claims or, of the
+crates that this says, in the row alone; and each row has a wrong body, or says that there is none."""
 import dataclasses
 import pathlib
 import re
 from collections.abc import Iterator
 
 from . import rattle
-from .claims import BY, ITEM, PAGE, ROWS, every_section, numbered, pages_of
+from .claims import BRACKETS, BY, ITEM, PAGE, ROWS, every_section, numbered, pages_of
 from .tree import Contract, Node, Tree
 
 EDITS = re.compile(r"((?i:also )?)(?i:refused)[^:`]*:((?: (?:of `\w+`: )?`[a-z]\w*`,?|; for [^:`]*(?= `))+)")
@@ -17,9 +18,12 @@ CRATES = re.compile(r"(?:in|and|,) crates/(\w+)")
 WITH_NAMES = re.compile(r"(?:\[`([\w:]+)`\]\([^)]*\)|`([\w:]+)`|([Tt]he same)) \(([^()]*)\)")
 ONE = re.compile(r"\[`([\w:]+)`\]\([^)]*\)")
 COUNT = re.compile(r"`must-fail` (?:has|have) (\d+) edits, `more-edits` (\d+)")
+# The crates whose claims the page of rows has alone.
+ALONE = re.compile(r"On the page of rows alone are ([^.]*)\.")
 FOLDERS = ("must-fail", "more-edits")
-# What a row says that has no wrong body, as of laws alone.
+# What a row says that has no wrong body: one of laws alone, or one that says why.
 NONE = "no wrong body"
+OF_ITS_OWN = f"{NONE} of its own: "
 
 
 @dataclasses.dataclass(frozen=True)
@@ -85,17 +89,38 @@ def edit_findings(tree: Tree) -> Iterator[str]:
         yield f"{PAGE}: it has to have: {numbers(counts)}"
 
 
+def left_to_rows(tree: Tree) -> set[str]:
+    """The crates whose claims the page of claims leaves to that of rows."""
+    found = ALONE.search((tree.root / PAGE).read_text(encoding="utf-8"))
+    return set(re.findall(r"`(\w+)`", found[1])) if found else set()
+
+
 def number_findings(tree: Tree) -> Iterator[str]:
     """The claims without a row, the rows without a claim, and those that name no wrong body and don't say so."""
-    claims, carried = (numbered(text) for _, text in pages_of(tree))
+    (_, text), (_, below) = pages_of(tree)
+    claims, carried, left = numbered(text), numbered(below), left_to_rows(tree)
+    named = {it for head in carried for it in re.findall(r"`(\w+)`", head)}
+    yield from (f"{ROWS}: {it} has no rows, and {PAGE} leaves its claims to them" for it in sorted(left - named))
     for head in dict.fromkeys([*claims, *carried]):
         here, there = claims.get(head, {}), carried.get(head, {})
+        if there and not here and set(re.findall(r"`(\w+)`", head)) <= left:
+            here = {number: it for number, it in there.items() if it.partition(BY)[0].strip()}
         yield from (f"{ROWS}: {head}: claim {it} has no row" for it in here if it not in there)
         yield from (f"{PAGE}: {head}: row {it} has no claim" for it in there if it not in here)
-        for number, text in there.items():
-            text = text.rpartition(BY)[2]
-            if not EDITS.search(text) and NONE not in text:
+        for number, it in there.items():
+            carrying = it.rpartition(BY)[2]
+            if not EDITS.search(carrying) and NONE not in carrying:
                 yield f"{ROWS}: {head}: row {number} names no wrong body"
+
+
+def law_findings(tree: Tree) -> Iterator[str]:
+    """The functions with a body of rows that have no wrong body and don't say why: a law has no parameter, and does nothing."""
+    for row in rows(tree):
+        text = BRACKETS.sub("", row.text)
+        if NONE in text and OF_ITS_OWN not in text and not EDITS.search(row.refused):
+            for name in re.findall(r"`((?:\w+::)*[a-z]\w*)`", text):
+                found = [it for it in contracts_named(tree, row, name) if not it.item.signature.strip().endswith("()")]
+                yield from (f"{row.page}: a row with {NONE} names {it.path}, which is no law" for it in found)
 
 
 def numbers(counts: tuple[int, ...]) -> str:
@@ -171,4 +196,4 @@ def name_findings(tree: Tree) -> Iterator[str]:
 
 def findings(tree: Tree) -> list[str]:
     """What is wrong with the rows."""
-    return [*edit_findings(tree), *number_findings(tree), *name_findings(tree)]
+    return [*edit_findings(tree), *number_findings(tree), *law_findings(tree), *name_findings(tree)]

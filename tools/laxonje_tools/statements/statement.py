@@ -101,11 +101,13 @@ def part(tree: Tree, text: str) -> Part:
 
 
 def starts(tree: Tree, it: Part) -> list[Node]:
-    """What a contract's clauses name, and the types of the parameters that they speak of."""
+    """What a contract's clauses name, and what the caller has to establish names, whichever clauses count; and the types of the parameters
+    that these speak of."""
     contract = it.contract
     module = contract.source.path
-    found = list(tree.of_clauses(contract.crate, module, list(it.clauses), contract.item.imports))
-    text = " ".join(clause.text for clause in it.clauses)
+    clauses = [*it.clauses, *(clause for clause in contract.clauses if clause.kind == "requires" and clause not in it.clauses)]
+    found = list(tree.of_clauses(contract.crate, module, clauses, contract.item.imports))
+    text = " ".join(clause.text for clause in clauses)
     for name in spoken_types(contract.item, text):
         if (node := tree.type_named(contract.crate, module, name)) is not None:
             found.append(node)

@@ -241,12 +241,10 @@ def stated_tests(stated) -> Iterator[tuple[str, bool]]:
         yield "first lines that are missing", len(stated.findings(tree)) == 4
         stated.write(tree)
         tree = Tree(root)
-        heads = {module.path: module.head for _, module in stated.modules(tree)}
-        proofs = [path for path, head in heads.items() if head == stated.FOR_PROOFS]
+        proofs = [module.path for _, module in stated.modules(tree) if module.head == stated.FOR_PROOFS]
         yield "files for proofs", proofs == [("Again",), ("Machinery",)]
         yield "first lines as they should be", stated.findings(tree) == []
-        page = FILES[ROWS].replace("`Base`;", "`Machinery`;")
-        found = stated.findings(written(root, {ROWS: page}))
+        found = stated.findings(written(root, {ROWS: FILES[ROWS].replace("`Base`;", "`Machinery`;")}))
         yield "a row that names machinery", len(found) == 1 and "names Machinery of low" in found[0]
         written(root, {ROWS: FILES[ROWS]})
         before = (root / "crates/low/specs/Base.antt").read_text(encoding="utf-8")
@@ -257,7 +255,7 @@ def stated_tests(stated) -> Iterator[tuple[str, bool]]:
         fact = "ghost use Rattle.low.specs.Machinery.{two};\npub struct Fact {\n    size: u32,\n    ghost few: { size ≡ two },\n}\n"
         fact += "impl Fact {\n    pub fn make() -> Fact { Fact { size: 1 } }\n}\n"
         tree = written(root, {"crates/low/src/lib.rt": pair, "crates/low/src/facts.rt": fact})
-        yield "what an invariant alone reaches may begin with either line", stated.findings(tree) == []
+        yield "what an invariant alone reaches", [it[-len(stated.STATED) :] for it in stated.findings(tree)] == [stated.STATED]
         tree = written(root, {"crates/low/src/lib.rt": FILES["crates/low/src/lib.rt"]})
         (root / "crates/low/src/facts.rt").unlink()
         tree = written(root, {"crates/low/specs/Base.antt": before + "\n" + IMPORTS})
@@ -288,15 +286,32 @@ def row_tests(stated, root: pathlib.Path) -> Iterator[tuple[str, bool]]:
         yield f"a stale name, {new}", len(stale) == 1
     yield "a wrong body of the other folder", any("third, which isn't in must-fail" in it for it in found(page.replace("also\n   ", "")))
     yield "a row without a wrong body", any(it.endswith(" 2 names no wrong body") for it in found(page.partition("; also")[0] + ".\n"))
-    yield "a row that says so", found(page.replace("refused: `third`", "no wrong body").replace("also\n   ", "")) == []
+    yield "a row that says so", found(page.replace("refused: `third`", "no wrong body of its own: it follows").replace("also\n   ", "")) == []
     yield "a claim without a row", any("claim 2 has no row" in it for it in found(page.partition("2. ")[0]))
     yield "a row without a claim", any(it.endswith(" 3 has no claim") for it in found(page + "3. *By* `make`; refused: `make`.\n"))
-    old = FILES["docs/CLAIMS.md"].replace("1. What", "- Refused too: `make` (`tiny`); refused: `fourth`.\n\n1. What")
-    written(root, {"docs/CLAIMS.md": old})
+    written(root, {"docs/CLAIMS.md": FILES["docs/CLAIMS.md"].replace("1. What", "- Refused too: `make` (`tiny`); refused: `fourth`.\n\n1. What")})
     names = found(page)
     yield "a row of the page of claims", len(names) == 2 and "tiny is neither" in " ".join(names) and "names fourth, which" in " ".join(names)
     written(root, {"docs/CLAIMS.md": FILES["docs/CLAIMS.md"]})
     yield "rows as they should be", found(page) == []
+    yield from alone_tests(stated, root)
+
+
+def alone_tests(stated, root: pathlib.Path) -> Iterator[tuple[str, bool]]:
+    """Claims that the page of rows has alone, as the page of claims says of their crates."""
+    rows, left = FILES[ROWS], " On the page of rows alone are those of `low`."
+
+    def found(said: str, rows: str = rows) -> list[str]:
+        page = f"# Claims\n\n`must-fail` has 1 edits, `more-edits` 1.{said}\n"
+        return stated.findings(written(root, {"docs/CLAIMS.md": page, ROWS: rows}))
+
+    yield "claims of rows alone", found(left) == []
+    yield "a headline that is deleted", [it for it in found("") if it.endswith(" has no claim")] == found("") and len(found("")) == 2
+    unsaid = found(left, rows.replace("A kind is one of two. ", ""))
+    yield "a row alone without a claim", [it.endswith(" 2 has no claim") for it in unsaid] == [True]
+    yield "a crate without rows", any(it.startswith(f"{ROWS}: high has no rows") for it in found(left.replace("`low`", "`low`, `high`")))
+    yield "rows alone stay", claims.with_claims(rows, "# Claims\n") == rows
+    written(root, {"docs/CLAIMS.md": FILES["docs/CLAIMS.md"], ROWS: rows})
 
 
 def definition_tests(tree: Tree) -> Iterator[tuple[str, bool]]:

@@ -1,6 +1,7 @@
 """The repository's definitions, types and contracts, and what each depends on, by the imports of its file."""
 import dataclasses
 import pathlib
+import re
 from collections.abc import Callable, Iterable, Iterator
 
 from . import antt, rattle
@@ -10,6 +11,8 @@ from .words import free_words
 MOST_HANDS = 8
 # How contracts see a type, by its Model.
 SEEN = ("Value", "view")
+# A name of the repository's own definitions that is written with its whole path.
+WHOLE = re.compile(r"(?<![\w.])Rattle(?:\.[\w'-]+)+")
 
 
 @dataclasses.dataclass(frozen=True)
@@ -167,6 +170,16 @@ class Tree:
             return self.definition(crate, path, found.name, seen)
         return self.definition(crate, path, member, seen) if member else None
 
+    def of_paths(self, text: str) -> Iterator[Node]:
+        """What a text names by whole paths; a member may be taken of it."""
+        return (it for path in WHOLE.findall(text) if (it := self.at_path(path)) is not None)
+
+    def at_path(self, path: str) -> Node | None:
+        """What a whole path names, or its longest beginning that names something."""
+        words = tuple(path.split("."))
+        wholes = (antt.Import(words[:end], words[end], False, 0) for end in range(len(words) - 1, 3, -1))
+        return next((it for found in wholes if (it := self.imported(found, None)) is not None), None)
+
     def module_named(self, found: antt.Import) -> tuple[str, tuple[str, ...]] | None:
         """The file of definitions that an import of a whole module names."""
         crate, path = found.path[1:2], found.path[3:]
@@ -266,6 +279,7 @@ class Tree:
         for name, member in antt.free_in(self.definition_of(node), lambda it: self.is_case(node.crate, module, it)):
             if (found := self.in_module(node.crate, module, name, member)) is not None:
                 yield found
+        yield from self.of_paths("\n".join(self.definition_of(node).body))
 
     def outside(self, node: Node) -> Iterator[antt.Import]:
         """What a definition's own words name of the kit's libraries."""
@@ -325,6 +339,7 @@ class Tree:
                 found = self.in_imports(imports, name, member) or self.type_named(crate, module, name)
                 if found is not None:
                     yield found
+            yield from self.of_paths(clause.text)
 
     # Contracts
 

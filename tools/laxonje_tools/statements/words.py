@@ -5,7 +5,7 @@ import re
 from collections.abc import Callable, Iterator
 from typing import NamedTuple
 
-TOKEN = re.compile(r'"(?:\\.|[^"\\])*"|--[^\n]*|[(){}\[\],;]|\.(?=\s|$)|\.|[^\s(){}\[\],;."]+|\s+')
+TOKEN = re.compile(r'"(?:\\[\s\S]|[^"\\])*"|--[^\n]*|[(){}\[\],;]|\.(?=\s|$)|\.|[^\s(){}\[\],;."]+|\s+')
 OPENING, CLOSING = "({[", ")}]"
 # Words of the language, which name nothing.
 LANGUAGE = set("λ → : = in let if then else where with case record data abbrev pub def unfoldable opaque by".split())

@@ -11,8 +11,8 @@ from typing import TYPE_CHECKING, Callable, Iterable, Iterator, NamedTuple, Opti
 from laxonje_tools.output import fail, in_one_line
 
 from .graph import INDEX, SIZE, Fail
-from .lowered import is_computed, may_lower
-from .parts import COUNTER_BYTES, check_values, places_of, with_counters
+from .lowered import may_lower
+from .parts import check_values, places_of, with_counters
 from .search import OF_THE_BYTES
 from .settings import as_text, instructions_of, without_rows
 from .shown import ALONE, BY_COUNTS, COMPARED, PROVED, NoComparison, Rewriting, question, shown
@@ -110,9 +110,14 @@ class Refused(Exception):
         super().__init__(f"{why}")
         self.answer, self.why, self.atomic = answer, why, atomic
 
+    @property
+    def cause(self) -> Optional[str]:
+        """What it is that refuses it: one of the verifier's causes, SIZE or INDEX; None for one that is in words alone."""
+        return self.why.cause or self.answer.cause
+
     def advice(self) -> Optional[str]:
         """What to write instead, or None."""
-        cause = self.why.cause or self.answer.cause
+        cause = self.cause
         answer = self.why.answer if isinstance(self.why, StillRefused) else self.answer
         if cause == "V17" and not answer.has_map:
             return NO_MAP
@@ -225,17 +230,15 @@ def taken_best(xdpbox: str, settings: dict, result: Result, wanted: Wanted) -> t
         return simple
     programs = (proved(other) for other in in_rows(settings, xdpbox, result))
     program = next((program for program in programs if program is not None), None)
+    program = program or taken_written_out(xdpbox, settings, result, wanted, with_words=True)
     return simple if program is None else (program, None)
 
 
-def taken_written_out(xdpbox: str, settings: dict, result: Result, wanted: Wanted) -> Optional[Straight]:
+def taken_written_out(xdpbox: str, settings: dict, result: Result, wanted: Wanted, with_words: bool = False) -> Optional[Straight]:
     """A result of the program written out that is proved to be the same as that; None if there is none. A number that is stored is
-    read first: so nothing is said of several queues then. A count isn't written out: what is added is the difference from what was
-    loaded, so that no count of another queue is lost."""
-    code = instructions_of(settings)
-    small = {slot: row for slot, row in result.differences.items() if code[slot].size < COUNTER_BYTES}
-    is_count = any(is_computed(code, slot, row) for slot, row in small.items())
-    other = written_out(settings, code, result) if wanted.writes_out and not is_count else None
+    read first: so nothing is said of several queues then. What a count adds is the difference from what was loaded, so that no count
+    of another queue is lost. `with_words`: whether numbers on the stack are written out too."""
+    other = written_out(settings, instructions_of(settings), result, with_words) if wanted.writes_out else None
     if other is None or any(row.get("values") and result.moved.get(row["name"]) for row in settings["map"]):
         return None
     for found in searched_again(other.settings, xdpbox, result):

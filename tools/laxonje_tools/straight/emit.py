@@ -83,6 +83,8 @@ class Emitter:
              is a constant on some ways: with a constant the sum would be another kind of address
     differences  by the slots of stores to a counter of which the difference is added
     keys     slots of lookups whose key is copied to the stack
+    anew     by the slot behind a jump a copy of what it compares, which is made anew there
+    kept     by the slots of loads of counters what is kept of them, and in `again` which loads read that again
     moved    by map the parts of its values that have a counter of their own
 
     `reached`: by map the accesses in its values; those of None may be in any. `key_sizes`: by map how many bytes a lookup reads. `lies`:
@@ -185,6 +187,12 @@ class Emitter:
                 self.put_own(slot, STORE_DOUBLE, FRAME_POINTER, target, row.place.offset)
             give_back()
 
+    def move_anew(self, here: Copy) -> None:
+        """Behind a jump: a copy of what it compares, made anew. The verifier knows what the jump says of the compared register alone."""
+        row = self.marks.anew.get(here.slot)
+        if row is not None and [before.slot for before, _ in here.before] == [row.jump]:
+            self.put_own(here.slot, MOVE_REGISTER, row.copy, row.compared)
+
     def guard(self, here: Copy) -> None:
         """Before an access: the end of what it reaches is compared with the packet's end."""
         slot, access, live = here.slot, self.copies.code[here.slot], self.copies.live[here.slot]
@@ -207,6 +215,7 @@ class Emitter:
         for here, following in zip(self.copies.order, [*self.copies.order[1:], None]):
             self.places[here] = len(self.out)
             self.remake(here)
+            self.move_anew(here)
             branch = self.write_copy(here)
             if branch is None:
                 for way, after in here.ways:
@@ -278,6 +287,10 @@ class Emitter:
             self.put(Instruction(*fields), Kind.COPY, slot, here)
             if slot in self.known:
                 self.save(("counted", self.known[slot]), insn.destination, slot + 1)
+            for name in self.marks.kept.get(slot, ()):
+                self.save(name, insn.destination, slot + 1)
+            if slot in self.marks.again:
+                self.load(insn.destination, self.marks.again[slot], slot + 1)
         return None
 
     def write_otherwise(self, here: Copy, insn: Instruction) -> bool:

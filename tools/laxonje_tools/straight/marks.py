@@ -21,6 +21,14 @@ class MarksOfCopies(NamedTuple):
     values: int
 
 
+class Anew(NamedTuple):
+    """A copy of the register that a jump compares: the jump's slot, and both registers."""
+
+    jump: int
+    copy: int
+    compared: int
+
+
 @dataclass
 class Marks:
     meetings: set = field(default_factory=set)  # (copy's key or slot, stack slot or None)
@@ -36,10 +44,13 @@ class Marks:
     differences: dict = field(default_factory=dict)  # by the slot of a store
     adds: set = field(default_factory=set)  # slots of atomic additions of four bytes
     trips: dict = field(default_factory=dict)  # of slots in loops, how often a way comes by
+    anew: dict = field(default_factory=dict)  # by the slot behind a jump the copy that is made anew there
     narrow: set = field(default_factory=set)  # slots of loads
     rebased: set = field(default_factory=set)  # keys of copies, or slots
     keys: set = field(default_factory=set)  # slots of lookups
     moved: dict = field(default_factory=dict)  # by map the parts of values that have a counter of their own
+    kept: dict = field(default_factory=dict)  # by the slots of loads of counters the names of what is kept of them
+    again: dict = field(default_factory=dict)  # by the slots of loads that read a counter again the name of what was kept of it
 
     def of_copies(self) -> MarksOfCopies:
         """Those of copies as they are now: later marks don't change these."""

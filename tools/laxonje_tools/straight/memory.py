@@ -96,8 +96,7 @@ def check_store(emitter: Emitter, here: Copy, store: Instruction) -> None:
     place = emitter.addresses.before[here].get(store.base) if store.is_store else None
     if isinstance(place, TableAddress):
         raise Fail(
-            f"stores to {place.table.name}: a global that changes is a map's counters here: it has 1, 2, 4 or"
-            " whole eight bytes, at most 64",
+            f"stores to {place.table.name}: a global that changes is a map's counters here: they begin with at most 2^63 - 1",
             here.slot,
         )
 

@@ -79,6 +79,10 @@ class Search:
         self.fuses, self.by_place, self.in_rows, self.has_rows = fuses, by_place, in_rows, False
         self.code = instructions_of(settings)
         self.marks = Marks(values=RESULTS if any(insn.counter is not None for insn in self.code.values()) else 0)
+        for row in settings.get("again", []):
+            self.marks.again[row["slot"]] = name = "counted", row["slot"]
+            for load in row["loads"]:
+                self.marks.kept.setdefault(load, []).append(name)
         self.copies = self.addresses = self.labels = None
         self.reached = {}  # by map the accesses in its values
         self.found = None  # where they lie

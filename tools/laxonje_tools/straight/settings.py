@@ -11,7 +11,7 @@ if TYPE_CHECKING:
     from .instructions import Code
 
 INDEX_BYTES, LENGTH_BYTES = 4, 4  # of an array's key, and of a prefix's length
-OF_THE_TOOLS = "constants", "tables", "globals", "numbers", "begin", "stack"  # keys that no printed settings have
+OF_THE_TOOLS = "constants", "tables", "globals", "numbers", "begin", "stack", "again", "laid"  # keys that no printed settings have
 CONSTANTS = "constants"  # the key of a map that is read at its address
 
 

@@ -5,7 +5,9 @@ from __future__ import annotations
 from typing import TYPE_CHECKING
 
 from .copies import Cases, Trips
-from .graph import loop_of, steering
+from .graph import loop_of, predecessors, steering
+from .instructions import MOVE_REGISTER
+from .marks import Anew
 from .masks import parts_of
 
 if TYPE_CHECKING:
@@ -49,7 +51,17 @@ class Steps:
 
     def by_folds(self, row: Steering) -> bool:
         """Of a sum whose upper part is added to its lower one until there is none."""
-        return row.folds(self.code, self.loop) and self.mark(row, MOST_FOLDS)
+        if not row.folds(self.code, self.loop) or not self.mark(row, MOST_FOLDS):
+            return False
+        self.mark_copy(row)
+        return True
+
+    def mark_copy(self, row: Steering) -> None:
+        """A copy of what the jump compares, in front of it: behind the jump, where more is known of the number, it is made anew."""
+        copy, jump = self.code.get(row.jump - 1), self.code[row.jump]
+        is_copy = copy is not None and copy.opcode == MOVE_REGISTER and copy.source == jump.destination
+        if is_copy and not jump.by_register and predecessors(self.code)[row.jump] == [row.jump - 1]:
+            self.marks.anew[row.inside] = Anew(row.jump, copy.destination, copy.source)
 
     def by_mask(self, row: Steering, by_number: bool) -> bool:
         """Of a number after a mask."""

@@ -38,10 +38,12 @@ def without_counts(settings: dict, xdpbox: str, result: Result) -> Optional[Resu
 
 
 def searched_again(settings: dict, xdpbox: str, result: Result) -> Iterator[Result]:
-    """What the same search finds of the program written out: with counts, and with each count as a difference."""
-    for fuses in (True, False):
-        with contextlib.suppress(Fail):
-            yield Search(settings, xdpbox, *result.way, fuses=fuses).run()
+    """What the same search finds of the program written out: with counts, and with each count as a difference; then the same with masked
+    numbers told apart where they are of a row."""
+    for in_rows in (False, True) if result.has_rows else (False,):
+        for fuses in (True, False):
+            with contextlib.suppress(Fail):
+                yield Search(settings, xdpbox, *result.way, fuses=fuses, in_rows=in_rows).run()
 
 
 def by_place(settings: dict, xdpbox: str, result: Result) -> Optional[Result]:

@@ -2,7 +2,7 @@
 use crate::printed::{advice_by, prints, prints_by_registers, prints_undecoded, text};
 use bpf_explain::{asked_register, joined_text, was_text};
 use bpf_insn::{Cause, Insn, Refusal, Register, Size, decode};
-use bpf_note::{Kind, MapKey, MapShape, Note, PACKET_ID, Val};
+use bpf_note::{KeyKind, MapKey, MapShape, Note, PACKET_ID, Val};
 use std::alloc::Global;
 
 /// The first byte of the packet.
@@ -67,9 +67,9 @@ fn a_key_that_is_half_set(rt: HostRuntime) {
 const LISTED: &str =
     "   0: r1 = map 0\n>  2: call 1\n       R1=map_ptr(map=hits)  R2=fp-20  fp-24=????##??  fp-16=????????  fp-8=????????\n   3: exit\nrefused V17 at 2\nwrite instead: set all bytes of the key that r2 points to, within the stack: as many as each key of the map's list has\n";
 
-/// Whether all slots of a key of 16 bytes are printed, of which two are set.
+/// Returns whether all slots of a key of 16 bytes are printed, of which two are set.
 fn prints_listed(alloc: Global) -> Option<bool> {
-    let shape = MapShape::keyed(MapKey::Listed(Kind::Exact(16)), 2, 3)?;
+    let shape = MapShape::keyed(MapKey::Listed(KeyKind::Exact(16)), 2, 3)?;
     let mut note = Note::entry(alloc);
     note.set_register(1, Val::Map { m: 0 });
     note.set_register(2, Val::Stack { off: -20 });
@@ -152,7 +152,7 @@ const SUMS: [u8; 16] = [
     0x04, 0x01, 0, 0, 1, 0, 0, 0, // w1 += 1
 ];
 
-/// Whether this is printed of `r1`, an address before a slot of [`SUMS`], which adds `r2` or a constant.
+/// Returns whether this is printed of `r1`, an address before a slot of [`SUMS`], which adds `r2` or a constant.
 fn was_address(alloc: Global, pc: u32, wanted: &str) -> Option<bool> {
     let mut note = Note::entry(alloc);
     note.set_register(1, DATA);
@@ -179,7 +179,7 @@ fn since_when_it_is_no_address(rt: HostRuntime) {
     }
 }
 
-/// Whether this is printed of `r1`, an address on seven of the eight notes at slot 37.
+/// Returns whether this is printed of `r1`, an address on seven of the eight notes at slot 37.
 fn is_joined(alloc: Global, wanted: &str) -> Option<bool> {
     let text = joined_text(alloc, Register::R1, 37, 7).ok()?;
     Some(text.as_str() == wanted)

@@ -10,13 +10,13 @@ const EXIT: [u8; 8] = [
     0x95, 0, 0, 0, 0, 0, 0, 0, // exit
 ];
 
-/// What is printed of `exit` if it is refused with this cause while `r0` is this value.
+/// Returns what is printed of `exit` if it is refused with this cause while `r0` is this value.
 fn text_of_exit(alloc: Global, cause: Cause, value: Val) -> Option<String> {
     let note = note_of(alloc, &[(0, value)]);
     text(alloc, &EXIT, &[], Refusal { cause, pc: 0 }, Some(&note))
 }
 
-/// Whether a value of `r0` is shown as this.
+/// Returns whether a value of `r0` is shown as this.
 fn is_shown(alloc: Global, value: Val, shown: &str) -> Option<bool> {
     let wanted = format!(in alloc;
         ">  0: exit\n       R0={shown}\nrefused V7 at 0\nwrite instead: set the register on each way that leads here; a call leaves r1 to r5 unset\n"
@@ -79,7 +79,7 @@ const CAUSES: [(Cause, u8, bool, &str); 10] = [
     (Cause::Argument, 17, true, "a wide load of a map in r1"),
 ];
 
-/// Whether the cause is explained so if `r0` is 1.
+/// Returns whether the cause is explained so if `r0` is 1.
 fn is_advised(
     alloc: Global,
     (cause, number, shows, advice): (Cause, u8, bool, &str),
@@ -179,13 +179,13 @@ fn advice_by_the_values(rt: HostRuntime) {
     }
 }
 
-/// Whether this is the advice for a refused load of four bytes of a value, over a map of this shape.
+/// Returns whether this is the advice for a refused load of four bytes of a value, over a map of this shape.
 fn is_advice_for_a_load(alloc: Global, shape: MapShape, wanted: &str) -> bool {
     let note = note_of(alloc, &[(0, Val::Value { m: 0 })]);
     advice_for(&[shape], Cause::MapAccess, Some(LOAD), Some(&note)) == wanted
 }
 
-/// Whether it is as it should be where counters are loaded whole, and where a load may take a part.
+/// Returns whether it is as it should be where counters are loaded whole, and where a load may take a part.
 fn has_advice_for_loads(alloc: Global) -> Option<[bool; 2]> {
     let whole = MapShape::of(2, 3)?;
     Some([
@@ -207,7 +207,7 @@ fn loads_of_counters(rt: HostRuntime) {
     assert_eq!(rt; has_advice_for_loads(rt.alloc()), Some([true, true]));
 }
 
-/// Whether a listing of 101 slots has its numbers in a column, up to the refused one at the end.
+/// Returns whether a listing of 101 slots has its numbers in a column, up to the refused one at the end.
 fn has_columns(alloc: Global) -> Option<[bool; 2]> {
     let mut bytes = Vec::new(alloc);
     for _slot in 0..101 {
@@ -261,7 +261,7 @@ const BEFORE: [u8; 8] = [
     0x79, 0x10, 0xff, 0xff, 0, 0, 0, 0, // r0 = *(u64 *)(r1 -1)
 ];
 
-/// Whether the span of that load is shown.
+/// Returns whether the span of that load is shown.
 fn shows_span(alloc: Global) -> Option<bool> {
     let address = Val::Pkt {
         id: PACKET_ID,
@@ -291,7 +291,7 @@ const JUMPS: [u8; 24] = [
     0x06, 0, 0, 0, 0xff, 0xff, 0, 0,       // gotol pc+65535
 ];
 
-/// Whether this is printed of a jump that has no target.
+/// Returns whether this is printed of a jump that has no target.
 fn shows_target(alloc: Global, pc: u32, wanted: &str) -> Option<bool> {
     let refusal = Refusal {
         cause: Cause::Target,

@@ -14,7 +14,7 @@ fn alu(op: AluOp) -> Insn {
     }
 }
 
-/// Whether an instruction reads `r0`, `r2` and `r3`, and whether it writes them.
+/// Returns whether an instruction reads `r0`, `r2` and `r3`, and whether it writes them.
 fn used(insn: Insn) -> ([bool; 3], [bool; 3]) {
     let (r0, r2, r3) = (Register::R0, Register::R2, Register::R3);
     (

@@ -24,7 +24,7 @@ fn note_of(alloc: Global, r2: Val) -> Note {
     note
 }
 
-/// Whether `r2 += 10` leads to slot 8 alone, and changes `r2` alone from one value to another.
+/// Returns whether `r2 += 10` leads to slot 8 alone, and changes `r2` alone from one value to another.
 fn adds_ten(alloc: Global, from: Val, to: Val) -> bool {
     let mut note = note_of(alloc, from);
     let ways = r2_gets(alloc, &mut note, AluOp::Add, Operand::Immediate(10));
@@ -49,7 +49,7 @@ fn a_refused_instruction_leaves_the_note(rt: HostRuntime) {
     assert_eq!(rt; refused_addition(rt.alloc()), (Some(Cause::Unset), true));
 }
 
-/// Where a jump over two slots for `r2 > 4` leads, and what is known of `r2` there.
+/// Returns where a jump over two slots for `r2 > 4` leads, and what is known of `r2` there.
 fn ways_of_a_jump(alloc: Global) -> Option<[(u32, Val); 2]> {
     let mut note = note_of(alloc, range(0, 9));
     let insn = Insn::Jump {

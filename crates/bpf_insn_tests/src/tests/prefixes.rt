@@ -132,7 +132,7 @@ fn lengths(rt: HostRuntime) {
     assert_eq!(rt; exits(alloc, 4097), Some(Err(bad)));
 }
 
-/// Why the first bytes of [`PROGRAM`] are refused, if they are.
+/// Returns why the first bytes of [`PROGRAM`] are refused, if they are.
 fn wanted(len: usize) -> [Option<Refusal>; 2] {
     if len == 0 || len % 8 != 0 {
         first_refused(Cause::Length)

@@ -1,13 +1,13 @@
 //! Rows with exact keys.
 use bpf_lists::KeyedRows;
-use bpf_note::Kind;
+use bpf_note::KeyKind;
 use std::alloc::Global;
 
 const ADDRESSES: [u8; 16] = [192, 0, 2, 1, 10, 0, 0, 1, 255, 255, 255, 255, 0, 0, 0, 0];
 
 /// The row of an address.
 fn address(alloc: Global, key: [u8; 4]) -> Option<u32> {
-    let rows = KeyedRows::make(alloc, Kind::Exact(4), &ADDRESSES).ok()?;
+    let rows = KeyedRows::make(alloc, KeyKind::Exact(4), &ADDRESSES).ok()?;
     rows.find(&key)
 }
 
@@ -29,7 +29,7 @@ fn a_key_that_differs_in_one_bit_is_not_found(rt: HostRuntime) {
 
 /// The row of a key of one byte among no rows.
 fn among_none(alloc: Global) -> Option<Option<u32>> {
-    let rows = KeyedRows::make(alloc, Kind::Exact(1), &[]).ok()?;
+    let rows = KeyedRows::make(alloc, KeyKind::Exact(1), &[]).ok()?;
     Some(rows.find(&[7]))
 }
 
@@ -42,7 +42,7 @@ fn no_rows_have_no_key(rt: HostRuntime) {
 fn widest(alloc: Global, last: u8) -> Option<Option<u32>> {
     let mut keys = [7; 128];
     keys[127] = 8;
-    let rows = KeyedRows::make(alloc, Kind::Exact(64), &keys).ok()?;
+    let rows = KeyedRows::make(alloc, KeyKind::Exact(64), &keys).ok()?;
     let mut key = [7; 64];
     key[63] = last;
     Some(rows.find(&key))

@@ -1,9 +1,9 @@
 //! Lists of more rows, in which a search has a long way.
-use bpf_lists::{KeyedRows, Refusal};
-use bpf_note::Kind;
+use bpf_lists::{KeyedRows, RowsRefusal};
+use bpf_note::KeyKind;
 use std::alloc::Global;
 
-/// How many rows there are.
+/// The number of rows.
 const ROWS: u32 = 40;
 /// The inverse in 32 bits of the number that keys are multiplied by.
 const INVERSE: u32 = 0x0E8B_2F51;
@@ -14,12 +14,12 @@ fn key_of_one_chain(row: u32) -> [u8; 4] {
 }
 
 /// The first row of one chain that isn't found by its key.
-fn lost_of_one_chain(alloc: Global) -> Result<Option<u32>, Refusal> {
+fn lost_of_one_chain(alloc: Global) -> Result<Option<u32>, RowsRefusal> {
     let mut keys = Vec::new(alloc);
     for row in 0..ROWS {
         keys.extend_from_slice(&key_of_one_chain(row))?;
     }
-    let rows = KeyedRows::make(alloc, Kind::Exact(4), &keys)?;
+    let rows = KeyedRows::make(alloc, KeyKind::Exact(4), &keys)?;
     for row in 0..=ROWS {
         if rows.find(&key_of_one_chain(row)) != Some(row) {
             return Ok(Some(row));
@@ -40,12 +40,12 @@ fn network(row: u32) -> [u8; 8] {
 }
 
 /// The first network beside others that isn't found by its key.
-fn lost_network(alloc: Global) -> Result<Option<u32>, Refusal> {
+fn lost_network(alloc: Global) -> Result<Option<u32>, RowsRefusal> {
     let mut keys = Vec::new(alloc);
     for row in 0..ROWS {
         keys.extend_from_slice(&network(row))?;
     }
-    let rows = KeyedRows::make(alloc, Kind::Prefix(4), &keys)?;
+    let rows = KeyedRows::make(alloc, KeyKind::Prefix(4), &keys)?;
     for row in 0..=ROWS {
         if rows.find(&network(row)) != Some(row) {
             return Ok(Some(row));

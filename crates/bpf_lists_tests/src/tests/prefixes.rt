@@ -1,6 +1,6 @@
 //! Rows with prefixes: 10.0.0.0/8, 10.1.0.0/16, 10.1.2.0/23, 10.1.3.3/32 and 192.0.2.128/25.
 use bpf_lists::KeyedRows;
-use bpf_note::Kind;
+use bpf_note::KeyKind;
 use std::alloc::Global;
 
 const PREFIXES: [u8; 40] = [
@@ -10,7 +10,7 @@ const PREFIXES: [u8; 40] = [
 
 /// The row of an address of which the first `bits` bits are known.
 fn within(alloc: Global, bits: u8, address: [u8; 4]) -> Option<u32> {
-    let rows = KeyedRows::make(alloc, Kind::Prefix(4), &PREFIXES).ok()?;
+    let rows = KeyedRows::make(alloc, KeyKind::Prefix(4), &PREFIXES).ok()?;
     let [a, b, c, d] = address;
     rows.find(&[bits, 0, 0, 0, a, b, c, d])
 }

@@ -1,44 +1,44 @@
 //! Rows that are refused, each for its cause.
-use bpf_lists::{KeyedRows, Refusal};
-use bpf_note::Kind;
+use bpf_lists::{KeyedRows, RowsRefusal};
+use bpf_note::KeyKind;
 use std::alloc::{AllocError, Global};
 
-/// Why rows are refused.
-fn cause(alloc: Global, kind: Kind, keys: &[u8]) -> Option<Refusal> {
+/// Returns why rows are refused.
+fn cause(alloc: Global, kind: KeyKind, keys: &[u8]) -> Option<RowsRefusal> {
     KeyedRows::make(alloc, kind, keys).err()
 }
 
 #[test]
 fn keys_have_1_to_64_bytes(rt: HostRuntime) {
     assert_eq!(rt;
-        cause(rt.alloc(), Kind::Exact(0), &[]),
-        Some(Refusal::Width)
+        cause(rt.alloc(), KeyKind::Exact(0), &[]),
+        Some(RowsRefusal::Width)
     );
     assert_eq!(rt;
-        cause(rt.alloc(), Kind::Exact(65), &[]),
-        Some(Refusal::Width)
+        cause(rt.alloc(), KeyKind::Exact(65), &[]),
+        Some(RowsRefusal::Width)
     );
     assert_eq!(rt;
-        cause(rt.alloc(), Kind::Prefix(0), &[]),
-        Some(Refusal::Width)
+        cause(rt.alloc(), KeyKind::Prefix(0), &[]),
+        Some(RowsRefusal::Width)
     );
     assert_eq!(rt;
-        cause(rt.alloc(), Kind::Prefix(65), &[]),
-        Some(Refusal::Width)
+        cause(rt.alloc(), KeyKind::Prefix(65), &[]),
+        Some(RowsRefusal::Width)
     );
-    assert_eq!(rt; cause(rt.alloc(), Kind::Prefix(64), &[]), None);
-    assert_eq!(rt; cause(rt.alloc(), Kind::Exact(1), &[]), None);
+    assert_eq!(rt; cause(rt.alloc(), KeyKind::Prefix(64), &[]), None);
+    assert_eq!(rt; cause(rt.alloc(), KeyKind::Exact(1), &[]), None);
 }
 
 #[test]
 fn rows_are_whole(rt: HostRuntime) {
     assert_eq!(rt;
-        cause(rt.alloc(), Kind::Exact(4), &[1, 2, 3, 4, 5]),
-        Some(Refusal::Partial)
+        cause(rt.alloc(), KeyKind::Exact(4), &[1, 2, 3, 4, 5]),
+        Some(RowsRefusal::Partial)
     );
     assert_eq!(rt;
-        cause(rt.alloc(), Kind::Prefix(1), &[8, 0, 0, 0]),
-        Some(Refusal::Partial)
+        cause(rt.alloc(), KeyKind::Prefix(1), &[8, 0, 0, 0]),
+        Some(RowsRefusal::Partial)
     );
 }
 
@@ -46,25 +46,28 @@ fn rows_are_whole(rt: HostRuntime) {
 fn a_prefix_is_no_longer_than_its_data(rt: HostRuntime) {
     let keys = [8, 0, 0, 0, 7, 9, 0, 0, 0, 7];
     assert_eq!(rt;
-        cause(rt.alloc(), Kind::Prefix(1), &keys),
-        Some(Refusal::Length(1))
+        cause(rt.alloc(), KeyKind::Prefix(1), &keys),
+        Some(RowsRefusal::Length(1))
     );
     assert_eq!(rt;
-        cause(rt.alloc(), Kind::Prefix(1), &[0, 1, 0, 0, 0]),
-        Some(Refusal::Length(0))
+        cause(rt.alloc(), KeyKind::Prefix(1), &[0, 1, 0, 0, 0]),
+        Some(RowsRefusal::Length(0))
     );
 }
 
 #[test]
 fn no_bit_is_set_beyond_a_prefix(rt: HostRuntime) {
     assert_eq!(rt;
-        cause(rt.alloc(), Kind::Prefix(1), &[7, 0, 0, 0, 3]),
-        Some(Refusal::Beyond(0))
+        cause(rt.alloc(), KeyKind::Prefix(1), &[7, 0, 0, 0, 3]),
+        Some(RowsRefusal::Beyond(0))
     );
-    assert_eq!(rt; cause(rt.alloc(), Kind::Prefix(1), &[7, 0, 0, 0, 2]), None);
     assert_eq!(rt;
-        cause(rt.alloc(), Kind::Prefix(2), &[8, 0, 0, 0, 3, 1]),
-        Some(Refusal::Beyond(0))
+        cause(rt.alloc(), KeyKind::Prefix(1), &[7, 0, 0, 0, 2]),
+        None
+    );
+    assert_eq!(rt;
+        cause(rt.alloc(), KeyKind::Prefix(2), &[8, 0, 0, 0, 3, 1]),
+        Some(RowsRefusal::Beyond(0))
     );
 }
 
@@ -72,25 +75,25 @@ fn no_bit_is_set_beyond_a_prefix(rt: HostRuntime) {
 fn no_key_stands_twice(rt: HostRuntime) {
     let keys = [5, 1, 9, 1];
     assert_eq!(rt;
-        cause(rt.alloc(), Kind::Exact(1), &keys),
-        Some(Refusal::Repeated(1, 3))
+        cause(rt.alloc(), KeyKind::Exact(1), &keys),
+        Some(RowsRefusal::Repeated(1, 3))
     );
     let prefixes = [8, 0, 0, 0, 16, 4, 0, 0, 0, 16, 8, 0, 0, 0, 16];
     assert_eq!(rt;
-        cause(rt.alloc(), Kind::Prefix(1), &prefixes),
-        Some(Refusal::Repeated(0, 2))
+        cause(rt.alloc(), KeyKind::Prefix(1), &prefixes),
+        Some(RowsRefusal::Repeated(0, 2))
     );
 }
 
-/// Why `count` keys of one byte each are refused.
-fn many(alloc: Global, count: usize) -> Result<Option<Refusal>, AllocError> {
+/// Returns why `count` keys of one byte each are refused.
+fn many(alloc: Global, count: usize) -> Result<Option<RowsRefusal>, AllocError> {
     let keys = Vec::from_elem(alloc, 0, count)?;
-    Ok(cause(alloc, Kind::Exact(1), keys.as_slice()))
+    Ok(cause(alloc, KeyKind::Exact(1), keys.as_slice()))
 }
 
 #[test]
 fn there_are_at_most_65536_rows(rt: HostRuntime) {
     let most = many(rt.alloc(), 65536);
-    assert!(rt; matches!(most, Ok(Some(Refusal::Repeated(_, _)))));
-    assert_eq!(rt; many(rt.alloc(), 65537), Ok(Some(Refusal::TooMany)));
+    assert!(rt; matches!(most, Ok(Some(RowsRefusal::Repeated(_, _)))));
+    assert_eq!(rt; many(rt.alloc(), 65537), Ok(Some(RowsRefusal::TooMany)));
 }

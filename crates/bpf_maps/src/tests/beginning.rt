@@ -17,7 +17,7 @@ fn totals_begin_with_their_numbers(rt: HostRuntime) {
     assert_eq!(rt; found, Some([7, 8, u64::MAX, 0, 0].as_slice()));
 }
 
-/// What the only seat of counters that begin so finds.
+/// Returns what the only seat of counters that begin so finds.
 fn found(alloc: Global) -> Option<[u64; 5]> {
     let shapes = [MapShape::of(2, 2)?];
     let mut lists = Vec::new(alloc);

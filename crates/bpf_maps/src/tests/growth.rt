@@ -28,7 +28,7 @@ fn totals_are_made_again(rt: HostRuntime) -> io::Result<()> {
     Ok(())
 }
 
-/// What the only seat of new counters loads.
+/// Returns what the only seat of new counters loads.
 fn loaded(alloc: Global) -> Option<u64> {
     let shapes = [MapShape::of(2, 3)?];
     let (counters, mut seats) = Counters::make(alloc, &shapes, 1).ok()?;

@@ -3,7 +3,7 @@ use crate::{Counters, MapShape};
 use std::alloc::Global;
 use std::test::Fail;
 
-/// What two adds of two seats to one counter find, and two loads of it and of another one; and their totals. None without a
+/// Returns what two adds of two seats to one counter find, and two loads of it and of another one; and their totals. None without a
 /// seat.
 fn two_seats(alloc: Global) -> Result<Option<([u64; 4], [u64; 2])>, Fail> {
     let shapes = [MapShape::of(2, 3).ok_or("shape")?];

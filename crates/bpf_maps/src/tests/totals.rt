@@ -1,7 +1,7 @@
 use crate::{MapShape, Totals};
 use std::alloc::Global;
 
-/// What two adds to one counter find, and then it and two others.
+/// Returns what two adds to one counter find, and then it and two others.
 fn found(alloc: Global) -> Option<[u64; 5]> {
     let shapes = [MapShape::of(1, 1)?, MapShape::of(2, 3)?];
     let mut totals = Totals::make(alloc, &shapes).ok()?;

@@ -5,7 +5,7 @@ use bpf_note::{Note, PACKET_ID, Spares, Val};
 use std::alloc::{AllocError, Global};
 use std::test::Fail;
 
-/// What nothing else is known of.
+/// A value of which nothing is known.
 const UNKNOWN: Val = Val::Unset;
 
 #[test]
@@ -20,7 +20,7 @@ fn the_entry(rt: HostRuntime) {
     assert_eq!(rt; bounds(&note, PACKET_ID), (0, None));
 }
 
-/// What `r3`, `r2` and `r11` hold after `r3` alone was set.
+/// Returns what `r3`, `r2` and `r11` hold after `r3` alone was set.
 fn registers_set(alloc: Global) -> [Val; 3] {
     let mut note = Note::entry(alloc);
     note.set_register(3, Val::FULL);
@@ -32,7 +32,7 @@ fn registers(rt: HostRuntime) {
     assert_eq!(rt; registers_set(rt.alloc()), [Val::FULL, UNKNOWN, UNKNOWN]);
 }
 
-/// What the last stack slot keeps, and which bytes of it and beside it are set.
+/// Returns what the last stack slot keeps, and which bytes of it and beside it are set.
 fn last_slot(note: &Note) -> (Option<Val>, [bool; 3], bool) {
     let set = set_bytes(note, [504, 505, 511]);
     (note.kept(63), set, note.is_set(503))
@@ -102,7 +102,7 @@ fn an_id_is_made(rt: HostRuntime) -> Result<(), Fail> {
     Ok(())
 }
 
-/// What is known of three lookups' results, two of them with id 9, after that id is resolved.
+/// Returns what is known of three lookups' results, two of them with id 9, after that id is resolved.
 fn resolved(alloc: Global) -> ([Val; 2], Option<Val>) {
     let mut note = Note::entry(alloc);
     note.set_register(0, Val::MaybeValue { m: 2, id: 9 });
@@ -119,7 +119,7 @@ fn an_id_is_resolved(rt: HostRuntime) {
     assert_eq!(rt; resolved(rt.alloc()), ([value, other], Some(value)));
 }
 
-/// Whether a note is its copy, after the copy was made, changed, changed back and changed elsewhere.
+/// Returns whether a note is its copy, after the copy was made, changed, changed back and changed elsewhere.
 fn are_equal(note: &Note, copy: &mut Note) -> Result<[bool; 4], AllocError> {
     let at_first = note.same_as(copy);
     copy.set_top(4, 8)?;

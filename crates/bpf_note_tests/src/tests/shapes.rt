@@ -1,7 +1,7 @@
 //! Shapes of maps, by their limits. Linux's bpf.h gives the kinds: an array's key is a `__u32`, that of a trie begins with one
 //! (`struct bpf_lpm_trie_key`).
 
-use bpf_note::{Kind, MapKey, MapShape, constants_left};
+use bpf_note::{KeyKind, MapKey, MapShape, constants_left};
 
 #[test]
 fn shapes_within_their_limits(rt: HostRuntime) {
@@ -25,7 +25,7 @@ fn shapes_within_their_limits(rt: HostRuntime) {
 
 #[test]
 fn shapes_that_are_asked_for(rt: HostRuntime) {
-    let exact = MapKey::Listed(Kind::Exact(16));
+    let exact = MapKey::Listed(KeyKind::Exact(16));
     let rows = [
         (MapKey::Index, 1, 1, true),
         (MapKey::Index, 65536, 8, true),
@@ -47,15 +47,15 @@ fn shapes_that_are_asked_for(rt: HostRuntime) {
 fn keys_of_1_to_64_bytes_of_data(rt: HostRuntime) {
     let rows = [
         (MapKey::Index, 4, true),
-        (MapKey::Listed(Kind::Exact(0)), 0, false),
-        (MapKey::Listed(Kind::Exact(1)), 1, true),
-        (MapKey::Listed(Kind::Exact(64)), 64, true),
-        (MapKey::Listed(Kind::Exact(65)), 65, false),
-        (MapKey::Listed(Kind::Prefix(0)), 4, false),
-        (MapKey::Listed(Kind::Prefix(4)), 8, true),
-        (MapKey::Listed(Kind::Prefix(16)), 20, true),
-        (MapKey::Listed(Kind::Prefix(64)), 68, true),
-        (MapKey::Listed(Kind::Prefix(65)), 69, false),
+        (MapKey::Listed(KeyKind::Exact(0)), 0, false),
+        (MapKey::Listed(KeyKind::Exact(1)), 1, true),
+        (MapKey::Listed(KeyKind::Exact(64)), 64, true),
+        (MapKey::Listed(KeyKind::Exact(65)), 65, false),
+        (MapKey::Listed(KeyKind::Prefix(0)), 4, false),
+        (MapKey::Listed(KeyKind::Prefix(4)), 8, true),
+        (MapKey::Listed(KeyKind::Prefix(16)), 20, true),
+        (MapKey::Listed(KeyKind::Prefix(64)), 68, true),
+        (MapKey::Listed(KeyKind::Prefix(65)), 69, false),
         (MapKey::Constants(0), 4, true),
         (MapKey::Constants(65536), 4, true),
         (MapKey::Constants(65537), 4, false),

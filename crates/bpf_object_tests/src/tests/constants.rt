@@ -11,7 +11,7 @@ use super::small::program_fault;
 use bpf_object::{ConstantReference, ConstantsFault, Object, ProgramFault, RelocationFault};
 use std::alloc::Global;
 
-/// Where the number of the wide load, the name `.rodata` and the headers of sections `.relxdp` and `.rodata` begin.
+/// The places at which the number of the wide load, the name `.rodata` and the headers of sections `.relxdp` and `.rodata` begin.
 const IMM: usize = 68;
 
 const NAME: usize = 308;
@@ -72,7 +72,7 @@ fn named(name: &[u8; 7]) -> [u8; 832] {
     bytes
 }
 
-/// Where the program's constant lies in section 5.
+/// Returns where the program's constant lies in section 5.
 fn place(alloc: Global, bytes: &[u8]) -> Option<u32> {
     match Object::parse(bytes) {
         Ok(object) => match object.program(alloc, b"pass") {
@@ -97,7 +97,7 @@ fn relocation(cause: RelocationFault) -> Option<ProgramFault> {
     Some(ProgramFault::Relocation(0, cause))
 }
 
-/// How many bytes of constants a section has, or why it has none.
+/// Returns the number of bytes of constants that a section has, or why it has none.
 fn constants(bytes: &[u8], section: usize) -> Result<usize, ConstantsFault> {
     match Object::parse(bytes) {
         Ok(object) => match object.constants(section) {

@@ -7,7 +7,7 @@ fn relocation(cause: RelocationFault) -> Option<ProgramFault> {
     Some(ProgramFault::Relocation(0, cause))
 }
 
-/// Where the symbol of the function lies.
+/// The place of the function's symbol.
 const FUNCTION: usize = SYMBOLS + 24;
 
 #[test]

@@ -4,10 +4,10 @@
 use bpf_object::{Object, ObjectFault, ProgramFault};
 use std::alloc::Global;
 
-/// Where the table of section headers begins.
+/// The place at which the table of section headers begins.
 pub const HEADERS: usize = 240;
 
-/// Where the relocation and the symbols begin.
+/// The places at which the relocation and the symbols begin.
 pub const RELOCATION: usize = 142;
 
 pub const SYMBOLS: usize = 166;
@@ -45,7 +45,7 @@ pub fn changed(place: usize, byte: u8) -> [u8; 624] {
     bytes
 }
 
-/// Why bytes are no object.
+/// Returns why bytes are no object.
 pub fn fault(bytes: &[u8]) -> Option<ObjectFault> {
     match Object::parse(bytes) {
         Ok(_object) => None,
@@ -53,7 +53,7 @@ pub fn fault(bytes: &[u8]) -> Option<ObjectFault> {
     }
 }
 
-/// Why bytes have no program `pass`.
+/// Returns why bytes have no program `pass`.
 pub fn program_fault(alloc: Global, bytes: &[u8]) -> Option<ProgramFault> {
     match Object::parse(bytes) {
         Ok(object) => match object.program(alloc, b"pass") {

@@ -6,15 +6,16 @@
 use bpf_object::{MapDefinition, MapFault, Object, TypesFault};
 use std::alloc::Global;
 
-/// Where the headers of sections, and the section of types, begin.
+/// The places at which the headers of sections, and the section of types, begin.
 pub const HEADERS: usize = 488;
 
 pub const BTF: usize = 130;
 
-/// Where the map's symbol begins.
+/// The place at which the map's symbol begins.
 pub const SYMBOL: usize = 458;
 
-/// Where types begin: those of a number, the key's pointer, the value's array, the struct, the variable and the section.
+/// The places at which types begin: those of a number, the key's pointer, the value's array, the struct, the variable and the
+/// section.
 pub const NUMBER: usize = 170;
 
 pub const KEY: usize = 242;
@@ -67,7 +68,7 @@ pub fn changed(place: usize, byte: u8) -> [u8; 808] {
     bytes
 }
 
-/// Why bytes have no types.
+/// Returns why bytes have no types.
 pub fn types_fault(alloc: Global, bytes: &[u8]) -> Option<TypesFault> {
     match Object::parse(bytes) {
         Ok(object) => match object.types(alloc) {
@@ -78,7 +79,7 @@ pub fn types_fault(alloc: Global, bytes: &[u8]) -> Option<TypesFault> {
     }
 }
 
-/// What the map is, or why it isn't defined; nothing where there are no types.
+/// Returns what the map is, or why it isn't defined; nothing where there are no types.
 pub fn map(alloc: Global, bytes: &[u8]) -> Option<Result<MapDefinition, MapFault>> {
     match Object::parse(bytes) {
         Ok(object) => match object.types(alloc) {

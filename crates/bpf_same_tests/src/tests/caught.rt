@@ -3,7 +3,7 @@ use crate::pairs::{Pair, compared};
 use crate::tests::counts::{LOOKUP, PASS};
 use bpf_same::Comparison;
 
-/// What is answered where the old program alone computes, and then makes one access, and the new one another.
+/// Returns what is answered where the old program alone computes, and then makes one access, and the new one another.
 fn accessed(
     rt: &HostRuntime,
     sum: &'static str,
@@ -71,7 +71,7 @@ fn not_added(rt: HostRuntime) {
     );
 }
 
-/// The old program reads a register alone that has no number: it has no run.
+/// Alone, the old program reads a register that nothing has written: it has no run.
 #[test]
 fn without_a_number(rt: HostRuntime) {
     let pair = Pair {

@@ -16,7 +16,8 @@ const COPIES: &str = "c0 c1 c2 c3 c4 c5 c6 c7 c8 c9 c10 c11 c12 c13 c14 c15";
 const ADDRESSES: &str =
     "180600000000003800000000000000000f56000000000000bf670000000000000707000004000000";
 
-/// What is answered where the old program reads a constant by `r6`, and the new one by `r7`; both have 64 bytes of constants.
+/// Returns what is answered where the old program reads a constant by `r6`, and the new one by `r7`; both have 64 bytes of
+/// constants.
 fn beside(rt: &HostRuntime, new: &'static str) -> Option<Comparison> {
     let pair = Pair {
         old: &[START, ADDRESSES, "7160000000000000", EXIT],

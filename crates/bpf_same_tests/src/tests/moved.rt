@@ -6,7 +6,7 @@ use bpf_same::Comparison;
 const START: &str =
     "61160000000000006113040000000000bf64000000000000070400000e000000bd34020000000000b7000000010000009500000000000000";
 
-/// What is answered where the old program makes one access, and the new one another.
+/// Returns what is answered where the old program makes one access, and the new one another.
 fn accesses(rt: &HostRuntime, old: &'static str, new: &'static str) -> Option<Comparison> {
     let before = "bf670000000000000707000005000000b702000007000000";
     let after = "b7000000020000009500000000000000";
@@ -57,7 +57,7 @@ fn stores(rt: HostRuntime) {
 const BYTE_SHIFTED: &str =
     "7165000000000000bf640000000000000f54000000000000bf4800000000000007080000010000002d38070000000000bf57000000000000";
 
-/// What is answered where the old program loads by what is shifted back, and the new one by what wasn't shifted.
+/// Returns what is answered where the old program loads by what is shifted back, and the new one by what wasn't shifted.
 fn shifted_back(rt: &HostRuntime, shifts: &'static str) -> Option<Comparison> {
     let pair = Pair {
         old: &[
@@ -96,7 +96,7 @@ fn shifts_of_32_bits(rt: HostRuntime) {
     );
 }
 
-/// What is answered where the old program compares what two bytes make with a number, and the new one doesn't.
+/// Returns what is answered where the old program compares what two bytes make with a number, and the new one doesn't.
 fn bytes_compared(rt: &HostRuntime, jump: &'static str) -> Option<Comparison> {
     let bytes = "7165000000000000670500000800000071670100000000004f75000000000000";
     let ends = "b7000000020000009500000000000000b7000000010000009500000000000000";

@@ -2,8 +2,8 @@
 use crate::pairs::{Pair, compared};
 use bpf_same::Comparison;
 
-/// What is answered where the new program tests `r3` once more, which three instructions make of a packet of at least 14 bytes at r6,
-/// and ends otherwise if it is greater.
+/// Returns what is answered where the new program tests `r3` once more, which three instructions make of a packet of at least 14
+/// bytes at r6, and ends otherwise if it is greater.
 fn tested(
     rt: &HostRuntime,
     load: &'static str,

@@ -13,7 +13,7 @@ const BEGINNING: [&str; 7] = [
     "9500000000000000",
 ];
 
-/// What is answered where the new program compares an address with the end again, whose distance from the packet's start a
+/// Returns what is answered where the new program compares an address with the end again, whose distance from the packet's start a
 /// mask bounds.
 fn compared_again(rt: &HostRuntime, mask: &'static str) -> Option<Comparison> {
     let [a, b, c, d, e, f, g] = BEGINNING;
@@ -78,7 +78,7 @@ fn an_address_behind_the_last_known_byte(rt: HostRuntime) {
     );
 }
 
-/// What is answered where the program tests a number beyond which an address lies behind the packet.
+/// Returns what is answered where the program tests a number beyond which an address lies behind the packet.
 fn beyond(rt: &HostRuntime, test: &'static str) -> Option<Comparison> {
     let [a, b, c, d, e, f, g] = BEGINNING;
     let old = [
@@ -136,8 +136,8 @@ fn addresses_behind_the_longest_packet(rt: HostRuntime) {
     assert_eq!(rt; beyond(&rt, "25030700feff0000"), Some(Comparison::NotShown));
 }
 
-/// What is answered where the verifier's rule forgets a sum: of an address that a byte moves and a number that is loaded, which
-/// is tested.
+/// Returns what is answered where the verifier's rule forgets a sum: of an address that a byte moves and a number that is loaded,
+/// which is tested.
 fn forgotten(rt: &HostRuntime, load: &'static str, test: &'static str) -> Option<Comparison> {
     let [a, b, c, d, e, f, g] = BEGINNING;
     let old = [
@@ -222,7 +222,7 @@ fn sums_that_wrap(rt: HostRuntime) {
     );
 }
 
-/// What is answered where a comparison with a bound is left out, which follows one of the number less 256.
+/// Returns what is answered where a comparison with a bound is left out, which follows one of the number less 256.
 fn bounded(
     rt: &HostRuntime,
     between: &'static str,

@@ -9,7 +9,7 @@ const BYTE_ADDED: &str =
 /// `r0` is 2 at the end, or 1 two slots later.
 const ENDS: &str = "b7000000020000009500000000000000b7000000010000009500000000000000";
 
-/// What is answered where the old program compares `r4` with the packet's end twice, and these instructions stand between.
+/// Returns what is answered where the old program compares `r4` with the packet's end twice, and these instructions stand between.
 fn compared_twice(rt: &HostRuntime, between: &'static str) -> Option<Comparison> {
     let pair = Pair {
         old: &[

@@ -12,7 +12,7 @@ use crate::slot::begins;
 use bpf_insn::Insn;
 use std::alloc::{AllocError, Global};
 
-/// Which slots hold an instruction.
+/// Returns which slots hold an instruction.
 fn instructions(alloc: Global, code: &[Insn]) -> Result<Vec<bool>, AllocError>
     ensures { IfOk result (λ v. v.items ≡ map is_instruction code.now) }
 {
@@ -26,7 +26,7 @@ fn is_instruction(insn: Insn) -> bool
     begins(Some(insn))
 }
 
-/// Whether nothing is marked.
+/// Returns whether nothing is marked.
 fn is_clear(marks: &[bool]) -> bool
     ensures { IsTrue result ↔ ((q : ℕ) → marked marks.now q ≡ true → ⊥) }
 {
@@ -38,7 +38,7 @@ fn is_clear(marks: &[bool]) -> bool
     true
 }
 
-/// Whether the jump here closes a cycle.
+/// Returns whether the jump here closes a cycle.
 fn closes_cycle(alloc: Global, code: &[Insn], pc: u32) -> Result<bool, AllocError>
     requires short { length code.now ≤ 4096 }
     requires inside { pc < length code.now }
@@ -55,7 +55,7 @@ fn closes_cycle(alloc: Global, code: &[Insn], pc: u32) -> Result<bool, AllocErro
     Ok(marks[pc as usize])
 }
 
-/// Whether all instructions can be ordered. They can if no jump closes a cycle.
+/// Returns whether all instructions can be ordered. They can if no jump closes a cycle.
 pub(crate) fn is_ordered(alloc: Global, code: &[Insn]) -> Result<bool, AllocError>
     requires { length code.now ≤ 4096 }
     ensures ordered { IfOk result (λ b. IsTrue b ↔ IsOrdered code.now) }
@@ -69,7 +69,7 @@ pub(crate) fn is_ordered(alloc: Global, code: &[Insn]) -> Result<bool, AllocErro
     Ok(is_clear(&whole.left))
 }
 
-/// Whether the jump here closes a cycle. If the program is known to be `ordered`, nothing is searched.
+/// Returns whether the jump here closes a cycle. If the program is known to be `ordered`, nothing is searched.
 pub(crate) fn closes_cycle_unless(
     alloc: Global,
     code: &[Insn],

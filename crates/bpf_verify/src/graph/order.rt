@@ -36,7 +36,7 @@ fn release(waits: &mut Vec<u32>, to: Option<u32>)
     }
 }
 
-/// How many edges lead to each slot from live slots.
+/// Returns the number of edges that lead to each slot from live slots.
 fn waits_of(alloc: Global, code: &[Insn], live: &[bool]) -> Result<Vec<u32>, AllocError>
     requires short { length code.now ≤ 4096 }
     requires len { length live.now ≡ length code.now }

@@ -9,7 +9,7 @@ use crate::slot::jump_of;
 use bpf_insn::Insn;
 use std::alloc::{AllocError, Global};
 
-/// Whether an instruction is a jump that goes back.
+/// Returns whether an instruction is a jump that goes back.
 fn goes_back(insn: Insn) -> bool
     ensures { result ≡ goes_back insn }
 {
@@ -19,7 +19,7 @@ fn goes_back(insn: Insn) -> bool
     }
 }
 
-/// Whether no jump goes back.
+/// Returns whether no jump goes back.
 pub(crate) fn is_rising(code: &[Insn]) -> bool
     ensures { IsTrue result ↔ IsRising code.now }
 {

@@ -17,7 +17,7 @@ const REFUSED: [(Cause, u32); 10] = [
     (Cause::End, 9),
 ];
 
-/// Why a beginning of `length` bytes is refused.
+/// Returns why a beginning of `length` bytes is refused.
 fn wanted(length: usize) -> Option<(Cause, u32)> {
     match (length / 8).checked_sub(1) {
         Some(last) if length % 8 == 0 => REFUSED.get(last).copied(),
@@ -25,8 +25,8 @@ fn wanted(length: usize) -> Option<(Cause, u32)> {
     }
 }
 
-/// How many bytes a program has that is accepted, if each beginning of it has its refusal; the first that has another,
-/// if there is one. Nothing without memory.
+/// Returns the number of bytes that a program has that is accepted, if each beginning of it has its refusal; the first that has
+/// another, if there is one. Nothing without memory.
 fn accepted_after_refusals(alloc: Global) -> Option<(usize, Option<usize>)> {
     let bytes = bytes_of(alloc, &COUNTING).ok()?;
     let shape = MapShape::of(2, 1)?;

@@ -3,7 +3,7 @@ use crate::programs::{EXIT, answer, bytes_after, counts, explained};
 use bpf_verify::{Cause, Explained, MapShape};
 use std::alloc::Global;
 
-/// What is refused of a program that sets `r0` 4,000 times and goes on with these slots, over one map of a value; and
+/// Returns what is refused of a program that sets `r0` 4,000 times and goes on with these slots, over one map of a value; and
 /// whether there is a note.
 fn refused_after(alloc: Global, tail: &[[u8; 8]]) -> Option<(Cause, u32, bool)> {
     let Explained { refusal, note, .. } = explained(alloc, 4000, tail)?;

@@ -37,7 +37,7 @@ fn stepped<'b>(start: Vm<'_, 'b>) -> Option<Ended<'b>> {
     None
 }
 
-/// Whether a run by single steps and one by the loop end alike: number, instructions and packet.
+/// Returns whether a run by single steps and one by the loop end alike: number, instructions and packet.
 fn alike(program: &Verified, first: &mut Buffer, second: &mut Buffer) -> Option<bool>
     requires { program.now.shapes ≡ [] }
 {

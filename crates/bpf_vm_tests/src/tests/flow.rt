@@ -26,7 +26,7 @@ fn order_of(alloc: Global, code: &[Insn]) -> Option<Vec<u32>>
     }
 }
 
-/// Whether a program without a fault of structure has this order.
+/// Returns whether a program without a fault of structure has this order.
 fn has_order(alloc: Global, slots: &[[u8; 8]], wanted: &[u32]) -> Option<bool> {
     let bytes = bytes_of(alloc, slots).ok()?;
     let code = decode(alloc, &bytes).ok()?;
@@ -158,8 +158,8 @@ fn a_chain_of_backward_jumps(rt: HostRuntime) {
     );
 }
 
-/// What the structure of a chain is refused for, if a jump to itself follows it. Nothing without memory, or if it
-/// isn't refused.
+/// Returns what the structure of a chain is refused for, if a jump to itself follows it. Nothing without memory, or if it isn't
+/// refused.
 fn fault_behind_chain(alloc: Global, jumps: u16) -> Option<(Cause, u32)> {
     let mut code = chain(alloc, jumps).ok()?;
     code.push(jump(-1)).ok()?;

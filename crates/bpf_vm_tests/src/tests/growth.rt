@@ -23,7 +23,7 @@ const READS_PAST_THE_END: [[u8; 8]; 9] = [
     [0x95, 0, 0, 0, 0, 0, 0, 0], // exit
 ];
 
-/// How many instructions an accepted program has, or its refusal.
+/// Returns the number of instructions that an accepted program has, or its refusal.
 fn counted(alloc: Global, slots: &[[u8; 8]], shapes: &[MapShape]) -> Result<u32, Refusal>
     requires { length shapes.now ≤ most_maps }
 {
@@ -70,7 +70,7 @@ fn a_program_is_refused_again(rt: HostRuntime) -> Result<(), Fail> {
     Ok(())
 }
 
-/// Whether a buffer keeps two bytes. Nothing without memory for it.
+/// Returns whether a buffer keeps two bytes. Nothing without memory for it.
 fn is_kept(alloc: Global) -> Option<bool> {
     let mut buffer = Buffer::make(alloc).ok()?;
     let packet = PacketBuf::copy(&mut buffer, &[1, 2]);

@@ -19,7 +19,7 @@ fn number_of(alloc: Global, slots: &[[u8; 8]]) -> Option<u32> {
     number_at_exit(Vm::start(&program, PacketBuf::empty(&mut buffer), 0, 0, &[]))
 }
 
-/// What a lookup of a key in a map of one value gives.
+/// Returns what a lookup of a key in a map of one value gives.
 fn looked_up(alloc: Global, key: [u8; 4]) -> Option<u32> {
     #[rattlefmt::skip]
     let slots = [
@@ -63,7 +63,7 @@ fn a_map_is_a_number(rt: HostRuntime) {
     assert_eq!(rt; number_of(rt.alloc(), &SECOND_MAP), Some(0x5000_0001));
 }
 
-/// What a counter holds.
+/// The content of a counter.
 const HELD: u64 = 0x1122_3344_5566_7788;
 
 /// The upper half of a counter.
@@ -82,7 +82,7 @@ const UPPER_HALF: [[u8; 8]; 11] = [
     [0x95, 0, 0, 0, 0, 0, 0, 0], // exit
 ];
 
-/// How many instructions are done before the load and at the exit, and the number.
+/// Returns the number of instructions that are done before the load and at the exit, and the number.
 fn loaded(mut vm: Vm<'_, '_>) -> Option<([u32; 2], u32)> {
     let VmWant::Load { .. } = vm.advance() else {
         return None;
@@ -126,7 +126,7 @@ const FETCHED_HALF: [[u8; 8]; 13] = [
     [0x95, 0, 0, 0, 0, 0, 0, 0], // exit
 ];
 
-/// What is added, and the number.
+/// Returns what is added, and the number.
 fn fetched(mut vm: Vm<'_, '_>) -> Option<(u64, u32)> {
     let VmWant::Add { delta, .. } = vm.advance() else {
         return None;

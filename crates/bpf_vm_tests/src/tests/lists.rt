@@ -1,7 +1,7 @@
 //! Lookups in lists, and where the values of large maps lie.
 use crate::programs::ready;
 use bpf_lists::{ConstantBytes, KeyedRows, MapList};
-use bpf_note::{Kind, MapKey, MapShape};
+use bpf_note::{KeyKind, MapKey, MapShape};
 use bpf_vm::{PacketBuf, Vm, VmWant};
 use std::alloc::Global;
 
@@ -45,17 +45,17 @@ fn last(bytes: [u8; 4]) -> [u8; 8] {
 }
 
 /// A list's rows.
-fn rows(alloc: Global, kind: Kind, keys: &[u8]) -> Option<MapList> {
+fn rows(alloc: Global, kind: KeyKind, keys: &[u8]) -> Option<MapList> {
     Some(MapList::Rows(KeyedRows::make(alloc, kind, keys).ok()?))
 }
 
 /// Addresses: 192.0.2.1, 192.0.2.2 and 198.51.100.7.
 const ADDRESSES: [u8; 12] = [192, 0, 2, 1, 192, 0, 2, 2, 198, 51, 100, 7];
 
-/// What a lookup of an address gives, in a map of so many values of a counter each.
+/// Returns what a lookup of an address gives, in a map of so many values of a counter each.
 fn address_found(alloc: Global, entries: u32, address: [u8; 4]) -> Option<u32> {
-    let shape = MapShape::keyed(MapKey::Listed(Kind::Exact(4)), entries, 1)?;
-    let list = rows(alloc, Kind::Exact(4), &ADDRESSES)?;
+    let shape = MapShape::keyed(MapKey::Listed(KeyKind::Exact(4)), entries, 1)?;
+    let list = rows(alloc, KeyKind::Exact(4), &ADDRESSES)?;
     looked_up(alloc, shape, &[Some(list)], last(address))
 }
 
@@ -84,10 +84,10 @@ const PREFIXES: [u8; 24] = [
     8, 0, 0, 0, 10, 0, 0, 0, 16, 0, 0, 0, 10, 1, 0, 0, 0, 0, 0, 0, 0, 0, 0, 0,
 ];
 
-/// What a lookup of an address with so many bits gives.
+/// Returns what a lookup of an address with so many bits gives.
 fn prefix_found(alloc: Global, bits: u8, address: [u8; 4]) -> Option<u32> {
-    let shape = MapShape::keyed(MapKey::Listed(Kind::Prefix(4)), 3, 2)?;
-    let list = rows(alloc, Kind::Prefix(4), &PREFIXES)?;
+    let shape = MapShape::keyed(MapKey::Listed(KeyKind::Prefix(4)), 3, 2)?;
+    let list = rows(alloc, KeyKind::Prefix(4), &PREFIXES)?;
     let key = [
         bits, 0, 0, 0, address[0], address[1], address[2], address[3],
     ];
@@ -104,22 +104,22 @@ fn the_longest_prefix_is_found(rt: HostRuntime) {
     assert_eq!(rt; prefix_found(alloc, 33, [10, 1, 2, 3]), Some(0));
 }
 
-/// What a lookup gives without a list, or with one whose keys have six bytes.
+/// Returns what a lookup gives without a list, or with one whose keys have six bytes.
 fn found_elsewhere(alloc: Global, list: Option<MapList>) -> Option<u32> {
-    let shape = MapShape::keyed(MapKey::Listed(Kind::Exact(4)), 3, 1)?;
+    let shape = MapShape::keyed(MapKey::Listed(KeyKind::Exact(4)), 3, 1)?;
     looked_up(alloc, shape, &[list], last([192, 0, 2, 1]))
 }
 
 #[test]
 fn other_lists_have_no_row(rt: HostRuntime) {
     let alloc = rt.alloc();
-    let six = rows(alloc, Kind::Exact(6), &[192, 0, 2, 1, 0, 0]);
+    let six = rows(alloc, KeyKind::Exact(6), &[192, 0, 2, 1, 0, 0]);
     assert!(rt; six.is_some());
     assert_eq!(rt; found_elsewhere(alloc, six), Some(0));
     assert_eq!(rt; found_elsewhere(alloc, None), Some(0));
 }
 
-/// What a lookup of a number gives in an array.
+/// Returns what a lookup of a number gives in an array.
 fn number_found(alloc: Global, entries: u32, counters: u32, key: u32) -> Option<u32> {
     let shape = MapShape::keyed(MapKey::Index, entries, counters)?;
     looked_up(alloc, shape, &[], last(key.to_le_bytes()))
@@ -150,7 +150,7 @@ const LAST_COUNTER: [[u8; 8]; 10] = [
     [0x95, 0, 0, 0, 0, 0, 0, 0], // exit
 ];
 
-/// What it wants first.
+/// Returns what it wants first.
 fn last_wanted(alloc: Global) -> Option<VmWant> {
     let small = MapShape::of(1, 1)?;
     let large = MapShape::keyed(MapKey::Index, 65536, 8)?;

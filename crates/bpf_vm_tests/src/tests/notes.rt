@@ -5,12 +5,12 @@ use bpf_note::{Note, Val};
 use bpf_verify::{Explained, explain, joined_at, lost_at};
 use std::alloc::Global;
 
-/// What two registers hold by a note.
+/// Returns what two registers hold by a note.
 fn held(note: &Note, [first, second]: [u8; 2]) -> [Val; 2] {
     [note.register(first), note.register(second)]
 }
 
-/// What two registers hold by the note of a refused program over one map of a value.
+/// Returns what two registers hold by the note of a refused program over one map of a value.
 fn registers(alloc: Global, slots: &[[u8; 8]], registers: [u8; 2]) -> Option<[Val; 2]> {
     let Explained { note, .. } = explained(alloc, 0, slots)?;
     match note {

@@ -4,7 +4,7 @@ ghost use Rattle.std.specs.Prelude.{◌≡◌, ◌≤◌, ◌++◌, length};
 use bpf_vm::{Buffer, Fill, PacketBuf, PacketFault, STACK_SIZE};
 use std::alloc::Global;
 
-/// How long a packet is, or why it is none.
+/// The length of a packet, or the reason why it is none.
 type Length = Result<usize, PacketFault>;
 
 fn length(packet: Result<PacketBuf<'_>, PacketFault>) -> Length {
@@ -41,8 +41,8 @@ fn packets_end_at_65535_bytes(rt: HostRuntime) {
     assert_eq!(rt; found, [wanted; 2]);
 }
 
-/// Whether a packet over a host's own bytes has them, and whether it has the bytes that are pushed after it was cleared; the
-/// host's bytes after that.
+/// Returns whether a packet over a host's own bytes has them, and whether it has the bytes that are pushed after it was cleared;
+/// the host's bytes after that.
 fn pushed_to_own() -> Option<([bool; 2], [u8; 3])> {
     let mut own = [1, 2, 3];
     let mut stack = [0; STACK_SIZE];
@@ -60,7 +60,7 @@ fn a_packet_over_a_hosts_own_bytes(rt: HostRuntime) {
     assert_eq!(rt; pushed_to_own(), Some(([true, true], [9, 8, 3])));
 }
 
-/// How long a packet is; whether one that is pushed to the same buffer has its own bytes alone; how many it has once it is
+/// Returns how long a packet is; whether one that is pushed to the same buffer has its own bytes alone; how many it has once it is
 /// cleared.
 fn pushed_to(buffer: &mut Buffer) -> Option<(usize, bool, usize)> {
     let first = PacketBuf::copy(buffer, &[1, 2, 3, 4]).ok()?.bytes().len();

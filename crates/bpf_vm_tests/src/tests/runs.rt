@@ -86,7 +86,7 @@ const STACK_STORES: [[u8; 8]; 6] = [
     [0x95, 0, 0, 0, 0, 0, 0, 0], // exit
 ];
 
-/// What [`STORES`] leaves of 16 bytes of 0xee.
+/// The bytes that [`STORES`] leaves of 16 bytes of 0xee.
 const STORED: [u8; 16] = [
     1, 2, 3, 4, 5, 6, 7, 8, 0xee, 1, 2, 0xee, 0xee, 0xee, 0xee, 1,
 ];
@@ -239,7 +239,7 @@ fn the_context_and_the_frame_pointer(rt: HostRuntime) {
     assert_eq!(rt; held, [Some(0x3000_0000), Some(0x2000_0200)]);
 }
 
-/// What a run wants of counters, at most twice.
+/// The operations that a run wants of counters, at most twice.
 type Wants = [Option<VmWant>; 2];
 
 /// One want more, if there is room.
@@ -301,7 +301,7 @@ fn advanced(start: Vm<'_, '_>) -> Option<(Wants, u32, u32)> {
     None
 }
 
-/// What [`COUNTING`] wants by single steps, and by all between two wants.
+/// Returns what [`COUNTING`] wants by single steps, and by all between two wants.
 fn counted_twice(alloc: Global) -> Option<[Option<(Wants, u32, u32)>; 2]> {
     let (program, mut buffer) = ready(alloc, &COUNTING, &[MapShape::of(2, 1)?])?;
     let first = counted(Vm::start(&program, PacketBuf::empty(&mut buffer), 0, 0, &[]));
@@ -350,7 +350,7 @@ const LOAD: [[u8; 8]; 10] = [
     [0x95, 0, 0, 0, 0, 0, 0, 0], // exit
 ];
 
-/// What its second counter held before 5 is added.
+/// The content of its second counter before 5 is added.
 #[rattlefmt::skip]
 const FETCH: [[u8; 8]; 12] = [
     [0x62, 0x0a, 0xfc, 0xff, 1, 0, 0, 0], // *(u32 *)(r10 - 4) = 1
@@ -367,13 +367,13 @@ const FETCH: [[u8; 8]; 12] = [
     [0x95, 0, 0, 0, 0, 0, 0, 0], // exit
 ];
 
-/// What is wanted, and the number.
+/// Returns what is wanted, and the number.
 fn wants_and_number(start: Vm<'_, '_>) -> Option<(Wants, u32)> {
     let (wants, number, _count) = advanced(start)?;
     Some((wants, number))
 }
 
-/// What a program wants of two maps of three values with two counters each, and its number.
+/// Returns what a program wants of two maps of three values with two counters each, and its number.
 fn looked_up(alloc: Global, slots: &[[u8; 8]]) -> Option<(Wants, u32)> {
     let shape = MapShape::of(3, 2)?;
     let (program, mut buffer) = ready(alloc, slots, &[shape, shape])?;

@@ -1,7 +1,7 @@
 -- What the back has asked to be told of, as the ends go on.
 use Rattle.std.proofs.Common.{◌≡◌, ℕ, zero, suc, ◌+◌, ◌^◌, ◌<◌, ◌≤◌, ◌⊎◌, inl, inr, Bool, true, false, refl, sym, ◌∙◌, ap, arith}
 use Rattle.std.proofs.lemmas.Bool.Decides.{eqb_tells}
-use Rattle.xen_buffers.specs.declared.wiring.Wiring.{Wiring}
+use Rattle.xen_buffers.specs.declared.wiring.FrontWiring.{FrontWiring}
 use Rattle.xen_page.specs.declared.place.Place.{Place}
 use Rattle.xen_ring.specs.Index.{is_due}
 use Rattle.xen_steps.specs.Places.{add32, page_word}
@@ -12,26 +12,26 @@ use Rattle.honest_pair.specs.declared.awaits.Awaits.{Awaits}
 use Rattle.honest_pair.specs.declared.awaits.Awaits.TheVariants as awaits
 
 -- the event index stands
-pub asked_as : (w : Wiring) (start : ℕ) (x y : Place → ℕ) (a : Awaits) → y (page_word w.rx_frame 1) ≡ x (page_word w.rx_frame 1) → IsAsked w start x a → IsAsked w start y a
+pub asked_as : (w : FrontWiring) (start : ℕ) (x y : Place → ℕ) (a : Awaits) → y (page_word w.rx_frame 1) ≡ x (page_word w.rx_frame 1) → IsAsked w start x a → IsAsked w start y a
 asked_as w start x y awaits.Nothing e h = tt
 asked_as w start x y (awaits.Asked index pages) e h = e ∙ h
 asked_as w start x y (awaits.Fewer index pages) e h = e ∙ h
 
 -- a notice makes no pending port quiet
-pub told_by : (w : Wiring) (start : ℕ) (port : ℕ) (pending : Bool) (posted : ℕ) (posting : Bool) (a : Awaits) → Told w start pending posted posting a → Told w start (told port pending) posted posting a
+pub told_by : (w : FrontWiring) (start : ℕ) (port : ℕ) (pending : Bool) (posted : ℕ) (posting : Bool) (a : Awaits) → Told w start pending posted posting a → Told w start (told port pending) posted posting a
 told_by w start zero pending posted posting awaits.Nothing h = tt
 told_by w start zero pending posted posting (awaits.Asked index pages) h = tt
 told_by w start zero pending posted posting (awaits.Fewer index pages) h = record { at = h.at; is = h.is; past = h.past; told = inl refl }
 told_by w start (suc port) pending posted posting a h = h
 
 -- nor does one that tells of a push
-pub told_at_last : (w : Wiring) (start : ℕ) (pending : Bool) (posted : ℕ) (posting : Bool) (a : Awaits) → pending ≡ true → Told w start pending posted true a → Told w start pending posted posting a
+pub told_at_last : (w : FrontWiring) (start : ℕ) (pending : Bool) (posted : ℕ) (posting : Bool) (a : Awaits) → pending ≡ true → Told w start pending posted true a → Told w start pending posted posting a
 told_at_last w start pending posted posting awaits.Nothing e h = tt
 told_at_last w start pending posted posting (awaits.Asked index pages) e h = tt
 told_at_last w start pending posted posting (awaits.Fewer index pages) e h = record { at = h.at; is = h.is; past = h.past; told = inl e }
 
 -- one more buffer is posted
-pub told_pushed : (w : Wiring) (start : ℕ) (pending : Bool) (posted n : ℕ) (a : Awaits) → n ≡ posted + 1 → Told w start pending posted false a → Told w start pending n true a
+pub told_pushed : (w : FrontWiring) (start : ℕ) (pending : Bool) (posted n : ℕ) (a : Awaits) → n ≡ posted + 1 → Told w start pending posted false a → Told w start pending n true a
 told_pushed w start pending posted n awaits.Nothing e h = tt
 told_pushed w start pending posted n (awaits.Asked index pages) e h = tt
 told_pushed w start pending posted n (awaits.Fewer index pages) e h =
@@ -50,7 +50,7 @@ told_pushed w start pending posted n (awaits.Fewer index pages) e h =
     }
 
 -- The notice of that push is decided.
-pub told_decided : (w : Wiring) (start : ℕ) (x : Place → ℕ) (pending : Bool) (posted n : ℕ) (due : Bool) (a : Awaits) →
+pub told_decided : (w : FrontWiring) (start : ℕ) (x : Place → ℕ) (pending : Bool) (posted n : ℕ) (due : Bool) (a : Awaits) →
     is_due (add32 start posted) (add32 start (posted + 1)) (x (page_word w.rx_frame 1)) ≡ due → is_due (add32 start posted) (add32 start (posted + 1)) (add32 start (posted + 1)) ≡ true →
     n ≡ posted + 1 → IsAsked w start x a → Told w start pending n true a → Told w start pending n due a
 told_decided w start x pending posted n due awaits.Nothing d last e k h = tt

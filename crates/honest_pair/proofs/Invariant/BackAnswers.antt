@@ -7,7 +7,7 @@ use Rattle.xen_turns.specs.Tree.{Left, answer, answered, notice, program, publis
 use Rattle.xen_turns.specs.Turned.{Ending, Turned}
 use Rattle.xen_turns.specs.declared.state.State.{State}
 use Rattle.xen_turns.specs.declared.wiring.Wiring.{Wiring as BackWiring}
-use Rattle.xen_buffers.specs.declared.wiring.Wiring.{Wiring}
+use Rattle.xen_buffers.specs.declared.wiring.FrontWiring.{FrontWiring}
 use Rattle.xen_netif.specs.Chain.{requests_after}
 use Rattle.xen_netif.specs.Slots.{status_code, tx_req_of}
 use Rattle.xen_netif.specs.Words.{joined, low}
@@ -33,14 +33,14 @@ abbrev pub HasLeft : (List ℕ → Type 0) → Back → Back → Left → Type 0
 HasLeft P b b' r = (b' ≡ b) × P r.packet
 
 -- A program touches no page, whatever its counters answer.
-pub program_safe : (w : Wiring) (start : ℕ) (P : List ℕ → Type 0) (b : Back) (c : Course) (ops : ℕ) → Leaves P c → BackSafe w start (HasGiven b.given) (HasLeft P b) b (program c ops)
+pub program_safe : (w : FrontWiring) (start : ℕ) (P : List ℕ → Type 0) (b : Back) (c : Course) (ops : ℕ) → Leaves P c → BackSafe w start (HasGiven b.given) (HasLeft P b) b (program c ops)
 program_safe w start P b (Exiting r0 packet) ops h = λ m f i. (b, i, refl, λ n q. (refl, h))
 program_safe w start P b (Stepping c) ops h = λ m f i. (b, i, refl, λ n q. program_safe w start P b c ops h)
 program_safe w start P b (Loading m k j to) ops h = λ m f i. (b, i, refl, λ n q. program_safe w start P b (to n) (ops + 1) (h n))
 program_safe w start P b (Adding m k j delta to) ops h = λ m f i. (b, i, refl, λ n q. program_safe w start P b (to n) (ops + 1) (h n))
 program_safe w start P b Broken ops h = absurd h
 
-module _ (w : Wiring) (start : ℕ) (code : ℕ) where
+module _ (w : FrontWiring) (start : ℕ) (code : ℕ) where
   -- the response to a piece
   abbrev pub reply : Piece → ℕ
   reply x = joined (tx_req_of (tx_words w start x)).id code
@@ -48,7 +48,7 @@ module _ (w : Wiring) (start : ℕ) (code : ℕ) where
   pub reply_id : (x : Piece) → x.id < 256 → low (reply x) ≡ x.id
   reply_id x h = omega (arith, h)
 
-module _ (w : Wiring) (start : ℕ) (st : Status) where
+module _ (w : FrontWiring) (start : ℕ) (st : Status) where
   abbrev code : ℕ
   code = cast_unsigned w16 (status_code st)
 
@@ -63,7 +63,7 @@ module _ (w : Wiring) (start : ℕ) (st : Status) where
       ap (λ q. reply w start code x ∷ map (response st) (requests_after q (map (tx_words w start) (pieces_from p n 1 ids)))) (no_extra w start x)
       ∙ ap (λ l. reply w start code x ∷ l) (later_replies p n 1 ids)
 
-module _ (w : Wiring) (start : ℕ) (y : Laid w) (v : BackWiring) (d : List Sent) (s : Sent) (l g : List Sent) (rs : List ℕ) (e : ℕ) (good : IsSent s) where
+module _ (w : FrontWiring) (start : ℕ) (y : Laid w) (v : BackWiring) (d : List Sent) (s : Sent) (l g : List Sent) (rs : List ℕ) (e : ℕ) (good : IsSent s) where
   -- all slots are read, and i are answered
   abbrev wrote : ℕ → Back
   wrote i = working d (s ∷ l) (length s.ids) i g rs e

@@ -4,7 +4,7 @@ use Rattle.std.specs.Prelude.{get_or, nat_lt}
 use Rattle.std.proofs.lemmas.Bool.Decides.{nat_tests}
 use Rattle.xen_turns.specs.Tree.{Scan, judged, read_slot, read_slots, second, third}
 use Rattle.xen_turns.specs.declared.wiring.Wiring.{Wiring as BackWiring}
-use Rattle.xen_buffers.specs.declared.wiring.Wiring.{Wiring}
+use Rattle.xen_buffers.specs.declared.wiring.FrontWiring.{FrontWiring}
 use Rattle.xen_front.specs.Slots.{piece_request}
 use Rattle.xen_netif.specs.Chain.{Slot, extra_info, more_data}
 use Rattle.xen_netif.specs.Slots.{tx_flag_bits}
@@ -24,7 +24,7 @@ use Rattle.honest_pair.proofs.Invariant.BackLooks.{over, safe_bind, read_known}
 pub onto : {X Y : Type 0} (P : X → Y → Type 0) (a a' : X) (b b' : Y) → a' ≡ a → b' ≡ b → P a b → P a' b'
 onto P a a' b b' p q h = subst (λ x. P x b') (sym p) (subst (λ z. P a z) (sym q) h)
 
-module _ (w : Wiring) (start : ℕ) where
+module _ (w : FrontWiring) (start : ℕ) where
   pub no_extra : (s : Piece) → extra_info (tx_words w start s) ≡ false
   no_extra s = by (nat_lt (s.k + 1) s.n)
     where
@@ -51,7 +51,7 @@ module _ (w : Wiring) (start : ℕ) where
       at : s.n ≡ s.k + 1 → nat_lt (s.k + 1) s.n ≡ false
       at p = grind (arith, nat_tests)
 
-module _ (w : Wiring) (start : ℕ) (v : BackWiring) (d : List Sent) (s : Sent) (l g : List Sent) (rs : List ℕ) (e : ℕ) where
+module _ (w : FrontWiring) (start : ℕ) (v : BackWiring) (d : List Sent) (s : Sent) (l g : List Sent) (rs : List ℕ) (e : ℕ) where
   -- k slots of the first packet ahead are read
   abbrev read_of : ℕ → Back
   read_of k = working d (s ∷ l) k 0 g rs e

@@ -6,7 +6,7 @@ use Rattle.std.proofs.lemmas.Bool.Decides.{nat_tests}
 use Rattle.xen_turns.specs.Tree.{copy, entered}
 use Rattle.xen_turns.specs.declared.wiring.Wiring.{Wiring as BackWiring}
 use Rattle.xen_buffers.specs.Grants.{buffer, grant_place}
-use Rattle.xen_buffers.specs.declared.wiring.Wiring.{Wiring}
+use Rattle.xen_buffers.specs.declared.wiring.FrontWiring.{FrontWiring}
 use Rattle.xen_front.specs.Slots.{piece_size, piece_words, word_at}
 use Rattle.xen_netif.specs.Copy.{bytes_in, covered}
 use Rattle.xen_netif.specs.Words.{joined}
@@ -77,7 +77,7 @@ covered_of gref size = by (size == 0) refl
         positive zero h = absurd (h refl)
         positive (suc n) h = omega arith
 
-module _ (w : Wiring) (start : ℕ) (v : BackWiring) (j : Joined w v) (d : List Sent) (s : Sent) (l g : List Sent) (rs : List ℕ) (e : ℕ) (good : IsSent s) where
+module _ (w : FrontWiring) (start : ℕ) (v : BackWiring) (j : Joined w v) (d : List Sent) (s : Sent) (l g : List Sent) (rs : List ℕ) (e : ℕ) (good : IsSent s) where
   -- all slots of the packet are read
   abbrev read_all : Back
   read_all = working d (s ∷ l) (length s.ids) 0 g rs e

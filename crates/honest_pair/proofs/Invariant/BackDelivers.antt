@@ -8,13 +8,13 @@ use Rattle.xen_turns.specs.Responses.{after_slots}
 use Rattle.xen_turns.specs.declared.delivery.delivering.Delivery.TheVariants as delivery
 use Rattle.xen_turns.specs.declared.state.State.{State}
 use Rattle.xen_turns.specs.declared.wiring.Wiring.{Wiring as BackWiring}
-use Rattle.xen_buffers.specs.declared.wiring.Wiring.{Wiring}
+use Rattle.xen_buffers.specs.declared.wiring.FrontWiring.{FrontWiring}
 use Rattle.xen_steps.specs.Places.{add32}
 use Rattle.xen_steps.specs.Steps.{bind}
 use Rattle.xen_netif.specs.declared.offload.RxOffload.TheVariants.{Whole}
 use Rattle.xen_rx_fill.specs.Transmit.{transmit}
-use Rattle.xen_rx_fill.specs.declared.by_event.phase.Outcome.{Outcome}
-use Rattle.xen_rx_fill.specs.declared.by_event.phase.Outcome.TheVariants as outcome
+use Rattle.xen_rx_fill.specs.declared.by_event.phase.TransmitOutcome.{TransmitOutcome}
+use Rattle.xen_rx_fill.specs.declared.by_event.phase.TransmitOutcome.TheVariants as outcome
 use Rattle.honest_pair.specs.Invariant.Backs.{DeliveryLaw}
 use Rattle.honest_pair.specs.Invariant.Ended.{Between, GivesPacket, Landed, Resting}
 use Rattle.honest_pair.specs.Invariant.Ends.{BackSafe}
@@ -40,7 +40,7 @@ frame_fits : (packet : List ℕ) → is_frame packet ≡ true → ((i : ℕ) →
 frame_fits packet h bytes = let z = frame_sizes packet h in record { least = z.0; most = z.1; bytes = bytes }
 
 -- `a` are the packets ahead; nothing of them is read.
-module _ (w : Wiring) (start : ℕ) (small : start < 2 ^ 32) (v : BackWiring) (j : Joined w v) (y : Laid w) (d a g : List Sent) (e : ℕ) (sl : Bool) (s : State) (at : Between start d g s) (packet : List ℕ) (bytes : (i : ℕ) → get_or packet i 0 < 256) where
+module _ (w : FrontWiring) (start : ℕ) (small : start < 2 ^ 32) (v : BackWiring) (j : Joined w v) (y : Laid w) (d a g : List Sent) (e : ℕ) (sl : Bool) (s : State) (at : Between start d g s) (packet : List ℕ) (bytes : (i : ℕ) → get_or packet i 0 < 256) where
   abbrev resting_with : List Sent → List ℕ → Back
   resting_with g2 rs = sending d a 0 g2 rs e sl 0 [] 0 0
 
@@ -61,10 +61,10 @@ module _ (w : Wiring) (start : ℕ) (small : start < 2 ^ 32) (v : BackWiring) (j
   Rests = (g2 : List Sent) (rs : List ℕ) (t : State) → Between start d g2 t → Resting sl start t (bytes_in d) (bytes_in g2) (resting_with g2 rs)
 
   module _ (fit : IsFit packet) (rests : Rests) where
-    abbrev Transmitted : Back → Outcome → Type 0
+    abbrev Transmitted : Back → TransmitOutcome → Type 0
     Transmitted = transmits.Transmitted w start small v j y d a 0 g e sl packet fit K none_more one_more
 
-    arrived_safe : (b : Back) (o : Outcome) → Transmitted b o → BackSafe w start K Ends b (arrived s o)
+    arrived_safe : (b : Back) (o : TransmitOutcome) → Transmitted b o → BackSafe w start K Ends b (arrived s o)
     arrived_safe b outcome.Overflow h = absurd h
     arrived_safe b (outcome.Refused n) h = absurd h
     arrived_safe b outcome.TooFew h = subst (λ b2. Ends b2 (s, delivery.FewSlots)) (sym h.1) (rests g h.0 s at)
@@ -92,7 +92,7 @@ module _ (w : Wiring) (start : ℕ) (small : start < 2 ^ 32) (v : BackWiring) (j
       subst (λ u. BackSafe w start K Ends (resting_with g rs) (whole_delivery u.vif u.accepts s Whole packet)) (same_wiring w v j) (framed_safe rests rs (is_frame packet) refl)
 
 -- by what the back had copied and given
-carried : (w : Wiring) (start : ℕ) (v : BackWiring) (sl : Bool) (s : State) (packet : List ℕ) (c c2 g g2 : List (List ℕ)) (b b2 : Back) → c ≡ c2 → g ≡ g2 → b2 ≡ b →
+carried : (w : FrontWiring) (start : ℕ) (v : BackWiring) (sl : Bool) (s : State) (packet : List ℕ) (c c2 g g2 : List (List ℕ)) (b b2 : Back) → c ≡ c2 → g ≡ g2 → b2 ≡ b →
     BackSafe w start (GivesPacket g packet) (λ b3 e. Landed sl start c g packet b3 e.0 e.1) b (whole_delivery v.vif v.accepts s Whole packet) →
     BackSafe w start (GivesPacket g2 packet) (λ b3 e. Landed sl start c2 g2 packet b3 e.0 e.1) b2 (whole_delivery v.vif v.accepts s Whole packet)
 carried w start v sl s packet c c2 g g2 b b2 p q r h =

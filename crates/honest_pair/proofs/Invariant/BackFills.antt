@@ -3,7 +3,7 @@ use Rattle.std.proofs.Common.{◌≡◌, ℕ, zero, suc, ◌+◌, ◌-◌, ◌*�
 use Rattle.std.specs.Prelude.{nat_lt}
 use Rattle.std.proofs.lemmas.Bool.Decides.{eqb_tells, nat_tests}
 use Rattle.xen_buffers.specs.Grants.{buffer}
-use Rattle.xen_buffers.specs.declared.wiring.Wiring.{Wiring}
+use Rattle.xen_buffers.specs.declared.wiring.FrontWiring.{FrontWiring}
 use Rattle.xen_page.specs.declared.place.Place.{Place}
 use Rattle.xen_steps.specs.Places.{page_word}
 use Rattle.xen_steps.specs.Steps.{ask}
@@ -28,7 +28,7 @@ pub all_snoc : {A : Type 0} (P : A → Type 0) (l : List A) (x : A) → AllOf P 
 all_snoc P [] x h p = (p, tt)
 all_snoc P (y ∷ l) x h p = (h.0, all_snoc P l x h.1 p)
 
-module _ (w : Wiring) (start : ℕ) (small : start < 2 ^ 32) (d a : List Sent) (used : ℕ) (g : List Sent) (e : ℕ) (sl : Bool) (rs : List ℕ) (packet : List ℕ) (N : ℕ) where
+module _ (w : FrontWiring) (start : ℕ) (small : start < 2 ^ 32) (d a : List Sent) (used : ℕ) (g : List Sent) (e : ℕ) (sl : Bool) (rs : List ℕ) (packet : List ℕ) (N : ℕ) where
   abbrev pub first : ℕ
   first = length (slots g)
 

@@ -1,8 +1,8 @@
 -- What a write into a frame leaves of each group of the invariant.
 use Rattle.std.proofs.Common.{◌≡◌, ℕ, ◌+◌, ◌*◌, ◌%◌, ◌<◌, ◌≤◌, ◌⊎◌, inl, inr, List, [], ◌∷◌, length, refl, sym, ◌∙◌, ap, arith}
 use Rattle.xen_buffers.specs.Grants.{grant_place}
-use Rattle.xen_buffers.specs.declared.wiring.Buffer.{Buffer}
-use Rattle.xen_buffers.specs.declared.wiring.Wiring.{Wiring}
+use Rattle.xen_buffers.specs.declared.wiring.GrantedPage.{GrantedPage}
+use Rattle.xen_buffers.specs.declared.wiring.FrontWiring.{FrontWiring}
 use Rattle.xen_netif.specs.Words.{low}
 use Rattle.xen_page.specs.Mapping.{frame_place}
 use Rattle.xen_page.specs.declared.place.Place.{Place}
@@ -20,11 +20,11 @@ pub all_map : {P Q : PageWrite → Type 0} → ((n : PageWrite) → P n → Q n)
 all_map f [] h = tt
 all_map f (n ∷ ns) h = (f n h.0, all_map f ns h.1)
 
-module _ (w : Wiring) (start : ℕ) (x : Place → ℕ) (F k v : ℕ) where
+module _ (w : FrontWiring) (start : ℕ) (x : Place → ℕ) (F k v : ℕ) where
   abbrev written_word : Place → ℕ
   written_word = put x (page_word F k) v
 
-  lent_put : (b : Buffer) (kind : ℕ) → ((grant_place w b).frame ≡ F → ⊥) → IsLent w start x b kind → IsLent w start written_word b kind
+  lent_put : (b : GrantedPage) (kind : ℕ) → ((grant_place w b).frame ≡ F → ⊥) → IsLent w start x b kind → IsLent w start written_word b kind
   lent_put b kind h l = record {
     frame = put_apart x (page_word F k) v (frame_place (grant_place w b)) (λ e q. h e) ∙ l.frame;
     flags = put_apart x (page_word F k) v (grant_place w b) (λ e q. h e) ∙ l.flags;
@@ -75,7 +75,7 @@ module _ (w : Wiring) (start : ℕ) (x : Place → ℕ) (F k v : ℕ) where
   pub notes_put : (f : Front) → ((at : Place) → IsFronts w start f at → at.frame ≡ F → at.word ≡ k → ⊥) → FrontNotes w start x f → FrontNotes w start written_word f
   notes_put f d h = all_map (λ n p. (put_apart x (page_word F k) v n.at (d n.at p.1) ∙ p.0, p.1)) f.notes h
 
-module _ (w : Wiring) (start : ℕ) (y : Laid w) (f : Front) where
+module _ (w : FrontWiring) (start : ℕ) (y : Laid w) (f : Front) where
   -- a word of the tx ring's page, of the rx ring's, of a posted buffer's
   pub fronts_tx : (k : ℕ) → ((n j : ℕ) → tx_sent f ≤ n → n < f.taken + 256 → j < 3 → 16 + 3 * (add32 start n % 256) + j ≡ k → ⊥) →
       (at : Place) → IsFronts w start f at → at.frame ≡ w.tx_frame → at.word ≡ k → ⊥

@@ -2,7 +2,7 @@
 use Rattle.honest_pair.proofs.Invariant.Lists.{bytes_append}
 use Rattle.std.proofs.Common.{◌≡◌, ℕ, ◌+◌, inl, inr, true, false, List, [], ◌++◌, length, Some, None, refl, sym, ◌∙◌, ap, subst}
 use Rattle.xen_turns.specs.declared.wiring.Wiring.{Wiring as BackWiring}
-use Rattle.xen_buffers.specs.declared.wiring.Wiring.{Wiring}
+use Rattle.xen_buffers.specs.declared.wiring.FrontWiring.{FrontWiring}
 use Rattle.xen_steps.specs.Places.{add32}
 use Rattle.honest_pair.specs.Invariant.Backs.{BackLaw, WakeLaw, PrefixLaw, GivenLaw, HeardLaw, woken}
 use Rattle.honest_pair.specs.Invariant.Ended.{GivenAll, HalfEnd, resting, slept}
@@ -18,7 +18,7 @@ use Rattle.honest_pair.proofs.Invariant.BackTurns.{half_rests}
 use Rattle.honest_pair.proofs.Invariant.BackSends.{send_safe}
 
 -- the same rings
-pub same_wiring : (w : Wiring) (v : BackWiring) → Joined w v → over w v ≡ v
+pub same_wiring : (w : FrontWiring) (v : BackWiring) → Joined w v → over w v ≡ v
 same_wiring w v j =
     ap (λ t. record v { vif = record v.vif { tx = t; rx = w.rx_frame } }) (sym j.tx)
     ∙ ap (λ t. record v { vif = record v.vif { rx = t } }) (sym j.rx)
@@ -37,7 +37,7 @@ half_safe w start small y v j runs s c g b ready =
     (subst (λ g2. BackSafe w start (GivenAll g2) (HalfEnd w start v s c g2) (resting d ready.ahead gv ready.posts ready.event) (half_turn v s)) ready.gave
     (subst (λ c2. BackSafe w start (GivenAll (bytes_in gv)) (HalfEnd w start v s c2 (bytes_in gv)) (resting d ready.ahead gv ready.posts ready.event) (half_turn v s)) ready.copied less))
 
-wakes_as : (w : Wiring) (start : ℕ) (d g : List Sent) (rs : List ℕ) (m : Memory) (f : Front) → Inv w start m f (slept d g rs) → Inv w start (record m { pending = false; awaits = awaits.Nothing }) f (woken (slept d g rs))
+wakes_as : (w : FrontWiring) (start : ℕ) (d g : List Sent) (rs : List ℕ) (m : Memory) (f : Front) → Inv w start m f (slept d g rs) → Inv w start (record m { pending = false; awaits = awaits.Nothing }) f (woken (slept d g rs))
 wakes_as w start d g rs m f h = record {
   tx = record { took = h.tx.took; told = h.tx.told; wrote = h.tx.wrote; used = h.tx.used; known = h.tx.known; room = h.tx.room; unique = h.tx.unique; good = h.tx.good };
   tx_head = h.tx_head;

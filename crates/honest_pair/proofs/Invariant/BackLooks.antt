@@ -2,7 +2,7 @@
 use Rattle.std.proofs.Common.{◌≡◌, ℕ, zero, suc, ◌+◌, ◌^◌, ◌<◌, inl, inr, List, [], ◌++◌, length, Option, Some, None, refl, sym, ◌∙◌, ap, arith, subst}
 use Rattle.xen_turns.specs.Tree.{check_again, look, seen}
 use Rattle.xen_turns.specs.declared.wiring.Wiring.{Wiring as BackWiring}
-use Rattle.xen_buffers.specs.declared.wiring.Wiring.{Wiring}
+use Rattle.xen_buffers.specs.declared.wiring.FrontWiring.{FrontWiring}
 use Rattle.xen_page.specs.declared.place.Place.{Place}
 use Rattle.xen_steps.specs.Places.{add32, available, page_word}
 use Rattle.xen_steps.specs.Steps.{Steps, done, ask, never, bind}
@@ -18,10 +18,10 @@ use Rattle.honest_pair.proofs.Invariant.Lists.{all_right, slots_count, nil_right
 use Rattle.honest_pair.proofs.Invariant.BackRings.{tx_ring_put}
 
 -- a back's wiring with the front's rings
-abbrev pub over : Wiring → BackWiring → BackWiring
+abbrev pub over : FrontWiring → BackWiring → BackWiring
 over w v = record v { vif = record v.vif { tx = w.tx_frame; rx = w.rx_frame } }
 
-module _ (w : Wiring) (start : ℕ) {A : Type 0} (K : Back → Type 0) where
+module _ (w : FrontWiring) (start : ℕ) {A : Type 0} (K : Back → Type 0) where
   pub safe_bind : {B : Type 0} (Q : Back → A → Type 0) (P : Back → B → Type 0) (b : Back) (s : Steps A) (f : A → Steps B) →
       BackSafe w start K Q b s → ((b' : Back) (x : A) → Q b' x → BackSafe w start K P b' (f x)) → BackSafe w start K P b (bind s f)
   safe_bind Q P b (done x) f h g = g b x h
@@ -54,7 +54,7 @@ Looked d g b None = ⊥
 Looked d g b (Some zero) = (rs : List ℕ) × (b ≡ slept d g rs)
 Looked d g b (Some (suc n)) = (x : List Sent) × (rs : List ℕ) × (e : ℕ) × (b ≡ resting d x g rs e) × (length (slots x) ≡ suc n) × AllOf IsSent x
 
-module _ (w : Wiring) (start : ℕ) (y : Laid w) (small : start < 2 ^ 32) (v : BackWiring) (d g : List Sent) (rs : List ℕ) where
+module _ (w : FrontWiring) (start : ℕ) (y : Laid w) (small : start < 2 ^ 32) (v : BackWiring) (d g : List Sent) (rs : List ℕ) where
   -- what the producer shows
   shown : (f : Front) (x : List Sent) → f.sent ≡ d ++ x → tx_sent f ≡ length (slots d) + length (slots x)
   shown f x p = ap (λ l. length (slots l)) p ∙ slots_count d x

@@ -8,7 +8,7 @@ use Rattle.std.proofs.lemmas.Nat.{le_bytes_4}
 use Rattle.std.proofs.lemmas.List.Sums.{sum_by-cons}
 use Rattle.std.proofs.lemmas.Bool.Decides.{nat_tests}
 use Rattle.xen_buffers.specs.Grants.{buffer}
-use Rattle.xen_buffers.specs.declared.wiring.Wiring.{Wiring}
+use Rattle.xen_buffers.specs.declared.wiring.FrontWiring.{FrontWiring}
 use Rattle.xen_front.specs.Slots.{piece_size, told_size, word_at}
 use Rattle.xen_netif.proofs.SegmentLemmas.{plain_offered}
 use Rattle.xen_netif.specs.Segments.{offered_fragments}
@@ -75,7 +75,7 @@ word_bytes p a h =
     by (suc (suc (suc zero))) = h (a + 1 + 1 + 1)
     by (suc (suc (suc (suc n)))) = omega arith
 
-module _ (w : Wiring) (start : ℕ) where
+module _ (w : FrontWiring) (start : ℕ) where
   -- a piece as a fragment
   abbrev pub part : Piece → Fragment
   part s = record { gref = (buffer w.tx.now s.id).gref; offset = 0; size = piece_size (length s.bytes) s.k }

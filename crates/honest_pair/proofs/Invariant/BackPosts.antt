@@ -4,7 +4,7 @@ use Rattle.std.specs.Prelude.{get_or}
 use Rattle.std.proofs.lemmas.List.{get_or_append_left}
 use Rattle.xen_turns.specs.declared.wiring.Wiring.{Wiring as BackWiring}
 use Rattle.xen_buffers.specs.Grants.{buffer, grant_place}
-use Rattle.xen_buffers.specs.declared.wiring.Wiring.{Wiring}
+use Rattle.xen_buffers.specs.declared.wiring.FrontWiring.{FrontWiring}
 use Rattle.xen_netif.specs.Slots.{rx_req_of, rx_req_words}
 use Rattle.xen_netif.specs.Words.{joined, low}
 use Rattle.xen_page.specs.Entry.{entry_of}
@@ -35,20 +35,20 @@ sending d a used g rs e sl u v fl wr =
     record { done = d; ahead = a; used = used; given = g; rx_used = u; rx_seen = rs; wrote = 0; giving = v; filled = fl; rx_wrote = wr; event = e; asleep = sl }
 
 -- the counts of the tx ring are as they were
-pub tx_same : (w : Wiring) (start : ℕ) (f : Front) (d a : List Sent) (used : ℕ) (g : List Sent) (rs : List ℕ) (e : ℕ) (sl : Bool) (u : ℕ) (v : List Sent) (fl wr : ℕ) (g2 : List Sent) (rs2 : List ℕ) (u2 : ℕ) (v2 : List Sent) (fl2 wr2 : ℕ) →
+pub tx_same : (w : FrontWiring) (start : ℕ) (f : Front) (d a : List Sent) (used : ℕ) (g : List Sent) (rs : List ℕ) (e : ℕ) (sl : Bool) (u : ℕ) (v : List Sent) (fl wr : ℕ) (g2 : List Sent) (rs2 : List ℕ) (u2 : ℕ) (v2 : List Sent) (fl2 wr2 : ℕ) →
     TxCounts w start f (sending d a used g rs e sl u v fl wr) → TxCounts w start f (sending d a used g2 rs2 e sl u2 v2 fl2 wr2)
 tx_same w start f d a used g rs e sl u v fl wr g2 rs2 u2 v2 fl2 wr2 h =
     record { took = h.took; told = h.told; wrote = h.wrote; used = h.used; known = h.known; room = h.room; unique = h.unique; good = h.good }
 
 -- a post that is known
-pub known_post : (w : Wiring) (start : ℕ) (small : start < 2 ^ 32) (d a : List Sent) (used : ℕ) (g : List Sent) (e : ℕ) (sl : Bool) (rs : List ℕ) (u : ℕ) (v2 : List Sent) (fl wr : ℕ) (m : Memory) (f : Front) (n : ℕ) → n < length rs → Inv w start m f (sending d a used g rs e sl u v2 fl wr) → (id_at f.posts n ≡ id_at rs n) × (n < length f.posts)
+pub known_post : (w : FrontWiring) (start : ℕ) (small : start < 2 ^ 32) (d a : List Sent) (used : ℕ) (g : List Sent) (e : ℕ) (sl : Bool) (rs : List ℕ) (u : ℕ) (v2 : List Sent) (fl wr : ℕ) (m : Memory) (f : Front) (n : ℕ) → n < length rs → Inv w start m f (sending d a used g rs e sl u v2 fl wr) → (id_at f.posts n ≡ id_at rs n) × (n < length f.posts)
 known_post w start small d a used g e sl rs u v2 fl wr m f n p h =
     let k = h.rx.known.1 in
     let c = ap length k in
     let l = length-append rs h.rx.known.0 in
     (ap (λ x. id_at x n) k ∙ get_or_append_left rs h.rx.known.0 0 n p, omega (arith, c, l, p))
 
-module _ (w : Wiring) (start : ℕ) (small : start < 2 ^ 32) (v : BackWiring) (j : Joined w v) (d a : List Sent) (used : ℕ) (g : List Sent) (e : ℕ) (sl : Bool) where
+module _ (w : FrontWiring) (start : ℕ) (small : start < 2 ^ 32) (v : BackWiring) (j : Joined w v) (d a : List Sent) (used : ℕ) (g : List Sent) (e : ℕ) (sl : Bool) where
   -- u posts are read
   abbrev pub posts_read : List ℕ → ℕ → Back
   posts_read rs u = sending d a used g rs e sl u [] 0 0

@@ -3,7 +3,7 @@ use Rattle.std.proofs.Common.{◌≡◌, ℕ, zero, suc, ◌+◌, ◌-◌, ◌*�
 use Rattle.std.specs.Prelude.{nat_lt}
 use Rattle.std.proofs.lemmas.Bool.Decides.{eqb_tells, nat_tests}
 use Rattle.xen_turns.specs.declared.wiring.Wiring.{Wiring as BackWiring}
-use Rattle.xen_buffers.specs.declared.wiring.Wiring.{Wiring}
+use Rattle.xen_buffers.specs.declared.wiring.FrontWiring.{FrontWiring}
 use Rattle.xen_page.specs.declared.place.Place.{Place}
 use Rattle.xen_ring.specs.Index.{is_due}
 use Rattle.xen_steps.specs.Places.{add32, page_word, rx_entry}
@@ -12,8 +12,8 @@ use Rattle.xen_steps.specs.declared.want.Want.TheVariants as want
 use Rattle.xen_netif.specs.declared.offload.RxOffload.TheVariants.{Whole}
 use Rattle.xen_rx_fill.specs.Packets.{pages, response_word, word_of, words}
 use Rattle.xen_rx_fill.specs.Transmit.{rx_answer, rx_event, rx_notice, rx_publish}
-use Rattle.xen_rx_fill.specs.declared.by_event.phase.Outcome.{Outcome}
-use Rattle.xen_rx_fill.specs.declared.by_event.phase.Outcome.TheVariants as outcome
+use Rattle.xen_rx_fill.specs.declared.by_event.phase.TransmitOutcome.{TransmitOutcome}
+use Rattle.xen_rx_fill.specs.declared.by_event.phase.TransmitOutcome.TheVariants as outcome
 use Rattle.xen_rx_fill.specs.declared.target.Grants.TheVariants.{Passed}
 use Rattle.honest_pair.specs.Invariant.Ghosts.{AllOf, IsSent, Sent, Piece, piece, id_at, slots, Front, Back, tx_sent}
 use Rattle.honest_pair.specs.Invariant.Inv.{Heard, Inv, RxSlots, rx_at, rx_buffer, rx_word_of}
@@ -37,7 +37,7 @@ side n k = by (nat_lt n k) refl
     by false c = inr (grind (arith, nat_tests))
 
 -- All but the rx ring's header and slots, after a word of the rx ring's page is written that is no word of the front's.
-module _ (w : Wiring) (start : ℕ) (small : start < 2 ^ 32) (d a : List Sent) (used : ℕ) (g : List Sent) (e : ℕ) (sl : Bool) (rs : List ℕ) (packet : List ℕ) (N : ℕ) (y : Laid w) (count : N ≡ pages packet) (p : length (slots g) + N ≤ length rs) where
+module _ (w : FrontWiring) (start : ℕ) (small : start < 2 ^ 32) (d a : List Sent) (used : ℕ) (g : List Sent) (e : ℕ) (sl : Bool) (rs : List ℕ) (packet : List ℕ) (N : ℕ) (y : Laid w) (count : N ≡ pages packet) (p : length (slots g) + N ≤ length rs) where
   abbrev G : ℕ
   G = length (slots g)
 
@@ -184,7 +184,7 @@ module _ (w : Wiring) (start : ℕ) (small : start < 2 ^ 32) (d a : List Sent) (
   }
 
   module _ (v : BackWiring) (K : Back → Type 0) (k1 : (fl wr : ℕ) → K (now fl wr)) (k2 : K given_all) where
-    abbrev pub WasSent : Back → Outcome → Type 0
+    abbrev pub WasSent : Back → TransmitOutcome → Type 0
     WasSent b o = (b ≡ given_all) × (o ≡ outcome.Sent N)
 
     rx_notice_safe : (due : Bool) → BackSafe w start K WasSent given_all (rx_notice (over w v).vif due (outcome.Sent N))

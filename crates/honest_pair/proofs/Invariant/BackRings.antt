@@ -1,6 +1,6 @@
 -- What a back's write leaves of the invariant's groups: a word of the tx ring's page, of the rx ring's, of a posted buffer.
 use Rattle.std.proofs.Common.{◌≡◌, ℕ, ◌+◌, ◌*◌, ◌%◌, ◌<◌, ◌≤◌, ◌⊎◌, inl, ◌++◌, length, length-append, Some, sym, ap, arith}
-use Rattle.xen_buffers.specs.declared.wiring.Wiring.{Wiring}
+use Rattle.xen_buffers.specs.declared.wiring.FrontWiring.{FrontWiring}
 use Rattle.xen_page.specs.declared.place.Place.{Place}
 use Rattle.xen_steps.specs.Places.{add32, page_word}
 use Rattle.honest_pair.specs.Invariant.Ghosts.{Piece, piece, slots, Front, Back, tx_sent, tx_answered, rx_given}
@@ -11,7 +11,7 @@ use Rattle.honest_pair.specs.declared.awaits.Awaits.{Awaits}
 use Rattle.honest_pair.proofs.Invariant.Lists.{slots_count, small_ids}
 use Rattle.honest_pair.proofs.Invariant.BackGroups.{tx_put, rx_put, rx_head_put, reading_put, notes_put, fronts_tx}
 
-module _ (w : Wiring) (start : ℕ) (m : Memory) (f : Front) (b : Back) (h : Inv w start m f b) where
+module _ (w : FrontWiring) (start : ℕ) (m : Memory) (f : Front) (b : Back) (h : Inv w start m f b) where
   -- as many slots are published as the back knows
   pub sent_bound : tx_answered b + length (slots b.ahead) ≤ tx_sent f
   sent_bound =
@@ -41,7 +41,7 @@ module _ (w : Wiring) (start : ℕ) (m : Memory) (f : Front) (b : Back) (h : Inv
       omega (arith, c, d, e)
 
 -- all but the tx ring's header and the sleeping back
-pub record Kept (w : Wiring) (start : ℕ) (x : Place → ℕ) (asked : Awaits) (f : Front) (b : Back) : Type 0 where
+pub record Kept (w : FrontWiring) (start : ℕ) (x : Place → ℕ) (asked : Awaits) (f : Front) (b : Back) : Type 0 where
   pub tx_slots : TxSlots w start x (slots f.sent) f.taken (tx_answered b) (tx_answered b + b.wrote) (tx_answered b + b.used)
   pub rx_head : RxHead w start x (length f.posts) (rx_given b) asked
   pub rx_slots : RxSlots w start x f.posts (slots (b.given ++ b.giving)) f.got (rx_given b) (rx_given b + b.rx_used) (2 * rx_given b + b.rx_wrote) b.filled
@@ -49,7 +49,7 @@ pub record Kept (w : Wiring) (start : ℕ) (x : Place → ℕ) (asked : Awaits) 
   pub front_notes : FrontNotes w start x f
 
 -- a word of the tx ring's page that is no word of a slot in use
-pub tx_ring_put : (w : Wiring) (start : ℕ) (m : Memory) (f : Front) (b : Back) (h : Inv w start m f b) (y : Laid w) (k v : ℕ) →
+pub tx_ring_put : (w : FrontWiring) (start : ℕ) (m : Memory) (f : Front) (b : Back) (h : Inv w start m f b) (y : Laid w) (k v : ℕ) →
     ((n j : ℕ) → f.taken ≤ n → n < f.taken + 256 → j < 3 → (tx_answered b + b.used ≤ n) ⊎ ((n < tx_answered b + b.wrote) × (j ≡ 0)) → 16 + 3 * (add32 start n % 256) + j ≡ k → ⊥) →
     Kept w start (put m.word (page_word w.tx_frame k) v) m.awaits f b
 tx_ring_put w start m f b h y k v ring =

@@ -3,17 +3,17 @@ use Rattle.std.proofs.Common.{◌≡◌, ℕ, ◌^◌, ◌<◌, inl, inr, false,
 use Rattle.xen_turns.specs.Tree.{Left, after_transmit, answered, after_slots, respond, send}
 use Rattle.xen_turns.specs.Turned.{Ending, Ran, Refused}
 use Rattle.xen_turns.specs.declared.state.State.{State}
-use Rattle.xen_turns.specs.declared.turn.Refusal.TheVariants as refusal
+use Rattle.xen_turns.specs.declared.turn.PacketRefusal.TheVariants as refusal
 use Rattle.xen_turns.specs.declared.wiring.Wiring.{Wiring as BackWiring}
-use Rattle.xen_buffers.specs.declared.wiring.Wiring.{Wiring}
+use Rattle.xen_buffers.specs.declared.wiring.FrontWiring.{FrontWiring}
 use Rattle.xen_netif.specs.Chain.{Slot}
 use Rattle.xen_netif.specs.declared.status.Status.TheVariants as status
 use Rattle.xen_steps.specs.Places.{add32}
 use Rattle.xen_steps.specs.Steps.{bind}
 use Rattle.xen_netif.specs.declared.offload.RxOffload.TheVariants.{Whole}
 use Rattle.xen_rx_fill.specs.Transmit.{transmit}
-use Rattle.xen_rx_fill.specs.declared.by_event.phase.Outcome.{Outcome}
-use Rattle.xen_rx_fill.specs.declared.by_event.phase.Outcome.TheVariants as outcome
+use Rattle.xen_rx_fill.specs.declared.by_event.phase.TransmitOutcome.{TransmitOutcome}
+use Rattle.xen_rx_fill.specs.declared.by_event.phase.TransmitOutcome.TheVariants as outcome
 use Rattle.honest_pair.specs.Invariant.Ended.{Between, EndedTurn, Fits, GivesLeft, working, resting}
 use Rattle.honest_pair.specs.Invariant.Ends.{BackSafe, HasGiven}
 use Rattle.honest_pair.specs.Invariant.Ghosts.{IsSent, Sent, pieces_in, slots, Back, bytes_in}
@@ -27,7 +27,7 @@ use Rattle.honest_pair.proofs.Invariant.BackTransmits as transmits
 use Rattle.honest_pair.proofs.Invariant.BackTransmits.{IsFit}
 use Rattle.honest_pair.proofs.Invariant.BackTurns.{SendSafe, bytes_more, next_between}
 
-module _ (w : Wiring) (start : ℕ) (small : start < 2 ^ 32) (v : BackWiring) (j : Joined w v) (y : Laid w) (d : List Sent) (s : Sent) (l g : List Sent) (e : ℕ) (r : Left) (sent : IsSent s) (fit : Fits s.bytes r.packet) (three : r.number ≡ 3) where
+module _ (w : FrontWiring) (start : ℕ) (small : start < 2 ^ 32) (v : BackWiring) (j : Joined w v) (y : Laid w) (d : List Sent) (s : Sent) (l g : List Sent) (e : ℕ) (r : Left) (sent : IsSent s) (fit : Fits s.bytes r.packet) (three : r.number ≡ 3) where
   abbrev used : ℕ
   used = length s.ids
 
@@ -46,7 +46,7 @@ module _ (w : Wiring) (start : ℕ) (small : start < 2 ^ 32) (v : BackWiring) (j
   one_more : (b : Back) (x : Sent) → x.bytes ≡ r.packet → b.given ≡ g ++ x ∷ [] → K b
   one_more b x p k = inr (three, ap bytes_in k ∙ bytes_more g x ∙ ap (λ q. bytes_in g ++ q ∷ []) p)
 
-  abbrev Transmitted : Back → Outcome → Type 0
+  abbrev Transmitted : Back → TransmitOutcome → Type 0
   Transmitted = transmits.Transmitted w start small v j y d a used g e false r.packet fits K none_more one_more
 
   module _ (state : State) (at : Between start d g state) where
@@ -56,7 +56,7 @@ module _ (w : Wiring) (start : ℕ) (small : start < 2 ^ 32) (v : BackWiring) (j
     abbrev Ends : Back → Ending → Type 0
     Ends = EndedTurn start (bytes_in d ++ s.bytes ∷ []) (bytes_in g)
 
-    transmitted_safe : (b : Back) (o : Outcome) → Transmitted b o → BackSafe w start K Ends b (after_transmit (over w v) state all r.packet r.ops o)
+    transmitted_safe : (b : Back) (o : TransmitOutcome) → Transmitted b o → BackSafe w start K Ends b (after_transmit (over w v) state all r.packet r.ops o)
     transmitted_safe b outcome.Overflow h = absurd h
     transmitted_safe b (outcome.Refused n) h = absurd h
     transmitted_safe b outcome.TooFew h =
@@ -87,5 +87,5 @@ module _ (w : Wiring) (start : ℕ) (small : start < 2 ^ 32) (v : BackWiring) (j
         (safe_bind w start K Transmitted Ends (working d a used 0 g rs e) (transmit (over w v).vif (add32 start (length (slots g))) Whole r.packet) (after_transmit (over w v) state all r.packet r.ops)
         (transmits.transmit_safe w start small v j y d a used g e false r.packet fits K none_more one_more rs) transmitted_safe)
 
-pub send_safe : (w : Wiring) (start : ℕ) → start < 2 ^ 32 → (v : BackWiring) → Joined w v → Laid w → SendSafe w start v
+pub send_safe : (w : FrontWiring) (start : ℕ) → start < 2 ^ 32 → (v : BackWiring) → Joined w v → Laid w → SendSafe w start v
 send_safe w start small v j y d s l g rs e state r good fit at three = send_ends w start small v j y d s l g e r good fit three state at rs

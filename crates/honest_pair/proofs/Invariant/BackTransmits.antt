@@ -3,14 +3,14 @@ use Rattle.std.proofs.Common.{◌≡◌, ℕ, zero, suc, ◌+◌, ◌-◌, ◌^�
 use Rattle.std.specs.Prelude.{get_or, nat_lt, if◌then◌else◌}
 use Rattle.std.proofs.lemmas.Bool.Decides.{nat_tests}
 use Rattle.xen_turns.specs.declared.wiring.Wiring.{Wiring as BackWiring}
-use Rattle.xen_buffers.specs.declared.wiring.Wiring.{Wiring}
+use Rattle.xen_buffers.specs.declared.wiring.FrontWiring.{FrontWiring}
 use Rattle.xen_steps.specs.Places.{add32}
 use Rattle.xen_steps.specs.Steps.{Steps, done, bind}
 use Rattle.xen_netif.specs.declared.offload.RxOffload.TheVariants.{Whole}
 use Rattle.xen_rx_fill.specs.Packets.{pages, words}
 use Rattle.xen_rx_fill.specs.Transmit.{after_targets, fill, found, read_targets, rx_respond, transmit}
-use Rattle.xen_rx_fill.specs.declared.by_event.phase.Outcome.{Outcome}
-use Rattle.xen_rx_fill.specs.declared.by_event.phase.Outcome.TheVariants as outcome
+use Rattle.xen_rx_fill.specs.declared.by_event.phase.TransmitOutcome.{TransmitOutcome}
+use Rattle.xen_rx_fill.specs.declared.by_event.phase.TransmitOutcome.TheVariants as outcome
 use Rattle.xen_rx_fill.specs.declared.target.Target.{Target}
 use Rattle.xen_rx_fill.specs.declared.target.Grants.TheVariants.{Passed}
 use Rattle.honest_pair.specs.Invariant.Ends.{BackSafe, HasGiven}
@@ -32,7 +32,7 @@ pub record IsFit (packet : List ℕ) : Type 0 where
   pub bytes : (i : ℕ) → get_or packet i 0 < 256
 
 -- K holds of a back that has given no more, and of one that has given the packet.
-module _ (w : Wiring) (start : ℕ) (small : start < 2 ^ 32) (v : BackWiring) (j : Joined w v) (y : Laid w) (d a : List Sent) (used : ℕ) (g : List Sent) (e : ℕ) (sl : Bool) (packet : List ℕ) (fit : IsFit packet) (K : Back → Type 0)
+module _ (w : FrontWiring) (start : ℕ) (small : start < 2 ^ 32) (v : BackWiring) (j : Joined w v) (y : Laid w) (d a : List Sent) (used : ℕ) (g : List Sent) (e : ℕ) (sl : Bool) (packet : List ℕ) (fit : IsFit packet) (K : Back → Type 0)
     (k1 : (b : Back) → b.given ≡ g → K b) (k2 : (b : Back) (x : Sent) → x.bytes ≡ packet → b.given ≡ g ++ x ∷ [] → K b) where
   abbrev pub G : ℕ
   G = length (slots g)
@@ -47,7 +47,7 @@ module _ (w : Wiring) (start : ℕ) (small : start < 2 ^ 32) (v : BackWiring) (j
   X rs = fills.gift w start small d a used g e sl rs packet N
 
   -- the posts were too few, or the packet is given
-  abbrev pub Transmitted : Back → Outcome → Type 0
+  abbrev pub Transmitted : Back → TransmitOutcome → Type 0
   Transmitted b outcome.Overflow = ⊥
   Transmitted b outcome.TooFew = (rs : List ℕ) × (b ≡ sending d a used g rs e sl 0 [] 0 0)
   Transmitted b (outcome.Refused n) = ⊥
@@ -84,7 +84,7 @@ module _ (w : Wiring) (start : ℕ) (small : start < 2 ^ 32) (v : BackWiring) (j
     abbrev now : Back
     now = fills.given_state w start small d a used g e sl rs packet N 0 0
 
-    abbrev later : Unit {0} → Steps Outcome
+    abbrev later : Unit {0} → Steps TransmitOutcome
     later u = rx_respond (over w v).vif (add32 start G) Whole packet Passed tg
 
     gives_safe : BackSafe w start K Transmitted now (bind (fill Whole tg packet (words packet - 0) 0) later)

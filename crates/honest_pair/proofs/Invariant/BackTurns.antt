@@ -6,7 +6,7 @@ use Rattle.xen_turns.specs.Tree.{Left, Scan, after_run, answered, copy, look, pr
 use Rattle.xen_turns.specs.Turned.{Ran}
 use Rattle.xen_turns.specs.declared.state.State.{State}
 use Rattle.xen_turns.specs.declared.wiring.Wiring.{Wiring as BackWiring}
-use Rattle.xen_buffers.specs.declared.wiring.Wiring.{Wiring}
+use Rattle.xen_buffers.specs.declared.wiring.FrontWiring.{FrontWiring}
 use Rattle.xen_netif.specs.Chain.{Slot}
 use Rattle.xen_netif.specs.Segments.{offered_fragments}
 use Rattle.xen_netif.specs.declared.segments.Offers.{Offers}
@@ -28,7 +28,7 @@ use Rattle.honest_pair.proofs.Invariant.BackCopies.{Copied, copy_safe}
 use Rattle.honest_pair.proofs.Invariant.BackAnswers.{Answered, HasLeft, program_safe, respond_safe}
 
 -- no refusal of a sent packet's sizes
-fragments_there : (offers : Offers) (w : Wiring) (start : ℕ) (s : Sent) → IsSent s → offered_fragments offers (map (tx_words w start) (pieces_in s)) ≡ Ok (map (part w start) (pieces_in s))
+fragments_there : (offers : Offers) (w : FrontWiring) (start : ℕ) (s : Sent) → IsSent s → offered_fragments offers (map (tx_words w start) (pieces_in s)) ≡ Ok (map (part w start) (pieces_in s))
 fragments_there offers w start s h = by s.ids refl
   where
     by : (ids : List ℕ) → s.ids ≡ ids → offered_fragments offers (map (tx_words w start) (pieces_in s)) ≡ Ok (map (part w start) (pieces_in s))
@@ -57,19 +57,19 @@ bytes_more [] s = refl
 bytes_more (x ∷ d) s = ap (λ l. x.bytes ∷ l) (bytes_more d s)
 
 -- what follows a run is safe: responses, or the packet is sent back
-abbrev pub AfterRun : Wiring → ℕ → BackWiring → List Sent → Sent → List Sent → List Sent → List ℕ → ℕ → State → Left → Type 0
+abbrev pub AfterRun : FrontWiring → ℕ → BackWiring → List Sent → Sent → List Sent → List Sent → List ℕ → ℕ → State → Left → Type 0
 AfterRun w start v d s l g rs e state r =
     BackSafe w start (GivesLeft (bytes_in g) r) (EndedTurn start (bytes_in d ++ s.bytes ∷ []) (bytes_in g)) (working d (s ∷ l) (length s.ids) 0 g rs e)
     (after_run (over w v) state (map (tx_words w start) (pieces_in s)) r)
 
 -- sending a packet back is safe
-abbrev pub SendSafe : Wiring → ℕ → BackWiring → Type 0
+abbrev pub SendSafe : FrontWiring → ℕ → BackWiring → Type 0
 SendSafe w start v =
     (d : List Sent) (s : Sent) (l g : List Sent) (rs : List ℕ) (e : ℕ) (state : State) (r : Left) → IsSent s → Fits s.bytes r.packet → Between start d g state → r.number ≡ 3 →
     BackSafe w start (GivesLeft (bytes_in g) r) (EndedTurn start (bytes_in d ++ s.bytes ∷ []) (bytes_in g)) (working d (s ∷ l) (length s.ids) 0 g rs e)
     (send (over w v) state (map (tx_words w start) (pieces_in s)) r.packet r.ops)
 
-module _ (w : Wiring) (start : ℕ) (y : Laid w) (small : start < 2 ^ 32) (v : BackWiring) (j : Joined w v) (runs : Programmed v) (sends : SendSafe w start v) where
+module _ (w : FrontWiring) (start : ℕ) (y : Laid w) (small : start < 2 ^ 32) (v : BackWiring) (j : Joined w v) (runs : Programmed v) (sends : SendSafe w start v) where
   abbrev wiring : BackWiring
   wiring = over w v
 

@@ -3,7 +3,7 @@ use Rattle.std.proofs.Common.{◌≡◌, ℕ, ◌+◌, ◌-◌, ◌*◌, ◌^◌
 use Rattle.std.specs.Prelude.{nat_lt}
 use Rattle.std.proofs.lemmas.Bool.{ltb-true}
 use Rattle.xen_turns.specs.declared.state.State.{State}
-use Rattle.xen_buffers.specs.declared.wiring.Wiring.{Wiring}
+use Rattle.xen_buffers.specs.declared.wiring.FrontWiring.{FrontWiring}
 use Rattle.xen_ring.specs.Index.{distance}
 use Rattle.xen_steps.specs.Places.{add32, available, page_word}
 use Rattle.honest_pair.specs.Invariant.Backs.{AskLaw, ForgetLaw, LookLaw, ToldLaw}
@@ -51,7 +51,7 @@ rx_at : (start : ℕ) (asleep : Bool) (s : State) (c g : List (List ℕ)) (b : B
 rx_at start true s c g b r = r.between.rx ∙ ap (λ x. add32 start (length (slots x.given))) (sym r.back)
 rx_at start false s c g b r = r.between.rx ∙ ap (λ x. add32 start (length (slots x.given))) (sym r.back)
 
-rx_room : (w : Wiring) (start : ℕ) (m : Memory) (f : Front) (b : Back) → Inv w start m f b → (rx_given b ≤ length f.posts) × (length f.posts ≤ rx_given b + 256)
+rx_room : (w : FrontWiring) (start : ℕ) (m : Memory) (f : Front) (b : Back) → Inv w start m f b → (rx_given b ≤ length f.posts) × (length f.posts ≤ rx_given b + 256)
 rx_room w start m f b h =
     let o = got_bound w start m f b h in
     let room = h.rx.room in
@@ -60,7 +60,7 @@ rx_room w start m f b h =
     (omega (arith, used, known), omega (arith, o, room))
 
 -- behind the event index fewer are posted
-fewer : (w : Wiring) (start : ℕ) (m : Memory) (f : Front) (b : Back) (index pages : ℕ) → Inv w start m f b → m.awaits ≡ awaits.Asked index pages → IsShort w start m.pending (length f.posts) f.posting index pages →
+fewer : (w : FrontWiring) (start : ℕ) (m : Memory) (f : Front) (b : Back) (index pages : ℕ) → Inv w start m f b → m.awaits ≡ awaits.Asked index pages → IsShort w start m.pending (length f.posts) f.posting index pages →
     Inv w start (record m { awaits = awaits.Fewer index pages }) f b
 fewer w start m f b index pages h e short =
     let word : m.word (page_word w.rx_frame 1) ≡ add32 index pages = subst (IsAsked w start m.word) e h.rx_head.event in

@@ -2,13 +2,13 @@
 use Rattle.honest_pair.proofs.Invariant.Puts.{add_add}
 use Rattle.std.proofs.Common.{◌≡◌, ℕ, ◌+◌, ◌^◌, ◌<◌, ◌≤◌, true, false, List, [], ◌∷◌, ◌++◌, length, length-append, length-take, get_or, refl, sym, ◌∙◌, ap, arith, subst, Option, Some, None, append_assoc}
 use Rattle.std.specs.Prelude.{Ok}
-use Rattle.xen_buffers.specs.declared.wiring.Wiring.{Wiring}
+use Rattle.xen_buffers.specs.declared.wiring.FrontWiring.{FrontWiring}
 use Rattle.xen_front.specs.Fronts.{all_free, chosen, post_tests}
 use Rattle.xen_front.specs.Slots.{in_flight, pieces_of}
 use Rattle.xen_front.specs.Tree.{flown, poll, poll_rx, post, send}
 use Rattle.xen_front.specs.declared.state.Ring.{Ring}
-use Rattle.xen_front.specs.declared.state.State.{State}
-use Rattle.xen_front.specs.declared.turn.Halt.{Halt}
+use Rattle.xen_front.specs.declared.state.FrontState.{FrontState}
+use Rattle.xen_front.specs.declared.turn.FrontHalt.{FrontHalt}
 use Rattle.xen_steps.specs.Places.{add32}
 use Rattle.honest_pair.specs.Invariant.Ghosts.{Sent, Front, tx_sent, slots, piece, pieces_in, id_at, IsSent, AllOf, bytes_in}
 use Rattle.honest_pair.specs.Invariant.Inv.{Inv, IsFree}
@@ -63,15 +63,15 @@ flown_rx start r posts got id h small clear =
       size = fly_length r.out (id ∷ []) ∙ h.size;
     }
 
-pub posts_ok : (s : State) → post_tests s.halt false (all_free s.rx.out) ≡ Ok tt → 0 < length (all_free s.rx.out)
+pub posts_ok : (s : FrontState) → post_tests s.halt false (all_free s.rx.out) ≡ Ok tt → 0 < length (all_free s.rx.out)
 posts_ok s e = by s.halt (all_free s.rx.out) e
   where
-    by : (h : Option Halt) (l : List ℕ) → post_tests h false l ≡ Ok tt → 0 < length l
+    by : (h : Option FrontHalt) (l : List ℕ) → post_tests h false l ≡ Ok tt → 0 < length l
     by (Some c) l e = absurd (cc)
     by None [] e = absurd (cc)
     by None (i ∷ l) e = omega arith
 
-module _ (w : Wiring) (laid : Numbers w) (start : ℕ) (small : start < 2 ^ 32) (s : State) (sent received : List (List ℕ)) (f : Front) (r : Rest start s sent received f) where
+module _ (w : FrontWiring) (laid : Numbers w) (start : ℕ) (small : start < 2 ^ 32) (s : FrontState) (sent received : List (List ℕ)) (f : Front) (r : Rest start s sent received f) where
   -- A send that is taken: what was sent grows by its packet.
   pub send_safe : (p : List ℕ) → CanSend s p → ((i : ℕ) → get_or p i 0 < 256) →
       Safe (Inv w start) (Sends (sent ++ p ∷ []) received) (Over start (sent ++ p ∷ []) received) (began f (p ∷ [])) (send w s p (chosen (pieces_of (length p)) s.tx.out))

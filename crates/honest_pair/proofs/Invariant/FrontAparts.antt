@@ -1,6 +1,6 @@
 -- The front writes at no place whose word the invariant fixes.
 use Rattle.std.proofs.Common.{◌≡◌, ℕ, ◌+◌, ◌*◌, ◌%◌, ◌<◌, ◌≤◌, subst, arith}
-use Rattle.xen_buffers.specs.declared.wiring.Wiring.{Wiring}
+use Rattle.xen_buffers.specs.declared.wiring.FrontWiring.{FrontWiring}
 use Rattle.xen_page.specs.declared.place.Place.{Place}
 use Rattle.xen_steps.specs.Places.{add32}
 use Rattle.honest_pair.specs.Invariant.Ghosts.{Front}
@@ -14,7 +14,7 @@ tx_round s a b j k p q r t e = omega arith
 pub rx_round : (s a b j k : ℕ) → a < b → b < a + 256 → j < 2 → k < 2 → 16 + 2 * (add32 s a % 256) + j ≡ 16 + 2 * (add32 s b % 256) + k → ⊥
 rx_round s a b j k p q r t e = omega arith
 
-module _ (w : Wiring) (start : ℕ) (h : ℕ) (few : h ≤ 1) (f : Front) (at x : Place) where
+module _ (w : FrontWiring) (start : ℕ) (h : ℕ) (few : h ≤ 1) (f : Front) (at x : Place) where
   pub apart : Own w start h f at → Kept w start h f x → x.frame ≡ at.frame → x.word ≡ at.word → ⊥
   apart (in_tx n j a b c d e) (tx_head A B D) u v = omega arith
   apart (in_tx n j a b c d e) (tx_slot N J A B C D E) u v = tx_round start N n J j (omega arith) (omega arith) C c (omega arith)

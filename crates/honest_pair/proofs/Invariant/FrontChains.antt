@@ -4,12 +4,12 @@ use Rattle.std.specs.Prelude.{nat_lt, if◌then◌else◌}
 use Rattle.std.proofs.lemmas.Bool.{lt-ltb}
 use Rattle.std.proofs.lemmas.Bool.Decides.{nat_tests}
 use Rattle.xen_buffers.specs.Grants.{buffer}
-use Rattle.xen_buffers.specs.declared.wiring.Wiring.{Wiring}
+use Rattle.xen_buffers.specs.declared.wiring.FrontWiring.{FrontWiring}
 use Rattle.xen_front.specs.Given.{Ending, Packet}
 use Rattle.xen_front.specs.Slots.{fault_of, gave, in_flight, part_of, pieces_of}
 use Rattle.xen_front.specs.Tree.{Gathered, Slot, chained, checked, continues, grown, read_page, receive, second_word}
 use Rattle.xen_front.specs.declared.state.Ring.{Ring}
-use Rattle.xen_front.specs.declared.state.State.{State}
+use Rattle.xen_front.specs.declared.state.FrontState.{FrontState}
 use Rattle.xen_netif.specs.Copy.{covered}
 use Rattle.xen_netif.specs.Slots.{rx_rsp_of}
 use Rattle.xen_steps.specs.Pages.{copy_words}
@@ -89,13 +89,13 @@ abbrev pub so_far : List ℕ → ℕ → Gathered
 so_far p k = gathered_of k (take (4096 * k) p)
 
 -- A packet that is known to be given, from position `base` of the ring on.
-module _ (w : Wiring) (laid : Numbers w) (start : ℕ) (K : Front → Type 0) (P : Front → Ending → Type 0) (f : Front) (t : List Sent) (p ids : List ℕ) (base : ℕ) (rcv : List (List ℕ)) (tx0 : Ring)
+module _ (w : FrontWiring) (laid : Numbers w) (start : ℕ) (K : Front → Type 0) (P : Front → Ending → Type 0) (f : Front) (t : List Sent) (p ids : List ℕ) (base : ℕ) (rcv : List (List ℕ)) (tx0 : Ring)
     (most : length p ≤ 65535) (bytes : (i : ℕ) → get_or p i 0 < 256) (count : length ids ≡ pieces_of (length p)) (inside : base + length ids ≤ length (slots t))
     (at : (k : ℕ) → k < length ids → piece (slots t) (base + k) ≡ its p (length ids) k (get_or ids k 0))
     (during : (c : ℕ) (rd : Option Piece) → K (rxing f c t rd rcv)) (finally : K (rxing f (base + length ids) t None (rcv ++ p ∷ [])))
-    (over : (s : State) → s.halt ≡ None → s.tx ≡ tx0 → Ringed start s.rx (id_at f.posts) (base + length ids) (length f.posts) → P (rxing f (base + length ids) t None (rcv ++ p ∷ [])) (s, Packet Whole p)) where
+    (over : (s : FrontState) → s.halt ≡ None → s.tx ≡ tx0 → Ringed start s.rx (id_at f.posts) (base + length ids) (length f.posts) → P (rxing f (base + length ids) t None (rcv ++ p ∷ [])) (s, Packet Whole p)) where
   -- a response's page is read
-  pub page_safe : (k : ℕ) (s : State) (rest : State → Gathered → Steps Ending) (last_front : Front) → k < length ids → K last_front →
+  pub page_safe : (k : ℕ) (s : FrontState) (rest : FrontState → Gathered → Steps Ending) (last_front : Front) → k < length ids → K last_front →
       ((m : Memory) (b : Back) → Inv w start m (rxing f (base + k + 1) t (Some (piece (slots t) (base + k))) rcv) b → Inv w start m last_front b) →
       Safe (Inv w start) K P last_front (chained (nat_lt (k + 1) (length ids)) s (gathered_of (k + 1) (take (4096 * k + size_at p k) p)) rest) →
       Safe (Inv w start) K P (rxing f (base + k + 1) t (Some (piece (slots t) (base + k))) rcv)
@@ -124,14 +124,14 @@ module _ (w : Wiring) (laid : Numbers w) (start : ℕ) (K : Front → Type 0) (P
   At k = get_or ids k 0
 
   -- where the response stands
-  read_at : (k : ℕ) (s : State) (rd : Option Piece) (j : ℕ) (m : Memory) (b : Back) → k < length ids → j < 2 → s.rx.cons ≡ add32 start (base + k) → Inv w start m (rxing f (base + k) t rd rcv) b →
+  read_at : (k : ℕ) (s : FrontState) (rd : Option Piece) (j : ℕ) (m : Memory) (b : Back) → k < length ids → j < 2 → s.rx.cons ≡ add32 start (base + k) → Inv w start m (rxing f (base + k) t rd rcv) b →
       m.word (rx_entry w.rx_frame s.rx.cons j) ≡ response_word Whole Passed p (length ids) k (At k) j
   read_at k s rd j m b lt l e h =
       ap (λ x. m.word (rx_entry w.rx_frame x j)) e ∙ rx_word w laid start f (base + k) t rd rcv m b h (base + k) j (omega arith) (omega (arith, inside, lt)) l
       ∙ ap (λ x. response_word Whole Passed x.bytes x.n x.k x.id j) (at k lt)
 
   -- a piece: its two words, the end of its grant, its page
-  piece_safe : (k l : ℕ) (s : State) (rd : Option Piece) (last_front : Front) → k < length ids → Ringed start s.rx (id_at f.posts) (base + k) (length f.posts) → K last_front →
+  piece_safe : (k l : ℕ) (s : FrontState) (rd : Option Piece) (last_front : Front) → k < length ids → Ringed start s.rx (id_at f.posts) (base + k) (length f.posts) → K last_front →
       ((m : Memory) (b : Back) → Inv w start m (rxing f (base + k + 1) t (Some (piece (slots t) (base + k))) rcv) b → Inv w start m last_front b) →
       (Ringed start (gave s (At k)).rx (id_at f.posts) (base + k + 1) (length f.posts) →
       Safe (Inv w start) K P last_front (chained (nat_lt (k + 1) (length ids)) (gave s (At k)) (gathered_of (k + 1) (take (4096 * k + size_at p k) p)) (receive w l))) →
@@ -178,7 +178,7 @@ module _ (w : Wiring) (laid : Numbers w) (start : ℕ) (K : Front → Type 0) (P
       )
 
   -- all pieces from the k-th on
-  pub receive_safe : (r k l : ℕ) (s : State) (rd : Option Piece) → k + suc r ≡ length ids → r ≤ l → s.halt ≡ None → s.tx ≡ tx0 → Ringed start s.rx (id_at f.posts) (base + k) (length f.posts) →
+  pub receive_safe : (r k l : ℕ) (s : FrontState) (rd : Option Piece) → k + suc r ≡ length ids → r ≤ l → s.halt ≡ None → s.tx ≡ tx0 → Ringed start s.rx (id_at f.posts) (base + k) (length f.posts) →
       Safe (Inv w start) K P (rxing f (base + k) t rd rcv) (receive w (suc l) s (so_far p k))
   receive_safe zero k l s rd e left halt same ring =
       let all : base + k + 1 ≡ base + length ids = omega (arith, e) in

@@ -1,7 +1,7 @@
 -- A write at a place of the front's own leaves all that the invariant says of memory.
 use Rattle.std.proofs.Common.{◌≡◌, ℕ, ◌+◌, ◌%◌, ◌^◌, ◌<◌, ◌≤◌, List, ◌++◌, length, length-append, refl, ◌∙◌, ap, arith}
 use Rattle.xen_buffers.specs.Grants.{grant_place}
-use Rattle.xen_buffers.specs.declared.wiring.Wiring.{Wiring}
+use Rattle.xen_buffers.specs.declared.wiring.FrontWiring.{FrontWiring}
 use Rattle.xen_page.specs.Mapping.{frame_place}
 use Rattle.xen_page.specs.declared.place.Place.{Place}
 use Rattle.xen_steps.specs.Places.{add32, page_word}
@@ -16,7 +16,7 @@ use Rattle.honest_pair.specs.Invariant.Numbers.{Numbers}
 use Rattle.honest_pair.proofs.Invariant.FrontOwns.{Own, Kept, tx_head, tx_slot, tx_grant, tx_held, rx_head, rx_slot, rx_grant, rx_held}
 use Rattle.honest_pair.proofs.Invariant.FrontAparts.{apart}
 
-module _ (w : Wiring) (start : ℕ) where
+module _ (w : FrontWiring) (start : ℕ) where
   -- the same words, but for the front's own
   abbrev pub Same : ℕ → Front → (Place → ℕ) → (Place → ℕ) → Type 0
   Same h f x y = (p : Place) → Kept w start h f p → y p ≡ x p

@@ -2,7 +2,7 @@
 use Rattle.std.proofs.Common.{◌≡◌, ℕ, zero, suc, ◌+◌, ◌-◌, ◌^◌, ◌<◌, ◌≤◌, refl, sym, ◌∙◌, ap, arith, subst, Option, Some, None}
 use Rattle.std.specs.Prelude.{nat_le, if◌then◌else◌}
 use Rattle.std.proofs.lemmas.Bool.{le-leb}
-use Rattle.xen_buffers.specs.declared.wiring.Wiring.{Wiring}
+use Rattle.xen_buffers.specs.declared.wiring.FrontWiring.{FrontWiring}
 use Rattle.xen_front.specs.Slots.{outstanding}
 use Rattle.xen_front.specs.Tree.{look, seen}
 use Rattle.xen_front.specs.declared.state.Ring.{Ring}
@@ -21,7 +21,7 @@ fresh_of s c a n h p q r =
     ∙ ap (λ d. if nat_le (a - c) d then Some (a - c) else None) (distance_of s c n h (omega arith) (omega arith))
     ∙ ap (λ t. if t then Some (a - c) else None) (le-leb (a - c) (n - c) (omega arith))
 
-module _ (w : Wiring) (start : ℕ) (small : start < 2 ^ 32) {T : Type 0} (tell : T → Front) (size : T → ℕ) (G : T → Type 0) (frame c n : ℕ) where
+module _ (w : FrontWiring) (start : ℕ) (small : start < 2 ^ 32) {T : Type 0} (tell : T → Front) (size : T → ℕ) (G : T → Type 0) (frame c n : ℕ) where
   -- what a read of the producer teaches
   pub record Told (m : Memory) (b : Back) : Type 0 where
     pub what : T

@@ -1,12 +1,12 @@
 -- Where the front writes, and where what the invariant speaks of stands.
 use Rattle.std.proofs.Common.{◌≡◌, ℕ, ◌+◌, ◌*◌, ◌/◌, ◌%◌, ◌<◌, ◌≤◌, length}
-use Rattle.xen_buffers.specs.declared.wiring.Wiring.{Wiring}
+use Rattle.xen_buffers.specs.declared.wiring.FrontWiring.{FrontWiring}
 use Rattle.xen_page.specs.declared.place.Place.{Place}
 use Rattle.xen_steps.specs.Places.{add32}
 use Rattle.honest_pair.specs.Invariant.Ghosts.{Front, tx_sent}
 use Rattle.honest_pair.specs.Invariant.Inv.{IsFree, IsFreePost}
 
-module _ (w : Wiring) (start : ℕ) where
+module _ (w : FrontWiring) (start : ℕ) where
   -- A place that a front in this state may write: `h` is 1 where the producers are among them.
   pub data Own (h : ℕ) (f : Front) (at : Place) : Type 0 where
     in_tx : (n j : ℕ) → tx_sent f ≤ n → n < f.taken + 256 → j < 3 → at.frame ≡ 17 → at.word ≡ 16 + 3 * (add32 start n % 256) + j → Own h f at

@@ -2,7 +2,7 @@
 use Rattle.honest_pair.proofs.Invariant.Puts.{add_add}
 use Rattle.std.proofs.Common.{◌≡◌, ℕ, zero, suc, ◌+◌, ◌*◌, ◌%◌, ◌<◌, ◌≤◌, List, [], ◌∷◌, ◌++◌, length, refl, sym, ◌∙◌, ap, arith, subst}
 use Rattle.xen_buffers.specs.Grants.{buffer, grant_place}
-use Rattle.xen_buffers.specs.declared.wiring.Wiring.{Wiring}
+use Rattle.xen_buffers.specs.declared.wiring.FrontWiring.{FrontWiring}
 use Rattle.xen_front.specs.Slots.{page_writes, slot_writes, filling, piece_writes, send_writes, piece_words}
 use Rattle.xen_page.specs.Mapping.{frame_place}
 use Rattle.xen_page.specs.declared.place.Place.{Place}
@@ -48,7 +48,7 @@ pages_spread p frame k (suc left) j = (
   pages_spread p frame k left (j + 1),
 )
 
-module _ (w : Wiring) (laid : Numbers w) (start s : ℕ) where
+module _ (w : FrontWiring) (laid : Numbers w) (start s : ℕ) where
   -- a place of the k-th piece, in the buffer of this id; the first piece is the s-th slot
   pub data In (k id : ℕ) (at : Place) : Type 0 where
     lent : (e : ℕ) → e < 2 → at.frame ≡ 1 → at.word ≡ 4 + 2 * id + e → In k id at
@@ -140,7 +140,7 @@ module _ (w : Wiring) (laid : Numbers w) (start s : ℕ) where
       mine (piece_in p n k id b.0))
 
 -- and all are the front's own
-module _ (w : Wiring) (start : ℕ) (f : Front) where
+module _ (w : FrontWiring) (start : ℕ) (f : Front) where
   slot_own : (k j : ℕ) → tx_sent f + k < f.taken + 256 → j < 3 → IsFronts w start f (tx_entry w.tx_frame (add32 (add32 start (tx_sent f)) k) j)
   slot_own k j room small = subst (λ x. IsFronts w start f (tx_entry w.tx_frame x j)) (sym (add_add start (tx_sent f) k)) (tx_slot (tx_sent f + k) j (omega arith) room small)
 

@@ -3,12 +3,12 @@ use Rattle.honest_pair.proofs.Invariant.Puts.{add_add}
 use Rattle.std.proofs.Common.{◌≡◌, ℕ, zero, suc, ◌+◌, ◌-◌, ◌%◌, ◌^◌, ◌<◌, ◌≤◌, Bool, true, false, [], ◌∷◌, length-set, get_or, refl, sym, ◌∙◌, ap, arith, subst, Option, Some, None}
 use Rattle.std.proofs.lemmas.List.{get_or-set_other}
 use Rattle.xen_buffers.specs.Grants.{buffer, grant_place}
-use Rattle.xen_buffers.specs.declared.wiring.Wiring.{Wiring}
+use Rattle.xen_buffers.specs.declared.wiring.FrontWiring.{FrontWiring}
 use Rattle.xen_front.specs.Given.{Ending}
 use Rattle.xen_front.specs.Slots.{ended, in_flight, taken, took}
 use Rattle.xen_front.specs.Tree.{after_tx_look, judged, look, poll, poll_rx, take_all}
 use Rattle.xen_front.specs.declared.state.Ring.{Ring}
-use Rattle.xen_front.specs.declared.state.State.{State}
+use Rattle.xen_front.specs.declared.state.FrontState.{FrontState}
 use Rattle.xen_netif.specs.Slots.{tx_rsp_of}
 use Rattle.xen_steps.specs.Places.{add32, page_word, tx_entry}
 use Rattle.xen_steps.specs.Steps.{Steps}
@@ -41,7 +41,7 @@ ringed_taken start r ids c sent id h lt e small unique = record {
   size = length-set r.out id false ∙ h.size;
 }
 
-module _ (w : Wiring) (laid : Numbers w) (start : ℕ) (small : start < 2 ^ 32) (f : Front) where
+module _ (w : FrontWiring) (laid : Numbers w) (start : ℕ) (small : start < 2 ^ 32) (f : Front) where
   -- the producer tells how many are answered
   tells : (c d : ℕ) (m : Memory) (b : Back) → Inv w start m (polled f c d) b → Inv w start m (polled f c (tx_answered b)) b
   tells c d m b h =
@@ -91,14 +91,14 @@ module _ (w : Wiring) (laid : Numbers w) (start : ℕ) (small : start < 2 ^ 32) 
   asks_more c d v m b h = write_own w start laid (polled f c d) b m (page_word w.tx_frame 3) v (tx_event refl laid.tx_ring) tt h
 
   module _ (K : Front → Type 0) (P : Front → Ending → Type 0) (k : (c d : ℕ) → K (polled f c d)) where
-    judged_safe : (c d : ℕ) (s : State) (a id : ℕ) (flight : Bool) (rest : Steps Ending) → id ≡ id_of f c → c < d → (tx_rsp_of (a ∷ [])).id ≡ id → flight ≡ true → Safe (Inv w start) K P (polled f (c + 1) d) rest →
+    judged_safe : (c d : ℕ) (s : FrontState) (a id : ℕ) (flight : Bool) (rest : Steps Ending) → id ≡ id_of f c → c < d → (tx_rsp_of (a ∷ [])).id ≡ id → flight ≡ true → Safe (Inv w start) K P (polled f (c + 1) d) rest →
         Safe (Inv w start) K P (polled f c d) (judged w s (tx_rsp_of (a ∷ [])) flight rest)
     judged_safe c d s a id false rest e lt o t r = absurd (cc)
     judged_safe c d s a id true rest e lt o t r = λ m b h.
         (polled f (c + 1) d, ends c d (tx_rsp_of (a ∷ [])).id m b lt (o ∙ e) h, k (c + 1) d, λ n l. r)
 
-    pub take_all_safe : (n c d : ℕ) (s : State) → s.halt ≡ None → Ringed start s.tx (id_of f) c (tx_sent f) → c + n ≡ d →
-        ((s' : State) → s'.halt ≡ None → s'.rx ≡ s.rx → Ringed start s'.tx (id_of f) d (tx_sent f) → Safe (Inv w start) K P (polled f d d) (poll_rx w s')) →
+    pub take_all_safe : (n c d : ℕ) (s : FrontState) → s.halt ≡ None → Ringed start s.tx (id_of f) c (tx_sent f) → c + n ≡ d →
+        ((s' : FrontState) → s'.halt ≡ None → s'.rx ≡ s.rx → Ringed start s'.tx (id_of f) d (tx_sent f) → Safe (Inv w start) K P (polled f d d) (poll_rx w s')) →
         Safe (Inv w start) K P (polled f c d) (take_all w n s)
     take_all_safe zero c d s halt r e go = let q : c ≡ d = omega arith in subst (λ x. Safe (Inv w start) K P (polled f x d) (poll_rx w s)) (sym q) (go s halt refl (subst (λ x. Ringed start s.tx (id_of f) x (tx_sent f)) q r))
     take_all_safe (suc n) c d s halt r e go = λ m b h.
@@ -121,14 +121,14 @@ module _ (w : Wiring) (laid : Numbers w) (start : ℕ) (small : start < 2 ^ 32) 
         let span = tx_span w start (polled f c d) b h.tx in let low = span.low in let high = span.high in let room = h.tx.room in
         record { what = tx_answered b; word = h.tx_head.rsp_prod; low = low; high = omega arith; room = room; inv = tells c d m b h; good = tt }
 
-    after_safe : (c d : ℕ) (s : State) (o : Option ℕ) → s.halt ≡ None → Ringed start s.tx (id_of f) c (tx_sent f) → c ≤ d → o ≡ Some (d - c) →
-        ((d : ℕ) (s' : State) → s'.halt ≡ None → s'.rx ≡ s.rx → Ringed start s'.tx (id_of f) d (tx_sent f) → Safe (Inv w start) K P (polled f d d) (poll_rx w s')) →
+    after_safe : (c d : ℕ) (s : FrontState) (o : Option ℕ) → s.halt ≡ None → Ringed start s.tx (id_of f) c (tx_sent f) → c ≤ d → o ≡ Some (d - c) →
+        ((d : ℕ) (s' : FrontState) → s'.halt ≡ None → s'.rx ≡ s.rx → Ringed start s'.tx (id_of f) d (tx_sent f) → Safe (Inv w start) K P (polled f d d) (poll_rx w s')) →
         Safe (Inv w start) K P (polled f c d) (after_tx_look w s o)
     after_safe c d s o halt r lt e go = subst (λ x. Safe (Inv w start) K P (polled f c d) (after_tx_look w s x)) (sym e) (take_all_safe (d - c) c d s halt r (omega arith) (go d))
 
     -- a poll up to its rx part
-    pub poll_tx_safe : (c d : ℕ) (s : State) → s.halt ≡ None → Ringed start s.tx (id_of f) c (tx_sent f) →
-        ((d : ℕ) (s' : State) → s'.halt ≡ None → s'.rx ≡ s.rx → Ringed start s'.tx (id_of f) d (tx_sent f) → Safe (Inv w start) K P (polled f d d) (poll_rx w s')) →
+    pub poll_tx_safe : (c d : ℕ) (s : FrontState) → s.halt ≡ None → Ringed start s.tx (id_of f) c (tx_sent f) →
+        ((d : ℕ) (s' : FrontState) → s'.halt ≡ None → s'.rx ≡ s.rx → Ringed start s'.tx (id_of f) d (tx_sent f) → Safe (Inv w start) K P (polled f d d) (poll_rx w s')) →
         Safe (Inv w start) K P (polled f c d) (poll w s)
     poll_tx_safe c d s halt r go =
         safe_bind (Inv w start) K (Looked w start small (λ x. polled f c x) (λ x. x) (λ x. Unit {0}) w.tx_frame c (tx_sent f)) P (polled f c d) (look w.tx_frame s.tx) (after_tx_look w s)

@@ -4,11 +4,11 @@ use Rattle.std.specs.Prelude.{nat_lt}
 use Rattle.std.proofs.Math.ListN.{get_or-append}
 use Rattle.std.proofs.Math.Seq.{get_or-append_seam}
 use Rattle.std.proofs.lemmas.Bool.Decides.{nat_tests}
-use Rattle.xen_buffers.specs.declared.wiring.Wiring.{Wiring}
+use Rattle.xen_buffers.specs.declared.wiring.FrontWiring.{FrontWiring}
 use Rattle.xen_front.specs.Given.{Ending, Idle}
 use Rattle.xen_front.specs.Slots.{post_writes}
 use Rattle.xen_front.specs.Tree.{flown_post, notice, post, publish}
-use Rattle.xen_front.specs.declared.state.State.{State}
+use Rattle.xen_front.specs.declared.state.FrontState.{FrontState}
 use Rattle.xen_netif.specs.Slots.{rx_req_words}
 use Rattle.xen_page.specs.declared.place.Place.{Place}
 use Rattle.xen_ring.specs.Index.{is_due}
@@ -46,7 +46,7 @@ abbrev pub posted : Front → ℕ → Bool → Front
 posted f id going = record f { posts = f.posts ++ id ∷ []; notes = []; posting = going }
 
 -- whether a push of posts is going, changes what is told of it alone
-re_opened : (w : Wiring) (start : ℕ) (f : Front) (id : ℕ) (was going : Bool) (m : Memory) (b : Back) → Told w start m.pending (length (f.posts ++ id ∷ [])) going m.awaits →
+re_opened : (w : FrontWiring) (start : ℕ) (f : Front) (id : ℕ) (was going : Bool) (m : Memory) (b : Back) → Told w start m.pending (length (f.posts ++ id ∷ [])) going m.awaits →
     Inv w start m (posted f id was) b → Inv w start m (posted f id going) b
 re_opened w start f id was going m b t h = record {
   tx = record { took = h.tx.took; told = h.tx.told; wrote = h.tx.wrote; used = h.tx.used; known = h.tx.known; room = h.tx.room; unique = h.tx.unique; good = h.tx.good };
@@ -61,7 +61,7 @@ re_opened w start f id was going m b t h = record {
   awaited = t;
 }
 
-module _ (w : Wiring) (laid : Numbers w) (start : ℕ) (f : Front) (id : ℕ) where
+module _ (w : FrontWiring) (laid : Numbers w) (start : ℕ) (f : Front) (id : ℕ) where
   abbrev its : List PageWrite
   its = post_writes w (add32 start (length f.posts)) id
 
@@ -148,7 +148,7 @@ module _ (w : Wiring) (laid : Numbers w) (start : ℕ) (f : Front) (id : ℕ) wh
       re_opened w start f id true due m b
       (told_decided w start m.word m.pending (length f.posts) (length (f.posts ++ id ∷ [])) due m.awaits refl (due_next start (length f.posts) 1 small (omega arith) (omega arith)) (length-append f.posts (id ∷ [])) h.rx_head.event h.awaited) h
 
-module _ (w : Wiring) (laid : Numbers w) (start : ℕ) (K : Front → Type 0) (P : Front → Ending → Type 0) where
+module _ (w : FrontWiring) (laid : Numbers w) (start : ℕ) (K : Front → Type 0) (P : Front → Ending → Type 0) where
   -- a notice to the back
   woken : (f : Front) (id : ℕ) (m : Memory) (b : Back) → Inv w start m (posted f id true) b → Inv w start (after (want.Notify w.port) m) (posted f id false) b
   woken f id m b h =
@@ -168,15 +168,15 @@ module _ (w : Wiring) (laid : Numbers w) (start : ℕ) (K : Front → Type 0) (P
         awaited = told_by w start w.port m.pending (length (f.posts ++ id ∷ [])) true m.awaits h.awaited;
       })
 
-  notice_safe : (f : Front) (id : ℕ) (e : State) (due : Bool) → K (posted f id false) → P (posted f id false) (e, Idle) → Safe (Inv w start) K P (posted f id due) (notice w due e)
+  notice_safe : (f : Front) (id : ℕ) (e : FrontState) (due : Bool) → K (posted f id false) → P (posted f id false) (e, Idle) → Safe (Inv w start) K P (posted f id due) (notice w due e)
   notice_safe f id e false k r = r
   notice_safe f id e true k r = λ m b h. (posted f id false, woken f id m b h, k, λ a l. r)
 
-  pub post_tree_safe : (f : Front) (s : State) (id : ℕ) → s.rx.prod ≡ add32 start (length f.posts) → id < 256 → IsFreePost w start f id → length f.posts < f.got + 256 → f.reading ≡ None → f.posting ≡ false → start < 2 ^ 32 →
+  pub post_tree_safe : (f : Front) (s : FrontState) (id : ℕ) → s.rx.prod ≡ add32 start (length f.posts) → id < 256 → IsFreePost w start f id → length f.posts < f.got + 256 → f.reading ≡ None → f.posting ≡ false → start < 2 ^ 32 →
       ((l : List PageWrite) → K (with_notes f l)) → ((going : Bool) → K (posted f id going)) → P (posted f id false) (flown_post s id, Idle) →
       Safe (Inv w start) K P (with_notes f []) (post w s id)
   post_tree_safe f s id at small free room quiet closed low kn k r =
-      let e : State = flown_post s id in
+      let e : FrontState = flown_post s id in
       let i = add32 start (length f.posts) in
       let new = add32 start (length f.posts + 1) in
       let T : ℕ → Type 0 = λ i. Safe (Inv w start) K P (with_notes f []) (write_all (post_writes w i id) (publish w w.rx_frame i (add32 i 1) e)) in

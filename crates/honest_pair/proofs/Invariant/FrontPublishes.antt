@@ -4,7 +4,7 @@ use Rattle.std.specs.Prelude.{nat_lt}
 use Rattle.std.proofs.Math.ListN.{get_or-append}
 use Rattle.std.proofs.lemmas.Bool.Decides.{nat_tests}
 use Rattle.std.proofs.lemmas.List.{get_or-append-add}
-use Rattle.xen_buffers.specs.declared.wiring.Wiring.{Wiring}
+use Rattle.xen_buffers.specs.declared.wiring.FrontWiring.{FrontWiring}
 use Rattle.xen_front.specs.Slots.{send_writes}
 use Rattle.xen_page.specs.declared.place.Place.{Place}
 use Rattle.xen_steps.specs.Places.{add32, page_word}
@@ -50,13 +50,13 @@ pub sent_one : (f : Front) (s : Sent) (win : Option ℕ) → tx_sent (pushed f s
 sent_one f s win = ap length (slots_one f.sent s) ∙ length-append (slots f.sent) (pieces_in s) ∙ ap (λ n. tx_sent f + n) (pieces_count s.bytes (length s.ids) 0 s.ids)
 
 -- what a send may publish
-pub record Sendable (w : Wiring) (start : ℕ) (f : Front) (s : Sent) : Type 0 where
+pub record Sendable (w : FrontWiring) (start : ℕ) (f : Front) (s : Sent) : Type 0 where
   pub good : IsSent s
   pub free : AllOf (IsFree w start f) s.ids
   pub differ : Differ s.ids
   pub room : tx_sent f + length s.ids ≤ f.taken + 256
 
-module _ (w : Wiring) (start : ℕ) (f : Front) (s : Sent) (ok : Sendable w start f s) where
+module _ (w : FrontWiring) (start : ℕ) (f : Front) (s : Sent) (ok : Sendable w start f s) where
   new_ids : (k : ℕ) → (piece (pieces_in s) k).id ≡ get_or s.ids k 0
   new_ids k = id_of_piece s.bytes (length s.ids) 0 s.ids k
 

@@ -2,7 +2,7 @@
 use Rattle.std.proofs.Common.{◌≡◌, ℕ, ◌+◌, ◌-◌, ◌*◌, ◌^◌, ◌<◌, ◌≤◌, inl, inr, true, false, List, [], length, sym, ◌∙◌, ap, arith, Option, Some, None}
 use Rattle.std.specs.Prelude.{nat_lt}
 use Rattle.std.proofs.lemmas.Bool.{lt-ltb}
-use Rattle.xen_buffers.specs.declared.wiring.Wiring.{Wiring}
+use Rattle.xen_buffers.specs.declared.wiring.FrontWiring.{FrontWiring}
 use Rattle.xen_front.specs.Slots.{send_writes}
 use Rattle.xen_page.specs.declared.place.Place.{Place}
 use Rattle.xen_ring.specs.Index.{distance, is_due}
@@ -34,7 +34,7 @@ due_next s o n h p q =
     ∙ ap (nat_lt (o + n - (o + 1))) (distance_of s o (o + n) h (omega arith) (omega arith))
     ∙ lt-ltb (o + n - (o + 1)) (o + n - o) (omega arith)
 
-module _ (w : Wiring) (laid : Numbers w) (start : ℕ) (small : start < 2 ^ 32) (f : Front) where
+module _ (w : FrontWiring) (laid : Numbers w) (start : ℕ) (small : start < 2 ^ 32) (f : Front) where
   rx_pushed : (s : Sent) (win : Option ℕ) (g v : List Sent) (u : ℕ) (rs : List ℕ) → RxCounts w start f g v u rs → RxCounts w start (pushed f s win) g v u rs
   rx_pushed s win g v u rs h = record { took = h.took; told = h.told; used = h.used; known = h.known; room = h.room; unique = h.unique; ids = h.ids; giving = h.giving; named = h.named; good = h.good }
 

@@ -2,7 +2,7 @@
 use Rattle.std.proofs.Common.{◌≡◌, ℕ, zero, suc, ◌+◌, ◌*◌, ◌<◌, ◌≤◌, inl, false, List, [], ◌++◌, length, refl, sym, ◌∙◌, ap, arith, subst, Option, Some, None, append_assoc}
 use Rattle.std.proofs.Math.ListN.{get_or-append}
 use Rattle.xen_buffers.specs.Grants.{buffer, grant_place}
-use Rattle.xen_buffers.specs.declared.wiring.Wiring.{Wiring}
+use Rattle.xen_buffers.specs.declared.wiring.FrontWiring.{FrontWiring}
 use Rattle.xen_front.specs.Slots.{ended}
 use Rattle.xen_netif.specs.Copy.{bytes_in}
 use Rattle.xen_netif.specs.declared.fragment.Fragment.{Fragment}
@@ -27,7 +27,7 @@ rxing f c t rd rcv = record f { unsent = []; notes = []; window = None; posting 
 some_piece : {a b : Piece} → Some a ≡ Some b → a ≡ b
 some_piece {a = a} {b = b} e = cc
 
-module _ (w : Wiring) (laid : Numbers w) (start : ℕ) (f : Front) where
+module _ (w : FrontWiring) (laid : Numbers w) (start : ℕ) (f : Front) where
   -- the counts of the tx ring are as they were
   tx_as : (c c' : ℕ) (t t' : List Sent) (rd rd' : Option Piece) (rcv rcv' : List (List ℕ)) (b : Back) → TxCounts w start (rxing f c t rd rcv) b → TxCounts w start (rxing f c' t' rd' rcv') b
   tx_as c c' t t' rd rd' rcv rcv' b h = record { took = h.took; told = h.told; wrote = h.wrote; used = h.used; known = h.known; room = h.room; unique = h.unique; good = h.good }
@@ -137,7 +137,7 @@ abbrev pub gathered : Fragment → List ℕ → (k j n : ℕ) → List ℕ → L
 gathered fr p k j zero acc = acc
 gathered fr p k j (suc n) acc = gathered fr p k (j + 1) n (acc ++ bytes_in fr j (word_of p (1024 * k + j)))
 
-module _ (w : Wiring) (laid : Numbers w) (start : ℕ) (K : Front → Type 0) (f : Front) (c : ℕ) (t : List Sent) (pc : Piece) (rcv : List (List ℕ)) (after_all : Front) (fr : Fragment) (frame : ℕ) where
+module _ (w : FrontWiring) (laid : Numbers w) (start : ℕ) (K : Front → Type 0) (f : Front) (c : ℕ) (t : List Sent) (pc : Piece) (rcv : List (List ℕ)) (after_all : Front) (fr : Fragment) (frame : ℕ) where
   -- the words of a page that is read; with the last of them the front is another
   pub copy_safe : K (rxing f c t (Some pc) rcv) → K after_all → frame ≡ (rx_buffer w start pc.id).frame → ((m : Memory) (b : Back) → Inv w start m (rxing f c t (Some pc) rcv) b → Inv w start m after_all b) →
       (n j : ℕ) (acc : List ℕ) → j + suc n ≤ 1024 → 1024 * pc.k + (j + suc n) ≤ words pc.bytes →

@@ -2,18 +2,18 @@
 use Rattle.std.proofs.Common.{◌≡◌, ℕ, zero, suc, ◌+◌, ◌<◌, ◌≤◌, ◌⊎◌, Bool, true, false, List, [], ◌∷◌, length, get_or, refl, sym, ◌∙◌, ap, arith, subst, Option, Some, None}
 use Rattle.std.specs.Prelude.{nat_lt, Ok}
 use Rattle.std.proofs.lemmas.Bool.Decides.{nat_tests}
-use Rattle.xen_buffers.specs.declared.wiring.Wiring.{Wiring}
+use Rattle.xen_buffers.specs.declared.wiring.FrontWiring.{FrontWiring}
 use Rattle.xen_front.specs.Fronts.{all_free, send_tests}
 use Rattle.xen_front.specs.Slots.{pieces_of}
 use Rattle.xen_front.specs.declared.state.Ring.{Ring}
-use Rattle.xen_front.specs.declared.state.State.{State}
-use Rattle.xen_front.specs.declared.turn.Halt.{Halt}
+use Rattle.xen_front.specs.declared.state.FrontState.{FrontState}
+use Rattle.xen_front.specs.declared.turn.FrontHalt.{FrontHalt}
 use Rattle.honest_pair.specs.Invariant.Ghosts.{Front, Back, tx_sent, slots}
 use Rattle.honest_pair.specs.Invariant.Inv.{Inv, Told}
 use Rattle.honest_pair.specs.Machine.Memory.{Memory}
 use Rattle.honest_pair.specs.Invariant.Rest.{Ringed, began, CanSend}
 
-pub begins : (w : Wiring) (start : ℕ) (f : Front) (u : List (List ℕ)) (m : Memory) (b : Back) → f.window ≡ None → f.posting ≡ false → Inv w start m f b → Inv w start m (began f u) b
+pub begins : (w : FrontWiring) (start : ℕ) (f : Front) (u : List (List ℕ)) (m : Memory) (b : Back) → f.window ≡ None → f.posting ≡ false → Inv w start m f b → Inv w start m (began f u) b
 begins w start f u m b quiet closed h = record {
   tx = record { took = h.tx.took; told = h.tx.told; wrote = h.tx.wrote; used = h.tx.used; known = h.tx.known; room = h.tx.room; unique = h.tx.unique; good = h.tx.good };
   tx_head = h.tx_head;
@@ -38,10 +38,10 @@ no_flag start r ids c n id h clear i p q e =
     let set : get_or r.out id false ≡ true = ap (λ x. get_or r.out x false) (sym e) ∙ h.busy i p q in
     let bad : true ≡ false = sym set ∙ clear in cc
 
-pub sends_ok : (s : State) (p : List ℕ) → send_tests s.halt false (nat_lt (length p) 14) (nat_lt 65535 (length p)) (nat_lt (length (all_free s.tx.out)) (pieces_of (length p))) ≡ Ok tt → CanSend s p
+pub sends_ok : (s : FrontState) (p : List ℕ) → send_tests s.halt false (nat_lt (length p) 14) (nat_lt 65535 (length p)) (nat_lt (length (all_free s.tx.out)) (pieces_of (length p))) ≡ Ok tt → CanSend s p
 sends_ok s p e = by s.halt (nat_lt (length p) 14) (nat_lt 65535 (length p)) (nat_lt (length (all_free s.tx.out)) (pieces_of (length p))) refl refl refl e
   where
-    by : (h : Option Halt) (x y z : Bool) → nat_lt (length p) 14 ≡ x → nat_lt 65535 (length p) ≡ y → nat_lt (length (all_free s.tx.out)) (pieces_of (length p)) ≡ z → send_tests h false x y z ≡ Ok tt → CanSend s p
+    by : (h : Option FrontHalt) (x y z : Bool) → nat_lt (length p) 14 ≡ x → nat_lt 65535 (length p) ≡ y → nat_lt (length (all_free s.tx.out)) (pieces_of (length p)) ≡ z → send_tests h false x y z ≡ Ok tt → CanSend s p
     by (Some c) x y z a b d e = absurd (cc)
     by None true y z a b d e = absurd (cc)
     by None false true z a b d e = absurd (cc)

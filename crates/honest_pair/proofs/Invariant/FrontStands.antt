@@ -3,7 +3,7 @@ use Rattle.honest_pair.proofs.Invariant.Lists.{all_right}
 use Rattle.honest_pair.proofs.Invariant.Puts.{add_add}
 use Rattle.std.proofs.Common.{◌≡◌, ℕ, zero, suc, ◌+◌, ◌*◌, ◌<◌, List, [], ◌∷◌, length, get_or, refl, sym, ◌∙◌, ap, arith, subst}
 use Rattle.xen_buffers.specs.Grants.{buffer}
-use Rattle.xen_buffers.specs.declared.wiring.Wiring.{Wiring}
+use Rattle.xen_buffers.specs.declared.wiring.FrontWiring.{FrontWiring}
 use Rattle.xen_front.specs.Slots.{page_writes, slot_writes, piece_writes, send_writes, piece_words, word_at}
 use Rattle.xen_page.specs.declared.place.Place.{Place}
 use Rattle.xen_steps.specs.Pages.{PageWrite}
@@ -29,7 +29,7 @@ id_of_piece p n d [] k = refl
 id_of_piece p n d (i ∷ ids) zero = refl
 id_of_piece p n d (i ∷ ids) (suc k) = id_of_piece p n (d + 1) ids k
 
-module _ (w : Wiring) (start : ℕ) (x : Place → ℕ) where
+module _ (w : FrontWiring) (start : ℕ) (x : Place → ℕ) where
   abbrev pub Stood : PageWrite → Type 0
   Stood n = x n.at ≡ n.value
 

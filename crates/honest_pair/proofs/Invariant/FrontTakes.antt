@@ -1,10 +1,10 @@
 -- A whole poll is safe.
 use Rattle.std.proofs.Common.{◌≡◌, ℕ, zero, suc, ◌+◌, ◌-◌, ◌^◌, ◌<◌, List, [], ◌∷◌, ◌++◌, length, length-append, get_or, sym, ◌∙◌, ap, arith, subst, Option, Some, None, append_assoc}
-use Rattle.xen_buffers.specs.declared.wiring.Wiring.{Wiring}
+use Rattle.xen_buffers.specs.declared.wiring.FrontWiring.{FrontWiring}
 use Rattle.xen_front.specs.Given.{Ending, Idle, Packet}
 use Rattle.xen_front.specs.Tree.{after_rx_look, look, nothing_gathered, poll_rx, receive}
 use Rattle.xen_front.specs.declared.state.Ring.{Ring}
-use Rattle.xen_front.specs.declared.state.State.{State}
+use Rattle.xen_front.specs.declared.state.FrontState.{FrontState}
 use Rattle.xen_netif.specs.declared.offload.RxOffload.TheVariants.{Whole}
 use Rattle.xen_steps.specs.Places.{add32}
 use Rattle.honest_pair.specs.Invariant.Ghosts.{Sent, Piece, Front, Back, slots, piece, pieces_in, id_at, IsSent, AllOf}
@@ -29,11 +29,11 @@ piece_of_next a q x k h =
     ap (λ l. piece l (length (slots a) + k)) (slots_append a (q ∷ x)) ∙ newer (slots a) (pieces_in q ++ slots x) k
     ∙ older (pieces_in q) (slots x) k (omega (arith, len, h)) ∙ piece_at q.bytes (length q.ids) 0 q.ids k h ∙ ap (λ i. its q.bytes (length q.ids) i (get_or q.ids k 0)) (omega arith)
 
-module _ (w : Wiring) (laid : Numbers w) (start : ℕ) (small : start < 2 ^ 32) (K : Front → Type 0) (P : Front → Ending → Type 0) (f : Front) (before : List Sent) (rcv : List (List ℕ)) (tx0 : Ring)
+module _ (w : FrontWiring) (laid : Numbers w) (start : ℕ) (small : start < 2 ^ 32) (K : Front → Type 0) (P : Front → Ending → Type 0) (f : Front) (before : List Sent) (rcv : List (List ℕ)) (tx0 : Ring)
     (during : (c : ℕ) (x : List Sent) (rd : Option Piece) → K (rxing f c (before ++ x) rd rcv))
     (finally : (q : Sent) (x : List Sent) → K (rxing f (length (slots before) + length q.ids) (before ++ q ∷ x) None (rcv ++ q.bytes ∷ [])))
-    (idle : (x : List Sent) (s : State) → s.halt ≡ None → s.tx ≡ tx0 → Ringed start s.rx (id_at f.posts) (length (slots before)) (length f.posts) → P (rxing f (length (slots before)) (before ++ x) None rcv) (s, Idle))
-    (packet : (q : Sent) (x : List Sent) (s : State) → s.halt ≡ None → s.tx ≡ tx0 → Ringed start s.rx (id_at f.posts) (length (slots before) + length q.ids) (length f.posts) →
+    (idle : (x : List Sent) (s : FrontState) → s.halt ≡ None → s.tx ≡ tx0 → Ringed start s.rx (id_at f.posts) (length (slots before)) (length f.posts) → P (rxing f (length (slots before)) (before ++ x) None rcv) (s, Idle))
+    (packet : (q : Sent) (x : List Sent) (s : FrontState) → s.halt ≡ None → s.tx ≡ tx0 → Ringed start s.rx (id_at f.posts) (length (slots before) + length q.ids) (length f.posts) →
     P (rxing f (length (slots before) + length q.ids) (before ++ q ∷ x) None (rcv ++ q.bytes ∷ [])) (s, Packet Whole q.bytes)) where
   base : ℕ
   base = length (slots before)
@@ -66,7 +66,7 @@ module _ (w : Wiring) (laid : Numbers w) (start : ℕ) (small : start < 2 ^ 32) 
       }
 
   -- n responses are there
-  after_safe : (x : List Sent) (s : State) (n : ℕ) → AllOf IsSent x → length (slots x) ≡ n → s.halt ≡ None → s.tx ≡ tx0 → Ringed start s.rx (id_at f.posts) (length (slots before)) (length f.posts) →
+  after_safe : (x : List Sent) (s : FrontState) (n : ℕ) → AllOf IsSent x → length (slots x) ≡ n → s.halt ≡ None → s.tx ≡ tx0 → Ringed start s.rx (id_at f.posts) (length (slots before)) (length f.posts) →
       Safe (Inv w start) K P (rxing f (length (slots before)) (before ++ x) None rcv) (after_rx_look w s (Some n))
   after_safe x s zero good e halt same r = idle x s halt same r
   after_safe [] s (suc n) good e halt same r = absurd (omega (arith, e))
@@ -85,7 +85,7 @@ module _ (w : Wiring) (laid : Numbers w) (start : ℕ) (small : start < 2 ^ 32) 
       (subst (λ c. Ringed start s.rx (id_at f.posts) c (length f.posts)) (sym zero_at) r) in
       subst (λ c. Safe (Inv w start) K P (rxing f c (before ++ q ∷ x) None rcv) (receive w (suc n) s nothing_gathered)) zero_at go
 
-  pub poll_rx_safe : (x : List Sent) (s : State) → s.halt ≡ None → s.tx ≡ tx0 → Ringed start s.rx (id_at f.posts) (length (slots before)) (length f.posts) →
+  pub poll_rx_safe : (x : List Sent) (s : FrontState) → s.halt ≡ None → s.tx ≡ tx0 → Ringed start s.rx (id_at f.posts) (length (slots before)) (length f.posts) →
       Safe (Inv w start) K P (rxing f (length (slots before)) (before ++ x) None rcv) (poll_rx w s)
   poll_rx_safe x s halt same r =
       safe_bind (Inv w start) K (Looked w start small (λ x. rxing f (length (slots before)) (before ++ x) None rcv) (λ x. length (slots (before ++ x))) (AllOf IsSent) w.rx_frame (length (slots before)) (length f.posts)) P

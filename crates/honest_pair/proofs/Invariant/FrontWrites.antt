@@ -1,6 +1,6 @@
 -- Many writes of the front's own places, as one step.
 use Rattle.std.proofs.Common.{◌≡◌, ℕ, ◌+◌, ◌*◌, List, [], ◌∷◌, length, refl, ◌∙◌, arith}
-use Rattle.xen_buffers.specs.declared.wiring.Wiring.{Wiring}
+use Rattle.xen_buffers.specs.declared.wiring.FrontWiring.{FrontWiring}
 use Rattle.xen_page.specs.declared.place.Place.{Place}
 use Rattle.xen_steps.specs.Pages.{PageWrite, write_all}
 use Rattle.xen_steps.specs.Steps.{Steps}
@@ -53,7 +53,7 @@ pub cross_none : (ns : List PageWrite) → Cross [] ns
 cross_none [] = tt
 cross_none (n ∷ ns) = (tt, cross_none ns)
 
-module _ (w : Wiring) (start : ℕ) where
+module _ (w : FrontWiring) (start : ℕ) where
   -- the front's own places depend on what is published and taken alone
   pub fronts_like : (f : Front) (ns : List PageWrite) (at : Place) → IsFronts w start f at → IsFronts w start (with_notes f ns) at
   fronts_like f ns _ (tx_slot n j a b c) = tx_slot n j a b c

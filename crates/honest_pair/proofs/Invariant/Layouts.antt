@@ -4,8 +4,8 @@ use Rattle.std.specs.Prelude.{slice_get, replicate, if◌then◌else◌}
 use Rattle.bpf_verify.specs.Consistent.{Accepted}
 use Rattle.xen_turns.specs.declared.wiring.Wiring.{Wiring as BackWiring}
 use Rattle.xen_buffers.specs.Grants.{buffer, grant_place, place_or}
-use Rattle.xen_buffers.specs.declared.wiring.Buffer.{Buffer}
-use Rattle.xen_buffers.specs.declared.wiring.Wiring.{Wiring}
+use Rattle.xen_buffers.specs.declared.wiring.GrantedPage.{GrantedPage}
+use Rattle.xen_buffers.specs.declared.wiring.FrontWiring.{FrontWiring}
 use Rattle.xen_netif.specs.Words.{joined}
 use Rattle.xen_page.specs.Entry.{entry_of}
 use Rattle.xen_page.specs.Grant.{checked, is_domain}
@@ -39,14 +39,14 @@ owned : (n frame : ℕ) → 0 < frame → frame ≤ n → slice_get {X = ℕ} (0
 owned n zero a b = absurd (omega (arith, a))
 owned n (suc k) a b = owner_there n k (omega (arith, b))
 
-module _ (w : Wiring) (h : IsFront w) where
+module _ (w : FrontWiring) (h : IsFront w) where
   pub tx_is : (i : ℕ) → i < 256 → buffer w.tx.now i ≡ record { gref = 2 + i; frame = 19 + i }
   tx_is i p = h.tx i p
 
   pub rx_is : (i : ℕ) → i < 256 → buffer w.rx.now i ≡ record { gref = 258 + i; frame = 275 + i }
   rx_is i p = h.rx i p
 
-  pub place_of : (b : Buffer) → b.gref < 1024 → grant_place w b ≡ at_gref b.gref
+  pub place_of : (b : GrantedPage) → b.gref < 1024 → grant_place w b ≡ at_gref b.gref
   place_of b p = ap (λ t. place_or (entry_place t b.gref)) h.table ∙ ap place_or (entry_there b.gref p)
 
   tx_low : (i : ℕ) → i < 256 → (grant_place w (buffer w.tx.now i)).frame < 17
@@ -114,5 +114,5 @@ module _ (w : Wiring) (h : IsFront w) where
       rx_grant = λ i p. (let f = rx_frame_is i p in grants 1 (buffer w.rx.now i).frame ReadWrite (omega (arith, f)) (omega (arith, f, p)) (inr (refl, refl)));
     }
       where
-        there : (c : Buffer) → c.gref < 1024 → entry_place v.vif.table.now c.gref ≡ Some (grant_place w c)
+        there : (c : GrantedPage) → c.gref < 1024 → entry_place v.vif.table.now c.gref ≡ Some (grant_place w c)
         there c p = ap (λ t. entry_place t c.gref) b.table ∙ entry_there c.gref p ∙ ap Some (sym (place_of c p))

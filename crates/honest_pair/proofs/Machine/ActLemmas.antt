@@ -11,10 +11,10 @@ use Rattle.xen_turns.specs.Tree.{Left, after_run}
 use Rattle.xen_turns.specs.Turned.{Ending as BackEnding}
 use Rattle.xen_turns.specs.Waits.{Wait, whole_wait}
 use Rattle.xen_turns.specs.declared.wiring.Wiring.{Wiring as BackWiring}
-use Rattle.xen_buffers.specs.declared.wiring.Wiring.{Wiring}
+use Rattle.xen_buffers.specs.declared.wiring.FrontWiring.{FrontWiring}
 use Rattle.xen_front.specs.Given.{Ending, Given}
 use Rattle.xen_front.specs.Tree.{poll}
-use Rattle.xen_front.specs.declared.state.State.{State}
+use Rattle.xen_front.specs.declared.state.FrontState.{FrontState}
 use Rattle.xen_front.specs.declared.turn.PollRefusal.{PollRefusal}
 use Rattle.xen_front.specs.declared.turn.PostRefusal.{PostRefusal}
 use Rattle.xen_front.specs.declared.turn.SendRefusal.{SendRefusal}
@@ -28,12 +28,12 @@ use Rattle.honest_pair.specs.Machine.Log.{Logged, OfFront, OfBack, Woke, front_a
 use Rattle.honest_pair.specs.Machine.Memory.{Memory, after, answer}
 use Rattle.honest_pair.specs.Machine.Pair.{Activity, Free, Sending, Posting, Polling, BackAt, Asleep, First, Second, Delivering, Waiting, Pair, PairEvent, Send, Post, Poll, FrontStep, BackStep, Deliver, Await, asking, begin_poll, begin_post, begin_send, delivering, ended, first, halved, on_await, on_back, on_deliver, on_front, on_poll, on_post, on_send, packets_of, poll_result, polling, post_result, post_tree, posting, run, second, send_result, send_tree, sending, step, waiting, wake}
 
-acts_more : (w : Wiring) (s : State) (events : List Event) (xs : List Act) (end : State) (front e : List Event) → HaveActs w s events xs end front → HaveActs w s (events ++ e) xs end (front ++ e)
+acts_more : (w : FrontWiring) (s : FrontState) (events : List Event) (xs : List Act) (end : FrontState) (front e : List Event) → HaveActs w s events xs end front → HaveActs w s (events ++ e) xs end (front ++ e)
 acts_more w _ _ _ _ _ e (begun s front) = begun s (front ++ e)
 acts_more w _ _ _ _ _ e (over s mid end t more front a xs i h) =
     subst (λ l. HaveActs w s l (a ∷ xs) end (front ++ e)) (sym (append_assoc t more e)) (over s mid end t (more ++ e) (front ++ e) a xs i (acts_more w mid more xs end front e h))
 
-acts_over : (w : Wiring) (s : State) (events : List Event) (xs : List Act) (end : State) (front : List Event) (new : State) (a : Act) → IsAct w end front new a → HaveActs w s events xs end front →
+acts_over : (w : FrontWiring) (s : FrontState) (events : List Event) (xs : List Act) (end : FrontState) (front : List Event) (new : FrontState) (a : Act) → IsAct w end front new a → HaveActs w s events xs end front →
     HaveActs w s events (xs ++ a ∷ []) new []
 acts_over w _ _ _ _ _ new a i (begun s front) = subst (λ l. HaveActs w s l (a ∷ []) new []) (append-nil front) (over s new new front [] [] a [] i (begun new []))
 acts_over w _ _ _ _ _ new a i (over s mid end t more front b bs j h) = over s mid new t more [] b (bs ++ a ∷ []) j (acts_over w mid more bs end front new a i h)
@@ -50,7 +50,7 @@ given_more (OfSend packet gives ∷ xs) a = ap (λ l. packets_of gives ++ l) (gi
 given_more (OfPost gives ∷ xs) a = ap (λ l. packets_of gives ++ l) (given_more xs a) ∙ sym (append_assoc (packets_of gives) (given_in xs) (given_in (a ∷ [])))
 given_more (OfPoll gives ∷ xs) a = ap (λ l. packets_of gives ++ l) (given_more xs a) ∙ sym (append_assoc (packets_of gives) (given_in xs) (given_in (a ∷ [])))
 
-module _ (w : Wiring) (start : State) (events : List Event) where
+module _ (w : FrontWiring) (start : FrontState) (events : List Event) where
   -- the activity is over
   ended_at : (p : Pair) (e : Ending) (a : Act) (xs : List Act) (f : List Event) → HaveActs w start events xs p.front f → IsAct w p.front f e.0 a → p.sent ≡ taken_in xs ++ taken_in (a ∷ []) →
       p.received ≡ given_in xs → packets_of e.1 ≡ given_in (a ∷ []) → HasActed w start events (ended p e)
@@ -88,15 +88,15 @@ module _ (w : Wiring) (start : State) (events : List Event) where
   polling_at p xs f (ask v k) h s r b g = record { front = f; acts = xs; taken = []; acted = h; acting = (refl, b, g); sent = s; received = r }
   polling_at p xs f never h s r b g = record { front = f; acts = xs; taken = []; acted = h; acting = (refl, b, g); sent = s; received = r }
 
-pub acts_none : (w : Wiring) (p : Pair) → ActsOn w p p []
+pub acts_none : (w : FrontWiring) (p : Pair) → ActsOn w p p []
 acts_none w p start past t = subst (λ l. HasActed w start l p) (sym (append-nil past)) t
 
 -- one run of events after another
-pub acts_then : (w : Wiring) (p q r : Pair) (l m : List Event) → ActsOn w p q l → ActsOn w q r m → ActsOn w p r (l ++ m)
+pub acts_then : (w : FrontWiring) (p q r : Pair) (l m : List Event) → ActsOn w p q l → ActsOn w q r m → ActsOn w p r (l ++ m)
 acts_then w p q r l m f g = λ start past t. subst (λ x. HasActed w start x r) (append_assoc past l m) (g start (past ++ l) (f start past t))
 
 -- A step of the front.
-front_acts : (w : Wiring) (p : Pair) (a : Activity) (n : ℕ) → p.activity ≡ a → FrontIsAnswered a p.memory n → ActsOn w p (on_front a p n) (front_asks a p.memory n)
+front_acts : (w : FrontWiring) (p : Pair) (a : Activity) (n : ℕ) → p.activity ≡ a → FrontIsAnswered a p.memory n → ActsOn w p (on_front a p n) (front_asks a p.memory n)
 front_acts w p Free n i h = acts_none w p
 front_acts w p (Sending (done x)) n i h = acts_none w p
 front_acts w p (Sending never) n i h = acts_none w p
@@ -130,7 +130,7 @@ front_acts w p (Polling (ask v k)) n i h = λ start past t.
     (polling_at w start (past ++ e ∷ []) p1 t.acts (t.front ++ e ∷ []) (k a) (acts_more w start past t.acts p.front t.front (e ∷ []) t.acted) (t.sent ∙ ap (λ l. taken_in t.acts ++ l) z.0) t.received z.1 more)
 
 -- The calls of a front that is free.
-module _ (w : Wiring) (p : Pair) (i : p.activity ≡ Free) (start : State) (past : List Event) (t : HasActed w start past p) where
+module _ (w : FrontWiring) (p : Pair) (i : p.activity ≡ Free) (start : FrontState) (past : List Event) (t : HasActed w start past p) where
   at_rest : IsActing w p.front Free t.front t.taken
   at_rest = subst (λ x. IsActing w p.front x t.front t.taken) i t.acting
 
@@ -150,7 +150,7 @@ module _ (w : Wiring) (p : Pair) (i : p.activity ≡ Free) (start : State) (past
   begins_poll : poll_result p.front ≡ Ok tt → HasActed w start (past ++ []) (polling p (poll w p.front))
   begins_poll b = polling_at w start (past ++ []) p t.acts [] (poll w p.front) since (all_sent ∙ sym (append-nil (taken_in t.acts))) t.received b refl
 
-send_acts : (w : Wiring) (p : Pair) (bytes : List ℕ) (a : Activity) → p.activity ≡ a → ActsOn w p (on_send w a p bytes) []
+send_acts : (w : FrontWiring) (p : Pair) (bytes : List ℕ) (a : Activity) → p.activity ≡ a → ActsOn w p (on_send w a p bytes) []
 send_acts w p bytes (Sending t) i = acts_none w p
 send_acts w p bytes (Posting t) i = acts_none w p
 send_acts w p bytes (Polling t) i = acts_none w p
@@ -160,7 +160,7 @@ send_acts w p bytes Free i = by (send_result p.front bytes) refl
     by (Ok u) e = λ start past t. begins_send w p i start past t bytes e
     by (Err refusal) e = acts_none w p
 
-post_acts : (w : Wiring) (p : Pair) (a : Activity) → p.activity ≡ a → ActsOn w p (on_post w a p) []
+post_acts : (w : FrontWiring) (p : Pair) (a : Activity) → p.activity ≡ a → ActsOn w p (on_post w a p) []
 post_acts w p (Sending t) i = acts_none w p
 post_acts w p (Posting t) i = acts_none w p
 post_acts w p (Polling t) i = acts_none w p
@@ -170,7 +170,7 @@ post_acts w p Free i = by (post_result p.front) refl
     by (Ok u) e = λ start past t. begins_post w p i start past t e
     by (Err refusal) e = acts_none w p
 
-poll_acts : (w : Wiring) (p : Pair) (a : Activity) → p.activity ≡ a → ActsOn w p (on_poll w a p) []
+poll_acts : (w : FrontWiring) (p : Pair) (a : Activity) → p.activity ≡ a → ActsOn w p (on_poll w a p) []
 poll_acts w p (Sending t) i = acts_none w p
 poll_acts w p (Posting t) i = acts_none w p
 poll_acts w p (Polling t) i = acts_none w p
@@ -190,7 +190,7 @@ record Keeps (p p' : Pair) : Type 0 where
 as_it_was : (p : Pair) → Keeps p p
 as_it_was p = record { front = refl; activity = refl; sent = refl; received = refl }
 
-kept : (w : Wiring) (p p' : Pair) → Keeps p p' → ActsOn w p p' []
+kept : (w : FrontWiring) (p p' : Pair) → Keeps p p' → ActsOn w p p' []
 kept w p p' k start past t = acts_none w p' start past (record {
   front = t.front;
   acts = t.acts;
@@ -302,7 +302,7 @@ step_acts bw fw p (Deliver packet) n h = kept fw p (on_deliver bw p.at p packet)
 step_acts bw fw p (Await pages) n h = kept fw p (on_await bw p.at p pages) (await_keeps bw p.at p pages)
 
 -- the front's events of one event more
-pub front_log-more : (bw : BackWiring) (fw : Wiring) (p : Pair) (es : List (PairEvent × ℕ)) (x : PairEvent × ℕ) →
+pub front_log-more : (bw : BackWiring) (fw : FrontWiring) (p : Pair) (es : List (PairEvent × ℕ)) (x : PairEvent × ℕ) →
     front_of (log bw fw p (es ++ x ∷ [])) ≡ front_of (log bw fw p es) ++ front_of (logged (run bw fw p es) x.0 x.1)
 front_log-more bw fw p [] x = ap front_of (append-nil (logged p x.0 x.1))
 front_log-more bw fw p (e ∷ es) x =
@@ -313,7 +313,7 @@ front_log-more bw fw p (e ∷ es) x =
     ∙ ap (λ l. l ++ front_of (logged (run bw fw q es) x.0 x.1)) (sym (front_of-append a (log bw fw q es)))
 
 -- before the first event
-pub opened_acts : (w : Wiring) (p : Pair) → p.activity ≡ Free → p.sent ≡ [] → p.received ≡ [] → HasActed w p.front [] p
+pub opened_acts : (w : FrontWiring) (p : Pair) → p.activity ≡ Free → p.sent ≡ [] → p.received ≡ [] → HasActed w p.front [] p
 opened_acts w p i s r = record {
   front = [];
   acts = [];

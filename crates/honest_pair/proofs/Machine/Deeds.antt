@@ -5,7 +5,7 @@ use Rattle.std.proofs.lemmas.List.{append-nil, append_assoc}
 use Rattle.xen_turns.specs.Turned.{Idle, Ran, Refused}
 use Rattle.xen_turns.specs.declared.delivery.wait.Awaited.{Awaited}
 use Rattle.xen_turns.specs.declared.delivery.delivering.Delivery.{Delivery}
-use Rattle.xen_turns.specs.declared.turn.Refusal.TheVariants as refusal
+use Rattle.xen_turns.specs.declared.turn.PacketRefusal.TheVariants as refusal
 use Rattle.honest_pair.specs.Machine.Law.{AllArrived, HasArrived, HasLooked, HaveCopies, none, idle, ran, few, given_by}
 use Rattle.honest_pair.specs.Machine.Pair.{Deed, OfTurn, OfDelivery, OfWait, Past, turns_of}
 

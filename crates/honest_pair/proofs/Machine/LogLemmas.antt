@@ -10,7 +10,7 @@ use Rattle.xen_turns.specs.Tree.{Left, after_run}
 use Rattle.xen_turns.specs.Turned.{Ending}
 use Rattle.xen_turns.specs.Waits.{Wait, whole_wait}
 use Rattle.xen_turns.specs.declared.wiring.Wiring.{Wiring as BackWiring}
-use Rattle.xen_buffers.specs.declared.wiring.Wiring.{Wiring as FrontWiring}
+use Rattle.xen_buffers.specs.declared.wiring.FrontWiring.{FrontWiring}
 use Rattle.xen_front.specs.Given.{Ending as FrontEnding}
 use Rattle.xen_front.specs.declared.turn.PollRefusal.{PollRefusal}
 use Rattle.xen_front.specs.declared.turn.PostRefusal.{PostRefusal}

@@ -26,7 +26,7 @@ use Rattle.xen_turns.proofs.TurnParts.{turn_parts}
 use Rattle.xen_turns.proofs.WaitLemmas.{wait_rows}
 use Rattle.xdp_world.specs.Activities.{Came, Given, Item, SlotsAwaited, all_came}
 use Rattle.xdp_world.proofs.Acts.{came_append}
-use Rattle.xen_buffers.specs.declared.wiring.Wiring.{Wiring as FrontWiring}
+use Rattle.xen_buffers.specs.declared.wiring.FrontWiring.{FrontWiring}
 use Rattle.xen_front.specs.Given.{Ending as FrontEnding}
 use Rattle.xen_front.specs.Tree.{poll}
 use Rattle.xen_front.specs.declared.turn.PollRefusal.{PollRefusal}

@@ -7,12 +7,12 @@ use Rattle.xen_turns.specs.Turned.{Ending, Turned, Idle, Ran, Refused, Halted}
 use Rattle.xen_turns.specs.declared.delivery.delivering.Delivery.{Delivery}
 use Rattle.xen_turns.specs.declared.delivery.delivering.Delivery.TheVariants as delivery
 use Rattle.xen_turns.specs.declared.state.State.{State}
-use Rattle.xen_turns.specs.declared.turn.Refusal.TheVariants as refusal
+use Rattle.xen_turns.specs.declared.turn.PacketRefusal.TheVariants as refusal
 use Rattle.xen_turns.specs.declared.wiring.Wiring.{Wiring as BackWiring}
 use Rattle.xen_steps.specs.Places.{add32}
 use Rattle.honest_pair.specs.Invariant.Ends.{BackSafe}
 use Rattle.honest_pair.specs.Machine.Halves.{Half, Over, HasRun}
-use Rattle.xen_buffers.specs.declared.wiring.Wiring.{Wiring}
+use Rattle.xen_buffers.specs.declared.wiring.FrontWiring.{FrontWiring}
 use Rattle.honest_pair.specs.Invariant.Ghosts.{IsSent, Sent, Back, slots, bytes_in}
 
 -- A back that is awake: `used` slots of the packets ahead are read, and `wrote` of them are answered.
@@ -105,7 +105,7 @@ OverAs start s copies given b t (Refused cause ops k) = ⊥
 OverAs start s copies given b t (Halted cause) = ⊥
 
 -- The first half of a turn is Idle with all seen, or the next packet was copied and what is left is safe.
-abbrev pub HalfEnd : Wiring → ℕ → BackWiring → State → (copies given : List (List ℕ)) → Back → Half → Type 0
+abbrev pub HalfEnd : FrontWiring → ℕ → BackWiring → State → (copies given : List (List ℕ)) → Back → Half → Type 0
 HalfEnd w start v s copies given b (Over e) = OverAs start s copies given b e.0 e.1
 HalfEnd w start v s copies given b (HasRun slots packet r) =
     BackSafe w start (GivesLeft given r) (EndedTurn start (copies ++ packet ∷ []) given) b (after_run v s slots r)

@@ -2,8 +2,8 @@
 -- What the memory of a pair holds between any two events, by what each end has done. Position n of a ring is the index `start + n`.
 use Rattle.std.specs.Prelude.{ℕ, ◌≡◌, ◌+◌, ◌*◌, ◌<◌, ◌≤◌, ◌⊎◌, Bool, true, List, ◌++◌, length, get_or, Some}
 use Rattle.xen_buffers.specs.Grants.{buffer, grant_place}
-use Rattle.xen_buffers.specs.declared.wiring.Buffer.{Buffer}
-use Rattle.xen_buffers.specs.declared.wiring.Wiring.{Wiring}
+use Rattle.xen_buffers.specs.declared.wiring.GrantedPage.{GrantedPage}
+use Rattle.xen_buffers.specs.declared.wiring.FrontWiring.{FrontWiring}
 use Rattle.xen_front.specs.Slots.{piece_request, piece_words, word_at}
 use Rattle.xen_netif.specs.Slots.{rx_req_words, tx_req_words}
 use Rattle.xen_netif.specs.Words.{joined, low}
@@ -19,17 +19,17 @@ use Rattle.honest_pair.specs.declared.awaits.Awaits.{Awaits}
 use Rattle.honest_pair.specs.declared.awaits.Awaits.TheVariants as awaits
 
 -- What the pair is laid out by: the front's wiring, and the index at which both rings begin.
-module _ (w : Wiring) (start : ℕ) where
+module _ (w : FrontWiring) (start : ℕ) where
   abbrev pub tx_at : (n j : ℕ) → Place
   tx_at n j = tx_entry w.tx_frame (add32 start n) j
 
   abbrev pub rx_at : (n j : ℕ) → Place
   rx_at n j = rx_entry w.rx_frame (add32 start n) j
 
-  abbrev pub tx_buffer : ℕ → Buffer
+  abbrev pub tx_buffer : ℕ → GrantedPage
   tx_buffer id = buffer w.tx.now id
 
-  abbrev pub rx_buffer : ℕ → Buffer
+  abbrev pub rx_buffer : ℕ → GrantedPage
   rx_buffer id = buffer w.rx.now id
 
   -- A slot's three words, and a response's two.
@@ -40,7 +40,7 @@ module _ (w : Wiring) (start : ℕ) where
   rx_word_of s j = response_word Whole Passed s.bytes s.n s.k s.id j
 
   -- A grant to the back, with these flags.
-  pub record IsLent (x : Place → ℕ) (b : Buffer) (kind : ℕ) : Type 0 where
+  pub record IsLent (x : Place → ℕ) (b : GrantedPage) (kind : ℕ) : Type 0 where
     pub frame : x (frame_place (grant_place w b)) ≡ b.frame
     pub flags : x (grant_place w b) ≡ joined kind w.back
 

@@ -6,7 +6,7 @@ use Rattle.xen_front.specs.Fronts.{all_free}
 use Rattle.xen_front.specs.Given.{Ending}
 use Rattle.xen_front.specs.Slots.{in_flight, pieces_of}
 use Rattle.xen_front.specs.declared.state.Ring.{Ring}
-use Rattle.xen_front.specs.declared.state.State.{State}
+use Rattle.xen_front.specs.declared.state.FrontState.{FrontState}
 use Rattle.xen_steps.specs.Places.{add32}
 use Rattle.honest_pair.specs.Invariant.Ghosts.{Sent, Front, tx_sent, slots, piece, id_at, bytes_in}
 
@@ -21,7 +21,7 @@ pub record Ringed (start : ℕ) (r : Ring) (ids : ℕ → ℕ) (taken sent : ℕ
 abbrev pub id_of : Front → ℕ → ℕ
 id_of f n = (piece (slots f.sent) n).id
 
--- The packets that were received are a beginning of those that are known to be given.
+-- The packets that were received are a prefix of those that are known to be given.
 pub record Chained (received : List (List ℕ)) (f : Front) : Type 0 where
   pub before : List Sent
   pub more : List Sent
@@ -29,7 +29,7 @@ pub record Chained (received : List (List ℕ)) (f : Front) : Type 0 where
   pub bytes : bytes_in before ≡ received
 
 -- A front between activities: its state says what is open, and isn't halted.
-pub record Rest (start : ℕ) (s : State) (sent received : List (List ℕ)) (f : Front) : Type 0 where
+pub record Rest (start : ℕ) (s : FrontState) (sent received : List (List ℕ)) (f : Front) : Type 0 where
   pub running : s.halt ≡ None
   pub tx : Ringed start s.tx (id_of f) f.taken (tx_sent f)
   pub rx : Ringed start s.rx (id_at f.posts) f.got (length f.posts)
@@ -75,7 +75,7 @@ abbrev pub began : Front → List (List ℕ) → Front
 began f u = record f { unsent = u; notes = []; window = None; posting = false; reading = None }
 
 -- The answer of a call that begins a send.
-pub record CanSend (s : State) (p : List ℕ) : Type 0 where
+pub record CanSend (s : FrontState) (p : List ℕ) : Type 0 where
   pub least : 14 ≤ length p
   pub most : length p ≤ 65535
   pub room : pieces_of (length p) ≤ length (all_free s.tx.out)

@@ -9,12 +9,12 @@ use Rattle.xen_turns.specs.declared.delivery.wait.Awaited.{Awaited}
 use Rattle.xen_turns.specs.declared.delivery.wait.Awaited.TheVariants as awaited
 use Rattle.xen_turns.specs.declared.delivery.delivering.Delivery.{Delivery}
 use Rattle.xen_turns.specs.declared.delivery.delivering.Delivery.TheVariants as delivery
-use Rattle.xen_turns.specs.declared.turn.Refusal.TheVariants as refusal
+use Rattle.xen_turns.specs.declared.turn.PacketRefusal.TheVariants as refusal
 use Rattle.xen_turns.specs.declared.wiring.Wiring.{Wiring as BackWiring}
-use Rattle.xen_buffers.specs.declared.wiring.Wiring.{Wiring as FrontWiring}
+use Rattle.xen_buffers.specs.declared.wiring.FrontWiring.{FrontWiring}
 use Rattle.xen_front.specs.Given.{Ending as FrontEnding}
 use Rattle.xen_front.specs.Making.{IsNew}
-use Rattle.xen_front.specs.declared.state.State.{State as FrontState}
+use Rattle.xen_front.specs.declared.state.FrontState.{FrontState}
 use Rattle.honest_pair.specs.Machine.Layout.{IsBack, IsFront}
 use Rattle.honest_pair.specs.Machine.Pair.{Activity, Asleep, BackAt, Deed, Deliver, Delivering, First, OfDelivery, OfTurn, OfWait, Pair, PairEvent}
 use Rattle.honest_pair.specs.Machine.Pair.{Past, Posting, Second, Send, Sending, Waiting, opening, run, turns_of}

@@ -7,7 +7,7 @@ use Rattle.xen_steps.specs.Steps.{Steps, done, ask, never}
 use Rattle.xen_steps.specs.declared.want.Want.{Want}
 use Rattle.xen_steps.specs.declared.want.Want.TheVariants as want
 use Rattle.xen_turns.specs.declared.wiring.Wiring.{Wiring as BackWiring}
-use Rattle.xen_buffers.specs.declared.wiring.Wiring.{Wiring as FrontWiring}
+use Rattle.xen_buffers.specs.declared.wiring.FrontWiring.{FrontWiring}
 use Rattle.xdp_world.specs.Activities.{Given, Item, SlotsAwaited, all_came}
 use Rattle.honest_pair.specs.Machine.Memory.{Memory, answer, put}
 use Rattle.honest_pair.specs.Machine.Pair.{Activity, Free, Sending, Posting, Polling, BackAt, Asleep, First, Second, Pair, PairEvent, Send}

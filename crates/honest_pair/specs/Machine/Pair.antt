@@ -13,13 +13,13 @@ use Rattle.xen_turns.specs.declared.delivery.wait.Awaited.TheVariants as awaited
 use Rattle.xen_turns.specs.declared.delivery.delivering.Delivery.{Delivery}
 use Rattle.xen_turns.specs.declared.state.State.{State as BackState}
 use Rattle.xen_turns.specs.declared.wiring.Wiring.{Wiring as BackWiring}
-use Rattle.xen_buffers.specs.declared.wiring.Wiring.{Wiring as FrontWiring}
+use Rattle.xen_buffers.specs.declared.wiring.FrontWiring.{FrontWiring}
 use Rattle.xen_front.specs.Fronts.{all_free, chosen, poll_tests, post_tests, send_tests}
 use Rattle.xen_front.specs.Given.{Given, Ending as FrontEnding}
 use Rattle.xen_front.specs.Given as given
 use Rattle.xen_front.specs.Slots.{pieces_of}
 use Rattle.xen_front.specs.Tree.{poll, post, send}
-use Rattle.xen_front.specs.declared.state.State.{State as FrontState}
+use Rattle.xen_front.specs.declared.state.FrontState.{FrontState}
 use Rattle.xen_front.specs.declared.turn.PollRefusal.{PollRefusal}
 use Rattle.xen_front.specs.declared.turn.PostRefusal.{PostRefusal}
 use Rattle.xen_front.specs.declared.turn.SendRefusal.{SendRefusal}

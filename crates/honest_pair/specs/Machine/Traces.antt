@@ -1,6 +1,6 @@
 -- Stated: claims rest on this file.
 -- What the back's queue has: the traces of its turns, with the copies that these made, the packets and traces of its deliveries, the
--- numbers of slots and the traces of its waits, and a beginning of one more.
+-- numbers of slots and the traces of its waits, and a prefix of one more.
 use Rattle.std.specs.Prelude.{ℕ, ◌≡◌, true, false, List, [], ◌∷◌, ◌++◌, Option, Some, None}
 use Rattle.xen_netif.specs.Chain.{Slot}
 use Rattle.xen_steps.specs.Drive.{LedBy}
@@ -19,7 +19,7 @@ use Rattle.xen_turns.specs.declared.delivery.delivering.Delivery.{Delivery}
 use Rattle.xen_turns.specs.declared.state.State.{State}
 use Rattle.xen_turns.specs.declared.wiring.Wiring.{Wiring}
 use Rattle.honest_pair.specs.Machine.Halves.{HasRun, half_turn}
-use Rattle.xen_buffers.specs.declared.wiring.Wiring.{Wiring as FrontWiring}
+use Rattle.xen_buffers.specs.declared.wiring.FrontWiring.{FrontWiring}
 use Rattle.xdp_world.specs.Activities.{Given, Item, SlotsAwaited, all_came}
 use Rattle.honest_pair.specs.Machine.Log.{back_item, event_by}
 use Rattle.honest_pair.specs.Machine.Memory.{Memory, answer}

@@ -40,14 +40,14 @@ fn add_all(plan: &mut Plan, entries: &[Entry]) -> Result<(), AllocError> {
     Ok(())
 }
 
-/// What is seen of a run.
+/// The outcome of a run, as these tests see it.
 #[derive(Clone, Copy, Debug, PartialEq, Eq)]
 struct Seen {
     turns: usize,
-    /// How many deliveries are over, and the last of them.
+    /// The number of deliveries that are over, and the last of them.
     deliveries: usize,
     last: Option<Delivered>,
-    /// How many packets were received, and the first bytes of the first four that are whole.
+    /// The number of packets that were received, and the first bytes of the first four that are whole.
     received: usize,
     firsts: [Option<u8>; 4],
 }

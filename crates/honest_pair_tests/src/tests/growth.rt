@@ -45,7 +45,7 @@ fn events_again(alloc: Global) -> Result<Plan, AllocError> {
     }
 }
 
-/// What is seen of a run, unless it is refused.
+/// Returns what is seen of a run, unless it is refused.
 fn run(alloc: Global, program: &Verified, events: &[PairEvent]) -> Option<Option<Seen>> {
     match Pair::run(alloc, program, 0, events) {
         Ok(run) => Some(look(events, &run, true)),
@@ -53,7 +53,7 @@ fn run(alloc: Global, program: &Verified, events: &[PairEvent]) -> Option<Option
     }
 }
 
-/// Whether a run was refused, and what is seen of it or else of another one.
+/// Returns whether a run was refused, and what is seen of it or else of another one.
 fn runs(alloc: Global) -> Option<(bool, Option<Seen>)> {
     let program = program(alloc)?;
     let Ok(plan) = events_again(alloc) else {

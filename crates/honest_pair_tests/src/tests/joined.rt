@@ -1,4 +1,4 @@
-//! Random runs with deliveries and waits: what was received is a beginning of what turns sent back and the host delivered, joined in order.
+//! Random runs with deliveries and waits: what was received is a prefix of what turns sent back and the host delivered, joined in order.
 
 use crate::plan::Plan;
 use crate::tests::deliveries::deliveries;
@@ -85,7 +85,7 @@ fn place_of(events: &[PairEvent], from: usize, packet: &[u8]) -> Option<usize> {
     None
 }
 
-/// How many packets of each way were received, if each is the next that was given.
+/// Returns the number of packets that of each way were received, if each is the next that was given.
 fn received(alloc: Global, events: &[PairEvent], run: &PairRun) -> Option<(usize, usize)> {
     let given = given(alloc, run).ok()?;
     let (mut back, mut delivered, mut at): (usize, usize, usize) = (0, 0, 0);
@@ -106,7 +106,7 @@ fn received(alloc: Global, events: &[PairEvent], run: &PairRun) -> Option<(usize
     }
 }
 
-/// How many packets each way are received in a run of `calls` random calls.
+/// Returns the number of packets of each way that are received in a run of `calls` random calls.
 fn random_run(alloc: Global, start: u32, seed: u32, calls: usize) -> Option<(usize, usize)> {
     let mut plan = plan(alloc, seed, calls).ok()?;
     // What is under way ends.

@@ -5,7 +5,7 @@ use honest_pair::{Pair, PairEvent, PairRun};
 use std::alloc::Global;
 use xdp_world::Kept;
 
-/// What was seen of a run.
+/// The outcome of a run, as these tests see it.
 #[derive(Clone, Copy, Debug, PartialEq, Eq)]
 pub(crate) struct Seen {
     /// Turns that weren't idle.
@@ -24,7 +24,7 @@ pub(crate) const NOTHING: Seen = Seen {
 };
 
 impl Seen {
-    /// What was seen of both.
+    /// Returns the outcome of both.
     pub(crate) fn and(self, other: Seen) -> Seen {
         Seen {
             turns: self.turns.saturating_add(other.turns),
@@ -70,8 +70,8 @@ fn place_of(events: &[PairEvent], from: usize, packet: &[u8], each: bool) -> Opt
     None
 }
 
-/// What is seen of the turns, if the copies are packets that were sent, in order and once each, and none was refused but for
-/// want of rx slots.
+/// Returns what is seen of the turns, if the copies are packets that were sent, in order and once each, and none was refused but
+/// for want of rx slots.
 fn copies(events: &[PairEvent], turns: &[Kept], each: bool) -> Option<Seen> {
     let mut at = 0;
     let mut seen = NOTHING;
@@ -110,7 +110,8 @@ fn next_back(turns: &[Kept], from: usize) -> Option<(usize, &[u8])> {
     None
 }
 
-/// How many packets were received, if they are a beginning of what was sent back, after which no turn is unfinished.
+/// Returns the number of packets that were received, if they are a beginning of what was sent back, after which no turn is
+/// unfinished.
 fn receptions(run: &PairRun) -> Option<usize> {
     let mut at = 0;
     for packet in &run.received {
@@ -123,14 +124,14 @@ fn receptions(run: &PairRun) -> Option<usize> {
     Some(run.received.len())
 }
 
-/// What is seen of a run whose back sleeps in the end, if all is as it has to be. With `each` all sends were taken.
+/// Returns what is seen of a run whose back sleeps in the end, if all is as it has to be. With `each` all sends were taken.
 pub(crate) fn look(events: &[PairEvent], run: &PairRun, each: bool) -> Option<Seen> {
     let mut seen = copies(events, turns(run), each)?;
     seen.received = receptions(run)?;
     Some(seen)
 }
 
-/// What is seen of the run of a program, and whether its last turn is idle.
+/// Returns what is seen of the run of a program, and whether its last turn is idle.
 pub(crate) fn look_at(
     alloc: Global,
     slots: &[u64],

@@ -45,7 +45,7 @@ impl Random {
         self.below(more).saturating_add(14)
     }
 
-    /// How many steps come in a row.
+    /// Returns the number of steps that come in a row.
     pub(crate) fn burst(&mut self) -> usize {
         match self.below(12) {
             0 => 3_000,
@@ -151,7 +151,7 @@ impl Chooser {
     }
 }
 
-/// What is seen of a run of `calls` random calls. A patient run has to copy all that was sent.
+/// Returns what is seen of a run of `calls` random calls. A patient run has to copy all that was sent.
 fn random_run(
     alloc: Global,
     slots: &[u64],

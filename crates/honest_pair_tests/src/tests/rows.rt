@@ -96,16 +96,16 @@ fn kind_of(alloc: Global, kept: &Kept) -> Kind {
     }
 }
 
-/// What is seen of a run.
+/// The outcome of a run, as these tests see it.
 #[derive(Clone, Copy, Debug, PartialEq, Eq)]
 struct Seen {
-    /// How many turns there are, and the first four.
+    /// The number of turns, and the first four.
     count: usize,
     turns: [Option<Kind>; 4],
-    /// How many packets were received, and the first byte of the first of them, if an entry sends it.
+    /// The number of packets that were received, and the first byte of the first of them, if an entry sends it.
     received: usize,
     packet: Option<u8>,
-    /// How many counter operations there are.
+    /// The number of counter operations.
     history: usize,
 }
 
@@ -147,7 +147,7 @@ fn seen_with(alloc: Global, slots: &[u64], start: u32, plan: &Plan) -> Option<Se
     }
 }
 
-/// What is seen of a run of these entries.
+/// Returns what is seen of a run of these entries.
 fn run(alloc: Global, slots: &[u64], start: u32, entries: &[Entry]) -> Option<Seen> {
     let mut plan = Plan::new(alloc);
     match add_all(&mut plan, entries) {

@@ -49,12 +49,12 @@ fn add_all(plan: &mut Plan, entries: &[Entry]) -> Result<(), AllocError> {
     Ok(())
 }
 
-/// What is seen of a run.
+/// The outcome of a run, as these tests see it.
 #[derive(Clone, Copy, Debug, PartialEq, Eq)]
 struct Seen {
     turns: usize,
     deliveries: usize,
-    /// How many waits are over, and the last of them.
+    /// The number of waits that are over, and the last of them.
     waits: usize,
     last: Option<Waited>,
 }
@@ -89,7 +89,7 @@ fn after(turns: usize, deliveries: usize, awaited: Awaited) -> Option<Waited> {
     })
 }
 
-/// What is seen if nothing but waits is over.
+/// Returns what is seen if nothing but waits is over.
 fn waits_alone(waits: usize, last: Option<Waited>) -> Option<Seen> {
     Some(Seen {
         turns: 0,

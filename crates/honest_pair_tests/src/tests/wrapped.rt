@@ -22,10 +22,10 @@ fn add_packets(plan: &mut Plan, count: u32, post: bool) -> Result<(), AllocError
     Ok(())
 }
 
-/// Where the rings begin.
+/// The index at which the rings begin.
 const START: u32 = 0xFFFF_FF80;
 
-/// What is seen of a run of 600 packets.
+/// Returns what is seen of a run of 600 packets.
 fn six_hundred(alloc: Global, slots: &[u64], post: bool) -> Option<Seen> {
     let mut plan = Plan::new(alloc);
     if add_packets(&mut plan, 600, post).is_err() {
@@ -77,7 +77,7 @@ fn add_sends(plan: &mut Plan) -> Result<(), AllocError> {
     plan.back_steps(10_000)
 }
 
-/// How many turns a run of 300 sends has, and whether the last is idle.
+/// Returns the number of turns that a run of 300 sends has, and whether the last is idle.
 fn turns_of_sends(alloc: Global) -> Option<(usize, bool)> {
     let mut plan = Plan::new(alloc);
     if add_sends(&mut plan).is_err() {

@@ -8,7 +8,7 @@ use std::sync::Wait;
 use std::thread;
 use std::thread::Threads;
 use std::time::{Clock, Duration};
-use thread_pair::{Deliveries, Discard, Gate, Host, PairRow, Shared};
+use thread_pair::{Deliveries, Discard, Gate, OnPass, PairRow, Shared};
 use xen_back::Halt;
 use xen_page::{Bus, PageBus, Place};
 
@@ -65,7 +65,7 @@ fn rows_with<R: Threads + Wait + Sync + Clock>(
     alloc: Global,
     slots: &[&str],
     packets: u32,
-    host: Host,
+    host: OnPass,
     word: Option<(Place, u32)>,
 ) -> Option<Rows> {
     let setup = setup_of(alloc, &[packets], 0)?;
@@ -96,13 +96,13 @@ fn passed_packets_alone_are_answered(rt: HostRuntime) {
         sent: 5,
         ..Deliveries::NONE
     };
-    let rows = rows_with(&rt, alloc, PASSES, 5, Host::Answers, None);
+    let rows = rows_with(&rt, alloc, PASSES, 5, OnPass::Answers, None);
     assert_eq!(rt; rows, answered(5, five));
-    let rows = rows_with(&rt, alloc, PASSES, 5, Host::Takes, None);
+    let rows = rows_with(&rt, alloc, PASSES, 5, OnPass::Takes, None);
     assert_eq!(rt; rows, answered(0, Deliveries::NONE));
-    let rows = rows_with(&rt, alloc, DROPS, 5, Host::Answers, None);
+    let rows = rows_with(&rt, alloc, DROPS, 5, OnPass::Answers, None);
     assert_eq!(rt; rows, answered(0, Deliveries::NONE));
-    let rows = rows_with(&rt, alloc, SENDS_BACK, 5, Host::Answers, None);
+    let rows = rows_with(&rt, alloc, SENDS_BACK, 5, OnPass::Answers, None);
     assert_eq!(rt; rows, answered(5, Deliveries::NONE));
 }
 
@@ -113,7 +113,14 @@ fn answers_without_slots_are_counted(rt: HostRuntime) {
         few: 5,
         ..Deliveries::NONE
     };
-    let rows = rows_with(&rt, rt.alloc(), PASSES, 5, Host::Answers, Some((POSTED, 0)));
+    let rows = rows_with(
+        &rt,
+        rt.alloc(),
+        PASSES,
+        5,
+        OnPass::Answers,
+        Some((POSTED, 0)),
+    );
     assert_eq!(rt; rows, answered(0, few));
 }
 
@@ -125,7 +132,7 @@ fn an_answer_without_a_grant_is_counted(rt: HostRuntime) {
         ..Deliveries::NONE
     };
     let ended = Some((FIRST_BUFFER, 0));
-    let rows = rows_with(&rt, rt.alloc(), PASSES, 5, Host::Answers, ended);
+    let rows = rows_with(&rt, rt.alloc(), PASSES, 5, OnPass::Answers, ended);
     assert_eq!(rt; rows, answered(4, refused));
 }
 
@@ -133,7 +140,7 @@ fn an_answer_without_a_grant_is_counted(rt: HostRuntime) {
 #[test]
 fn an_answer_that_halts_ends_the_back(rt: HostRuntime) {
     let overflown = Some((POSTED, 1000));
-    let rows = rows_with(&rt, rt.alloc(), PASSES, 1, Host::Answers, overflown);
+    let rows = rows_with(&rt, rt.alloc(), PASSES, 1, OnPass::Answers, overflown);
     let row = PairRow {
         halted: Some(Halt::RxProducer),
         ..passed(1)

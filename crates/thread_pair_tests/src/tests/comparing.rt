@@ -7,12 +7,12 @@ use std::alloc::{AllocError, Global};
 use std::sync::Wait;
 use std::sync::atomic::{AtomicU32, Ordering};
 use std::thread::Threads;
-use thread_pair::{Deliveries, Host, Inbox, Open, PairRow};
-use xdp_load::{Packet, Setup};
+use thread_pair::{Deliveries, Inbox, OnPass, Open, PairRow};
+use xdp_load::{SentPacket, Setup};
 
 /// The different packets of a queue.
 const KINDS: u32 = 100;
-/// How often each of them is sent.
+/// The number of times each of them is sent.
 const TIMES: u32 = 10;
 
 /// The length of a packet: one in sixteen takes two slots.
@@ -43,17 +43,17 @@ fn add_bytes(bytes: &mut Vec<u8>, queue: usize, kind: u32) -> Result<(), AllocEr
     Ok(())
 }
 
-fn packet(alloc: Global, queue: usize, kind: u32) -> Result<Packet, AllocError> {
+fn packet(alloc: Global, queue: usize, kind: u32) -> Result<SentPacket, AllocError> {
     let mut bytes = Vec::new(alloc);
     add_bytes(&mut bytes, queue, kind)?;
-    Ok(Packet {
+    Ok(SentPacket {
         queue,
         bytes,
         times: TIMES,
     })
 }
 
-fn add_packets(alloc: Global, packets: &mut Vec<Packet>) -> Result<(), AllocError> {
+fn add_packets(alloc: Global, packets: &mut Vec<SentPacket>) -> Result<(), AllocError> {
     for queue in 0..8 {
         for kind in 0..KINDS {
             packets.push(packet(alloc, queue, kind)?)?;
@@ -76,11 +76,11 @@ fn all_packets(alloc: Global) -> Option<Setup>
 /// Compares what comes to a front with what it sent, in order.
 #[derive(Drop)]
 struct Compared {
-    /// Whether an address stands where the other one was sent.
+    /// True if an address stands where the other one was sent.
     exchanged: bool,
-    /// How many packets came to each queue.
+    /// The number of packets that came to each queue.
     came: [AtomicU32; 8],
-    /// How many of them weren't the next one that was sent.
+    /// The number of them that weren't the next one that was sent.
     wrong: AtomicU32,
 }
 
@@ -103,7 +103,7 @@ impl Compared {
     }
 }
 
-/// Where the byte was sent that comes at this place of a packet.
+/// Returns where the byte was sent that comes at this place of a packet.
 fn sent_at(exchanged: bool, at: usize) -> usize {
     match at {
         0..=5 if exchanged => at + 6,
@@ -112,7 +112,7 @@ fn sent_at(exchanged: bool, at: usize) -> usize {
     }
 }
 
-/// Whether this is the packet of that kind.
+/// Returns whether this is the packet of that kind.
 fn is_packet(exchanged: bool, queue: usize, kind: u32, packet: &[u8]) -> bool {
     if packet.len() != length(queue, kind) {
         return false;
@@ -138,7 +138,7 @@ fn compared_rows(
     rt: &(impl Threads + Wait + Sync),
     alloc: Global,
     slots: &[&str],
-    host: Host,
+    host: OnPass,
     compared: &Compared,
 ) -> Option<Rows> {
     let setup = all_packets(alloc)?;
@@ -152,7 +152,7 @@ fn compared_rows(
 #[test]
 fn all_packets_of_eight_queues_come_back(rt: HostRuntime) {
     let compared = Compared::new(false);
-    let rows = compared_rows(&rt, rt.alloc(), SENDS_BACK, Host::Takes, &compared);
+    let rows = compared_rows(&rt, rt.alloc(), SENDS_BACK, OnPass::Takes, &compared);
     let row = PairRow {
         sent: u64::from(KINDS * TIMES),
         copied: u64::from(KINDS * TIMES),
@@ -171,7 +171,7 @@ fn all_packets_of_eight_queues_come_back(rt: HostRuntime) {
 #[test]
 fn all_packets_of_eight_queues_are_answered(rt: HostRuntime) {
     let compared = Compared::new(true);
-    let rows = compared_rows(&rt, rt.alloc(), PASSES, Host::Answers, &compared);
+    let rows = compared_rows(&rt, rt.alloc(), PASSES, OnPass::Answers, &compared);
     let packets = u64::from(KINDS * TIMES);
     let row = PairRow {
         sent: packets,

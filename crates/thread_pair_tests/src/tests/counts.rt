@@ -13,7 +13,7 @@ use std::thread;
 use std::thread::Threads;
 use std::time::{Clock, Duration};
 use thread_pair::{Deliveries, Discard, Gate, Open, PairRow, Parkers, Shared};
-use xdp_load::{Packet, Setup};
+use xdp_load::{SentPacket, Setup};
 use xen_page::{Bus, PageBus, Place};
 use xen_ring::Port;
 
@@ -56,7 +56,7 @@ struct First<'s, R: Clock> {
     ends_grant: bool,
     /// Turns that were made before the first call.
     early: AtomicU32,
-    /// Whether the front has set another port than the back's.
+    /// True if the front has set another port than the back's.
     astray: AtomicBool,
 }
 
@@ -147,7 +147,7 @@ fn held_run(
     }
 }
 
-/// How many rows there are, the packets that the first queue copied and that came back to it, and what else a held run came
+/// Returns how many rows there are, the packets that the first queue copied and that came back to it, and what else a held run came
 /// to.
 fn came_back(held: Held) -> (usize, Option<(u64, u64)>, u32, bool) {
     let ((count, rows), early, astray) = held;
@@ -216,7 +216,7 @@ fn longest(alloc: Global) -> Option<Setup>
     ensures { IfSome result (λ s. s.queues ≡ 1) }
 {
     let bytes = Vec::from_elem(alloc, 0x5au8, 65_535).ok()?;
-    let packet = Packet {
+    let packet = SentPacket {
         queue: 0,
         bytes,
         times: 3,

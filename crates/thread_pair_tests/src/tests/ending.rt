@@ -10,7 +10,7 @@ use xen_back::Halt;
 use xen_page::{Bus, PageBus, Place};
 use xen_ring::{Port, Ports};
 
-/// Whether there are `count` queues, of which none has sent more than `sent` or copied more than `copied`.
+/// Returns whether there are `count` queues, of which none has sent more than `sent` or copied more than `copied`.
 fn are_within(rows: &Rows, count: usize, sent: u64, copied: u64) -> bool {
     for row in rows.1.as_slice() {
         if let Some(row) = row {
@@ -22,7 +22,7 @@ fn are_within(rows: &Rows, count: usize, sent: u64, copied: u64) -> bool {
     rows.0 == count
 }
 
-/// Whether there was a run like that.
+/// Returns whether there was a run like that.
 fn is_within(rows: &Option<Rows>, count: usize, sent: u64, copied: u64) -> bool {
     match rows {
         Some(rows) => are_within(rows, count, sent, copied),
@@ -50,7 +50,7 @@ fn a_front_that_ends_early_ends_its_back(rt: HostRuntime) {
     assert_eq!(rt; rows, Some(rows_of(&wanted)));
 }
 
-/// Which of the first 64 ports are pending.
+/// Returns which of the first 64 ports are pending.
 fn pending(ports: &Ports) -> [bool; 64] {
     let mut pending = [false; 64];
     let mut number = 0;
@@ -63,7 +63,7 @@ fn pending(ports: &Ports) -> [bool; 64] {
     pending
 }
 
-/// Which ports are pending after a run of a packet for each of eight queues.
+/// Returns which ports are pending after a run of a packet for each of eight queues.
 fn ports_after(rt: &(impl Threads + Wait + Sync), alloc: Global) -> Option<[bool; 64]> {
     let setup = setup_of(alloc, &[1; 8], 0)?;
     let (bench, parkers) = Bench::make(alloc, setup)?;
@@ -84,7 +84,7 @@ fn both_ends_get_notices(rt: HostRuntime) {
     assert_eq!(rt; ports_after(&rt, rt.alloc()), Some(wanted));
 }
 
-/// What comes of a run of eight queues whose threads can't have their stacks.
+/// Returns what comes of a run of eight queues whose threads can't have their stacks.
 fn fault_of_stacks(rt: &(impl Threads + Wait + Sync), alloc: Global) -> Option<PairFault> {
     let setup = setup_of(alloc, &[5000, 0, 0, 0, 0, 0, 0, 0], 0)?;
     let (bench, parkers) = Bench::make(alloc, setup)?;

@@ -11,7 +11,7 @@ use std::alloc::Global;
 use std::sync::Wait;
 use std::test::Fail;
 use std::thread::Threads;
-use thread_pair::{Deliveries, Host, Open, PairFault, PairRow, pair_with};
+use thread_pair::{Deliveries, OnPass, Open, PairFault, PairRow, pair_with};
 use xdp_load::{Listed, load_listed};
 
 /// More turns than two packets take.
@@ -64,13 +64,13 @@ fn run(
 ) -> Result<Rows, PairFault>
     requires { IsListedSound (listed_view listed.now) }
 {
-    match pair_with(rt, alloc, listed, program, Host::Takes, TURNS, &Open) {
+    match pair_with(rt, alloc, listed, program, OnPass::Takes, TURNS, &Open) {
         Ok(report) => Ok(rows_of(report.rows.as_slice())),
         Err(fault) => Err(fault),
     }
 }
 
-/// What a run comes to, and what another one comes to if it was refused.
+/// Returns what a run comes to, and what another one comes to if it was refused.
 fn runs(rt: &(impl Threads + Wait + Sync), alloc: Global) -> Option<[Result<Rows, PairFault>; 2]> {
     let listed = listed(alloc)?;
     let program = program(alloc, &listed)?;

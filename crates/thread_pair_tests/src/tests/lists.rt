@@ -4,7 +4,7 @@ use crate::bench::{Rows, TURNS, accepted, passed, rows_of};
 use std::alloc::Global;
 use std::sync::Wait;
 use std::thread::Threads;
-use thread_pair::{Host, Open, PairReport, pair_with};
+use thread_pair::{OnPass, Open, PairReport, pair_with};
 use xdp_load::load_listed;
 
 /// The program adds a constant, 3, to the counter of the prefix under which a packet's first four bytes lie, and passes it on.
@@ -92,7 +92,7 @@ fn run_of_settings(rt: &(impl Threads + Wait + Sync), alloc: Global) -> Option<(
     let listed = load_listed(alloc, SETTINGS.as_bytes()).ok()?;
     let setup = &listed.setup;
     let program = accepted(alloc, setup.program.as_slice(), setup.shapes.as_slice())?;
-    match pair_with(rt, alloc, &listed, &program, Host::Takes, TURNS, &Open) {
+    match pair_with(rt, alloc, &listed, &program, OnPass::Takes, TURNS, &Open) {
         Ok(report) => Some(counted(report)),
         Err(_) => None,
     }

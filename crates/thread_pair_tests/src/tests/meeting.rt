@@ -7,7 +7,7 @@ use std::sync::atomic::{AtomicBool, AtomicU32, Ordering};
 use std::thread;
 use std::thread::Threads;
 use std::time::{Clock, Duration};
-use thread_pair::{Deliveries, Gate, Host, PairRow, pair_with};
+use thread_pair::{Deliveries, Gate, OnPass, PairRow, pair_with};
 use xdp_load::load_listed;
 
 /// Each of two queues sends two packets, which pass.
@@ -39,7 +39,7 @@ struct Meet<R: Clock> {
 }
 
 impl<R: Clock> Meet<R> {
-    /// Whether this queue reaches its second turn within 10,000 looks.
+    /// Returns whether this queue reaches its second turn within 10,000 looks.
     fn sees(&self, queue: usize) -> bool {
         for _look in 0..10_000 {
             for _load in 0..1000 {
@@ -72,7 +72,7 @@ fn rows_behind<R: Threads + Wait + Sync, C: Clock + Sync>(
 ) -> Option<Rows> {
     let listed = load_listed(alloc, SETTINGS.as_bytes()).ok()?;
     let program = accepted(alloc, listed.setup.program.as_slice(), &[])?;
-    match pair_with(rt, alloc, &listed, &program, Host::Takes, TURNS, gate) {
+    match pair_with(rt, alloc, &listed, &program, OnPass::Takes, TURNS, gate) {
         Ok(report) => Some(rows_of(report.rows.as_slice())),
         Err(_) => None,
     }

@@ -71,7 +71,7 @@ fn await_packet(rt: &impl Clock, shared: &Shared, frame: u32) {
 struct Noted<'s, R: Clock> {
     rt: R,
     shared: &'s Shared,
-    /// How many buffers are posted.
+    /// The number of buffers that are posted.
     posted: AtomicU32,
     /// The references of the first requests of the tx ring and of the rx ring.
     tx: AtomicU32,
@@ -94,7 +94,7 @@ impl<R: Clock> Gate for Noted<'_, R> {
     }
 }
 
-/// How many buffers queue 1 has posted once it has sent a packet, and the references of its first requests.
+/// Returns the number of buffers that queue 1 has posted once it has sent a packet, and the references of its first requests.
 fn first_requests<R: Threads + Wait + Sync + Clock>(rt: &R, alloc: Global) -> Option<[u32; 3]> {
     let setup = setup_of(alloc, &[0, 1], 0)?;
     let (bench, parkers) = Bench::make(alloc, setup)?;
@@ -147,7 +147,7 @@ impl<R: Clock> Inbox for Held<'_, R> {
     }
 }
 
-/// How many buffers were posted in a run of one turn, and how many packets came back.
+/// Returns how many buffers were posted in a run of one turn, and how many packets came back.
 fn posted_at_the_end<R: Threads + Wait + Sync + Clock>(
     rt: &R,
     alloc: Global,

@@ -36,7 +36,7 @@ impl<R: Clock> Inbox for Holding<R> {
     }
 }
 
-/// How many turns a back makes in a run of one packet, whose front is held once the packet came back.
+/// Returns the number of turns that a back makes in a run of one packet, whose front is held once the packet came back.
 fn turns_beside_a_held_front(
     rt: &(impl Threads + Wait + Sync + Clock),
     alloc: Global,

@@ -10,7 +10,7 @@ use bpf_maps::MapShape;
 use std::alloc::Global;
 use std::sync::Wait;
 use std::thread::Threads;
-use thread_pair::{Host, Open, PairReport, pair_with};
+use thread_pair::{OnPass, Open, PairReport, pair_with};
 use xdp_load::load_listed;
 
 /// Queue 0 sends 1,000 packets and queue 1 sends 500. The program adds 1 to counter 1 for each.
@@ -57,7 +57,7 @@ fn run_of_settings(rt: &(impl Threads + Wait + Sync), alloc: Global) -> Option<(
     let listed = load_listed(alloc, SETTINGS.as_bytes()).ok()?;
     let shape = MapShape::of(2, 1)?;
     let program = accepted(alloc, listed.setup.program.as_slice(), &[shape])?;
-    match pair_with(rt, alloc, &listed, &program, Host::Takes, TURNS, &Open) {
+    match pair_with(rt, alloc, &listed, &program, OnPass::Takes, TURNS, &Open) {
         Ok(report) => Some(counted(&report)),
         Err(_) => None,
     }

@@ -23,7 +23,7 @@ fn every_beginning_ends_in_a_setup_or_a_fault(rt: HostRuntime) {
 /// The number of the fault of the beginning that ends with each line, or a dash for a setup.
 const AFTER_EACH_LINE: &str = "3222222----222--33--33---33-33--33--33--";
 
-/// What [`AFTER_EACH_LINE`] says, as [`load`](xdp_load::load) answers.
+/// Returns what [`AFTER_EACH_LINE`] says, as [`load`](xdp_load::load) answers.
 fn after_each_line(alloc: Global) -> Result<String, AllocError> {
     let bytes = EVERY_KEY.as_bytes();
     let mut answers = String::new(alloc);

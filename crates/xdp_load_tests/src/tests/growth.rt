@@ -13,7 +13,7 @@ program = [\"9500000000000000\"]
 map = [{ name = \"a\", entries = 1 }, { name = \"a\", entries = 1 }]
 ";
 
-/// What is loaded, asked for again after L0.
+/// Returns what is loaded, asked for again after L0.
 fn load_again(
     rt: &impl Print,
     alloc: Global,

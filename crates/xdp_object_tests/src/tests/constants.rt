@@ -12,7 +12,7 @@ use bpf_note::{MapKey, MapShape};
 use std::alloc::{AllocError, Global};
 use xdp_object::{ObjectSetup, SetupFault, setup_of};
 
-/// Where the section of constants says how many bytes it has.
+/// The place at which the section of constants says how many bytes it has.
 const SIZE: usize = 672;
 
 const SETTINGS: [u8; 832] = [
@@ -77,7 +77,7 @@ pub fn setup(alloc: Global, size: u32) -> Result<ObjectSetup, SetupFault> {
     }
 }
 
-/// How many bytes of constants the program has, or the number of the fault and where it is.
+/// Returns the number of bytes of constants that the program has, or the number of the fault and where it is.
 fn constants(alloc: Global, size: u32) -> Result<usize, (u8, usize)> {
     match setup(alloc, size) {
         Ok(setup) => match setup.lists.first() {

@@ -24,8 +24,8 @@ pub fn write(frame: u32, word: u32, value: u32) -> Want {
     Want::Write(Place { frame, word }, value)
 }
 
-/// What the delivery of the fourteen bytes wants as the i-th packet on the rx ring, with what it is answered: `posted` slots are there,
-/// the slot has id 9 and reference 5, its entry permits frame 22, and `event` is the ring's event index.
+/// Returns what the delivery of the fourteen bytes wants as the i-th packet on the rx ring, with what it is answered: `posted`
+/// slots are there, the slot has id 9 and reference 5, its entry permits frame 22, and `event` is the ring's event index.
 pub fn fourteen(i: u32, posted: u32, event: u32) -> [(Want, u32); 13]
     requires { i < 100 }
 {
@@ -202,7 +202,7 @@ fn busy(world: &mut World) -> Result<bool, AllocError>
     Ok(inside && short && other && begun && delivering && went && told)
 }
 
-/// What is done with a world of two queues, whose rings begin at 0.
+/// An activity of a world of two queues, whose rings begin at 0.
 #[derive(Clone, Copy)]
 enum Scenario {
     ByItsEvents,
@@ -223,7 +223,7 @@ impl Scenario {
         }
     }
 
-    /// Whether all is as it has to be.
+    /// Returns whether all is as it has to be.
     fn seen(self, world: &mut World) -> Result<bool, AllocError>
         requires { vec_len world.old.queues ≡ 2 }
     {
@@ -239,7 +239,7 @@ impl Scenario {
     }
 }
 
-/// Whether all is as it has to be, if there is memory.
+/// Returns whether all is as it has to be, if there is memory.
 fn holds(alloc: Global, scenario: Scenario) -> Option<bool> {
     let program = accepted(alloc, scenario.program())?;
     let layout = Layout::make(alloc, 2).ok()?;

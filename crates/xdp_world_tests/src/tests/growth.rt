@@ -22,7 +22,7 @@ const STEPS: [(usize, u32); 24] = [
     (0, 258),
 ];
 
-/// What is read in these steps.
+/// The words that are read in these steps.
 const READS: [u32; 12] = [
     1,
     2,
@@ -62,7 +62,7 @@ fn counting(alloc: Global) -> Option<Verified> {
     }
 }
 
-/// Whether one packet was counted, and then the queue halted.
+/// Returns whether one packet was counted, and then the queue halted.
 fn is_counted(report: &Report) -> bool {
     let add = Op::Add {
         m: 0,
@@ -75,7 +75,7 @@ fn is_counted(report: &Report) -> bool {
     report.history.as_slice() == [(0, add)].as_slice() && turns == Some(2)
 }
 
-/// Whether a report shows that, if there is one.
+/// Returns whether a report shows that, if there is one.
 fn counted(report: Result<Report, AllocError>) -> Option<bool> {
     match report {
         Ok(report) => Some(is_counted(&report)),
@@ -87,7 +87,7 @@ fn run(alloc: Global, program: &Verified) -> Option<bool> {
     counted(World::run(alloc, program, &[], &[], 1, 0, 0, &STEPS))
 }
 
-/// Whether a run was refused, and whether it or else another one comes to that.
+/// Returns whether a run was refused, and whether it or else another one comes to that.
 fn runs(alloc: Global) -> Option<(bool, bool)> {
     let program = counting(alloc)?;
     match run(alloc, &program) {
@@ -113,7 +113,7 @@ fn replayed(alloc: Global, program: &Verified) -> Option<bool> {
     counted(replay(alloc, program, 1, 0, 0, 0, &READS))
 }
 
-/// Whether a replay was refused, and whether it or else another one comes to that.
+/// Returns whether a replay was refused, and whether it or else another one comes to that.
 fn replays(alloc: Global) -> Option<(bool, bool)> {
     let program = counting(alloc)?;
     match replayed(alloc, &program) {
@@ -165,8 +165,8 @@ fn step_all(world: &mut World) -> Option<bool>
     Some(refused)
 }
 
-/// Whether a step was refused, and whether the steps came to one packet that was counted. None if no world is made, or
-/// a step is refused twice.
+/// Returns whether a step was refused, and whether the steps came to one packet that was counted. None if no world is made, or a
+/// step is refused twice.
 fn stepped(
     alloc: Global,
     layout: &Layout,
@@ -245,7 +245,7 @@ fn count(frames: Result<Frames, AllocError>) -> Option<u32> {
     }
 }
 
-/// How many frames a layout makes, and how many it makes again if it was refused.
+/// Returns how many frames a layout makes, and how many it makes again if it was refused.
 fn frame_counts(alloc: Global) -> [Option<u32>; 2] {
     let Ok(layout) = layout(alloc) else {
         return [None; 2];

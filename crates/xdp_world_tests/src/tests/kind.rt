@@ -2,7 +2,7 @@
 
 use bpf_vm::Action;
 use xdp_world::Kept;
-use xen_back::{Halt, Refusal};
+use xen_back::{Halt, PacketRefusal};
 
 /// A turn, with the first bytes of its packet.
 #[derive(Clone, Copy, Debug, PartialEq, Eq)]
@@ -11,14 +11,14 @@ pub(crate) enum Kind {
     Ran {
         action: Action,
         number: u32,
-        /// How many bytes the packet has.
+        /// The number of bytes that the packet has.
         length: usize,
         first: [u8; 14],
         ops: u32,
         slots: u32,
     },
     Refused {
-        cause: Refusal,
+        cause: PacketRefusal,
         ops: u32,
         slots: u32,
     },

@@ -9,7 +9,7 @@ use bpf_vm::Buffer;
 use std::alloc::{AllocError, Global};
 use xdp_world::{Kept, Layout, Report};
 
-/// How many events of a turn come before the nine that are merged.
+/// The number of a turn's events that come before the nine that are merged.
 const BEFORE: usize = 16;
 
 /// The number with which a queue's only turn ended.
@@ -39,7 +39,7 @@ fn sum_of(history: &[(usize, Op)]) -> Option<u64> {
     Some(sum)
 }
 
-/// What a queue's load found.
+/// Returns what a queue's load found.
 fn found_by(history: &[(usize, Op)], queue: usize) -> Option<u64> {
     for (number, op) in history {
         if let Op::Load { v, .. } = op {
@@ -64,7 +64,7 @@ fn set_steps(steps: &mut Vec<(usize, u32)>, order: u32) -> Result<(), AllocError
     Ok(())
 }
 
-/// Whether the operations are one history of four that leaves 3, and each queue's number is what its load found.
+/// Returns whether the operations are one history of four that leaves 3, and each queue's number is what its load found.
 fn is_one_history(report: &Report) -> bool {
     let history = report.history.as_slice();
     history.len() == 4
@@ -89,7 +89,7 @@ fn sum_after(
     is_one_history(&report).then_some(report.totals.at(0, 0, 0))
 }
 
-/// How many orders are one history that leaves 3, or the first that isn't.
+/// Returns the number of orders that are one history that leaves 3, or the first that isn't.
 fn orders_of(
     alloc: Global,
     layout: &Layout,

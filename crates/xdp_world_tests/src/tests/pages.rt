@@ -29,7 +29,7 @@ pub(crate) const TABLE: u32 = 1;
 
 pub(crate) const BUFFER: u32 = 19;
 
-/// What is needed for turns of one queue: its frames' owners, its pages, its program, and where its rings begin.
+/// The parts that turns of one queue need: its frames' owners, its pages, its program, and where its rings begin.
 #[derive(Drop)]
 pub(crate) struct Bench<'p> {
     pub memory: &'p Memory,
@@ -178,7 +178,7 @@ fn over_pages(
     }
 }
 
-/// How a turn over a script of its answers differs, if it does.
+/// Returns how a turn over a script of its answers differs, if it does.
 fn script_difference(
     alloc: Global,
     bench: &Bench,
@@ -197,7 +197,7 @@ fn script_difference(
     }
 }
 
-/// How many notices a queue sends until its turn is over. Each counter holds 0.
+/// Returns the number of notices that a queue sends until its turn is over. Each counter holds 0.
 fn notices_of(queue: &mut Queue, answers: &[u32]) -> Option<u32> {
     let mut given = answers.iter();
     let mut sent = 0u32;
@@ -217,7 +217,7 @@ fn notices_of(queue: &mut Queue, answers: &[u32]) -> Option<u32> {
     None
 }
 
-/// How many notices a turn sends, by hand.
+/// Returns the number of notices that a turn sends, by hand.
 fn notices(alloc: Global, bench: &Bench, buffer: &mut Buffer, answers: &[u32]) -> Option<u32> {
     let mut queue = bench
         .memory
@@ -225,7 +225,7 @@ fn notices(alloc: Global, bench: &Bench, buffer: &mut Buffer, answers: &[u32]) -
     notices_of(&mut queue, answers)
 }
 
-/// Whether a replay of these answers gives this turn and no other.
+/// Returns whether a replay of these answers gives this turn and no other.
 fn is_replayed(alloc: Global, bench: &Bench, answers: &[u32], kept: &Kept) -> bool {
     let Ok(report) = replay(alloc, bench.program, 1, 0, bench.start, 0, answers) else {
         return false;
@@ -236,7 +236,7 @@ fn is_replayed(alloc: Global, bench: &Bench, answers: &[u32], kept: &Kept) -> bo
     }
 }
 
-/// How the ways to a turn differ, if they do.
+/// Returns how the ways to a turn differ, if they do.
 fn difference(
     alloc: Global,
     bench: &Bench,

@@ -184,7 +184,8 @@ pub(crate) fn run_steps(
     }
 }
 
-/// What a turn reads of one slot of 14 bytes with id 7, until its program runs: the producer, the slot, the grant, the page.
+/// The words that a turn reads of one slot of 14 bytes with id 7, until its program runs: the producer, the slot, the grant, the
+/// page.
 pub(crate) const PACKET: [u32; 10] = [
     1,
     2,

@@ -8,7 +8,7 @@ use bpf_vm::Buffer;
 use std::alloc::{AllocError, Global};
 use xen_page::{Frames, Place};
 
-/// How many lists of writes there are.
+/// The number of lists of writes.
 const LISTS: u64 = 2_000;
 
 /// The reference of the first rx buffer of the test.
@@ -221,7 +221,7 @@ impl Attack {
 /// The programs that the lists go through in turn.
 const PROGRAMS: [&[u64]; 5] = [PASS, SEND, COUNT, READ_AND_ADD, SET_FIRST];
 
-/// How the ways to a random turn differ, if they do.
+/// Returns how the ways to a random turn differ, if they do.
 fn difference(
     alloc: Global,
     memory: &Memory,

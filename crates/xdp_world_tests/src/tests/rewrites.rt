@@ -6,7 +6,7 @@ use super::programs::{PASS, accepted};
 use crate::memory::{Memory, frames};
 use bpf_vm::Buffer;
 use std::alloc::Global;
-use xen_back::{Halt, Refusal};
+use xen_back::{Halt, PacketRefusal};
 use xen_netif::SizeFault;
 use xen_page::Place;
 
@@ -80,7 +80,7 @@ fn turn_with(alloc: Global, write: Rewrite) -> Result<(Kind, usize), &'static st
     agreed(alloc, &bench, &mut buffer, &[write])
 }
 
-fn refused(cause: Refusal) -> Kind {
+fn refused(cause: PacketRefusal) -> Kind {
     Kind::Refused {
         cause,
         ops: 0,
@@ -92,7 +92,7 @@ fn refused(cause: Refusal) -> Kind {
 fn a_rewritten_word_counts_only_before_its_read(rt: HostRuntime) {
     let [slot, flags, frame, page, producer] = WRITES;
     let passed = passes([0, 1, 2, 3, 4, 5, 6, 7, 8, 9, 10, 11, 12, 13]);
-    let past_page = refused(Refusal::Size(SizeFault::PastPage));
+    let past_page = refused(PacketRefusal::Size(SizeFault::PastPage));
     let beyond = Kind::Halted {
         cause: Halt::TxProducer,
     };
@@ -100,8 +100,8 @@ fn a_rewritten_word_counts_only_before_its_read(rt: HostRuntime) {
     for (number, (place, value), turn, accesses) in [
         (4, slot, passed, 13),
         (3, slot, past_page, 7),
-        (4, flags, refused(Refusal::Grant), 9),
-        (5, frame, refused(Refusal::Grant), 9),
+        (4, flags, refused(PacketRefusal::Grant), 9),
+        (5, frame, refused(PacketRefusal::Grant), 9),
         (7, page, passed, 13),
         (0, producer, beyond, 1),
     ] {

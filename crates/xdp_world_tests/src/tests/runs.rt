@@ -16,7 +16,7 @@ fn counters(report: &Report) -> [u64; 2]
     [report.totals.at(0, 0, 0), report.totals.at(0, 1, 0)]
 }
 
-/// How many turns a queue has done, the first of them, and the second.
+/// The number of turns that a queue has done, the first of them, and the second.
 type Turns = (usize, Option<Kind>, Option<Kind>);
 
 fn turns_in(turns: &[Kept]) -> Turns {
@@ -27,7 +27,7 @@ fn turns_in(turns: &[Kept]) -> Turns {
     )
 }
 
-/// What a report shows: how many queues there are, the turns of the first and of the last, and how many counter operations.
+/// A report's number of queues, turns of the first and of the last, and number of counter operations.
 #[derive(Clone, Copy, Debug, PartialEq, Eq)]
 struct Seen {
     queues: usize,
@@ -72,7 +72,7 @@ fn add_packet(steps: &mut Vec<(usize, u32)>, more: &[(usize, u32)]) -> Result<()
     Ok(())
 }
 
-/// What is seen after the steps of a packet that passes, and these.
+/// Returns what is seen after the steps of a packet that passes, and these.
 fn stepped(alloc: Global, more: &[(usize, u32)]) -> Option<Seen> {
     let program = accepted(alloc, PASS)?;
     let mut steps = Vec::new(alloc);
@@ -97,7 +97,7 @@ fn a_packet_passes_and_then_the_queue_halts(rt: HostRuntime) {
     assert_eq!(rt; seen, Some(wanted));
 }
 
-/// What is seen of a whole run of a program, with its interface and where its rings begin.
+/// Returns what is seen of a whole run of a program, with its interface and where its rings begin.
 fn whole_run(
     alloc: Global,
     slots: &[u64],
@@ -118,7 +118,7 @@ fn whole_run(
     }
 }
 
-/// What is seen of a run of one queue that begins at an index.
+/// Returns what is seen of a run of one queue that begins at an index.
 fn one_queue(alloc: Global, start: u32, steps: &[(usize, u32)]) -> Option<Seen> {
     whole_run(alloc, PASS, 1, (0, start), steps)
 }
@@ -133,7 +133,7 @@ fn of_one(turns: Turns) -> Option<Seen> {
     })
 }
 
-/// What is seen of a whole run of a packet, and these steps.
+/// Returns what is seen of a whole run of a packet, and these steps.
 fn packet_run(alloc: Global, slots: &[u64], ifindex: u32, more: &[(usize, u32)]) -> Option<Seen> {
     let mut steps = Vec::new(alloc);
     match add_packet(&mut steps, more) {
@@ -199,7 +199,7 @@ fn add_turns(steps: &mut Vec<(usize, u32)>, order: usize) -> Result<(), AllocErr
     Ok(())
 }
 
-/// How many turns two queues have done in an order, how many operations were made, and the counters.
+/// Returns how many turns two queues have done in an order, how many operations were made, and the counters.
 fn added(alloc: Global, order: usize) -> Option<([usize; 2], usize, [u64; 2])> {
     let program = accepted(alloc, COUNT)?;
     let mut steps = Vec::new(alloc);
@@ -223,7 +223,7 @@ fn adds_of_all_queues_are_summed(rt: HostRuntime) {
     }
 }
 
-/// How many queues a new world has, how many operations, and the counters.
+/// Returns how many queues a new world has, how many operations, and the counters.
 fn without_a_step(alloc: Global) -> Option<(usize, usize, [u64; 2])> {
     let program = accepted(alloc, COUNT)?;
     match run_steps(alloc, &program, 1, 0, &[]) {

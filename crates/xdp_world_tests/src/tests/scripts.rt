@@ -5,7 +5,7 @@ use bpf_verify::Verified;
 use std::alloc::{AllocError, Global};
 use xdp_world::{Kept, Report};
 
-/// What a turn comes to, as it is printed: its kind, its cause or its packet's length, and its slots.
+/// The outcome of a turn, as it is printed: its kind, its cause or its packet's length, and its slots.
 #[derive(Clone, Copy, Debug, PartialEq, Eq, Drop)]
 enum Row {
     Idle,
@@ -53,7 +53,7 @@ struct Data {
     size: u32,
 }
 
-/// Why a turn has no packet.
+/// The reason why a turn has no packet.
 #[derive(Clone, Copy, Debug, PartialEq, Eq, Drop)]
 enum Ended {
     Refused(u8),
@@ -328,7 +328,7 @@ fn merge(
     Ok(())
 }
 
-/// Whether a queue's turns are what its script has to come to.
+/// Returns whether a queue's turns are what its script has to come to.
 fn agrees(frontend: &Frontend, turns: &[Kept]) -> bool {
     let mut rows = frontend.rows.iter();
     for kept in turns {
@@ -339,7 +339,7 @@ fn agrees(frontend: &Frontend, turns: &[Kept]) -> bool {
     rows.next().is_none()
 }
 
-/// Whether two queues' turns are what their scripts have to come to.
+/// Returns whether two queues' turns are what their scripts have to come to.
 fn both_agree(report: &Report, first: &Frontend, second: &Frontend) -> bool {
     match report.turns.as_slice() {
         [of_first, of_second] => agrees(first, of_first.as_slice())
@@ -366,7 +366,7 @@ fn run_scripts(
     }
 }
 
-/// Whether two scripts of twelve turns each, or fewer if a queue halts, come to their rows.
+/// Returns whether two scripts of twelve turns each, or fewer if a queue halts, come to their rows.
 fn run_two(alloc: Global, program: &Verified, seed: u64) -> bool {
     let start = if seed % 2 == 0 { 0 } else { 0xffff_ffff };
     let mut first = Frontend::new(alloc, seed.wrapping_mul(2).wrapping_add(1), 0, start);
@@ -375,7 +375,7 @@ fn run_two(alloc: Global, program: &Verified, seed: u64) -> bool {
     are_made && run_scripts(alloc, program, start, &first, &second)
 }
 
-/// How many seeds come to their rows before one that doesn't.
+/// Returns the number of seeds that come to their rows before one that doesn't.
 fn seeds_that_agree(alloc: Global) -> u64 {
     let Some(program) = accepted(alloc, PASS) else {
         return 0;

@@ -28,7 +28,7 @@ const READS: [u32; 11] = [
     1, 516, 0, 917_511, 1, 533, 50_462_976, 117_835_012, 185_207_048, 252_579_084, 0,
 ];
 
-/// How many turns the first of two queues made, and the only turn of the second.
+/// Returns the number of turns that the first of two queues made, and the only turn of the second.
 fn turns_of(report: &Report) -> Option<(usize, Kind)> {
     match report.turns.as_slice() {
         [first, second] => match second.as_slice() {

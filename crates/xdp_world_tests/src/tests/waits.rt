@@ -22,12 +22,12 @@ fn after(turns: usize, deliveries: usize, awaited: Awaited) -> Waited {
     }
 }
 
-/// What a wait wants that stores this event index, with what it is answered: the producer is `shown`.
+/// Returns what a wait wants that stores this event index, with what it is answered: the producer is `shown`.
 fn wait(event: u32, shown: u32) -> [(Want, u32); 2] {
     [(write(18, 1, event), 7), (read(18, 0), shown)]
 }
 
-/// Whether a wait for `pages` slots on queue 0 is under way.
+/// Returns whether a wait for `pages` slots on queue 0 is under way.
 fn waits(world: &mut World, pages: u32) -> Result<bool, AllocError>
     requires { 1 ≤ vec_len world.old.queues }
     ensures { vec_len world.new.queues ≡ vec_len world.old.queues }
@@ -128,7 +128,7 @@ fn until_posted(world: &mut World) -> Result<bool, AllocError>
     Ok(early && few && begun && again && later && sent && last && told)
 }
 
-/// What is done with a world of two queues, whose rings begin at 0.
+/// An activity of a world of two queues, whose rings begin at 0.
 #[derive(Clone, Copy)]
 enum Scenario {
     Posted,
@@ -141,7 +141,7 @@ enum Scenario {
 }
 
 impl Scenario {
-    /// Whether all is as it has to be.
+    /// Returns whether all is as it has to be.
     fn seen(self, world: &mut World) -> Result<bool, AllocError>
         requires { vec_len world.old.queues ≡ 2 }
     {
@@ -157,7 +157,7 @@ impl Scenario {
     }
 }
 
-/// Whether all is as it has to be, if there is memory.
+/// Returns whether all is as it has to be, if there is memory.
 fn holds(alloc: Global, scenario: Scenario) -> Option<bool> {
     let program = accepted(alloc, PASS)?;
     let layout = Layout::make(alloc, 2).ok()?;

@@ -80,7 +80,7 @@ fn assert_failed_reads<R: Abort + Threads + Wait + Sync>(
     }
 }
 
-/// A command's status is 4 and a beginning of its text is printed, whichever of its writes fails.
+/// A command's status is 4 and a prefix of its text is printed, whichever of its writes fails.
 fn assert_failed_writes<R: Abort + Threads + Wait + Sync>(
     rt: &R,
     alloc: Global,

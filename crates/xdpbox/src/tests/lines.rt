@@ -2,7 +2,7 @@
 
 use bpf_maps::{MapShape, Totals};
 use std::test::Fail;
-use thread_pair::{Deliveries, Host, PairFault, PairReport, PairRow};
+use thread_pair::{Deliveries, OnPass, PairFault, PairReport, PairRow};
 use xdp_commands::{
     Paired, Request, add_counters, outcome, paired_status, paired_text, read_words, run_words,
 };
@@ -38,12 +38,12 @@ fn a_row_of_a_pair_has_each_number_in_its_place(rt: HostRuntime) -> Result<(), F
     })?;
     let totals = Totals::make(alloc, &[])?;
     let paired = Paired::Ran(PairReport { rows, totals });
-    let text = paired_text(alloc, Host::Takes, &[], &[], &paired)?;
+    let text = paired_text(alloc, OnPass::Takes, &[], &[], &paired)?;
     assert_eq!(rt;
         text.as_str(),
         "queue 0 sent 1 copied 2 refused 3 halted 6 received 5\nqueue 1 sent 10 copied 20 refused 30 halted 0 received 50\n"
     );
-    let text = paired_text(alloc, Host::Answers, &[], &[], &paired)?;
+    let text = paired_text(alloc, OnPass::Answers, &[], &[], &paired)?;
     assert_eq!(rt;
         text.as_str(),
         "queue 0 sent 1 copied 2 refused 3 halted 6 received 5\nqueue 0 delivered 6 few 7 refused 8\nqueue 1 sent 10 copied 20 refused 30 halted 0 received 50\nqueue 1 delivered 60 few 70 refused 80\n"
@@ -81,7 +81,7 @@ fn what_fails_has_a_line_of_its_own(rt: HostRuntime) -> Result<(), Fail> {
         (PairFault::Thread, "threads refused\n"),
     ] {
         let paired = outcome(Err(fault))?;
-        let text = paired_text(alloc, Host::Answers, &[], &[], &paired)?;
+        let text = paired_text(alloc, OnPass::Answers, &[], &[], &paired)?;
         assert_eq!(rt; text.as_str(), line);
         assert_eq!(rt; paired_status(&paired), 4);
     }
@@ -89,7 +89,7 @@ fn what_fails_has_a_line_of_its_own(rt: HostRuntime) -> Result<(), Fail> {
     Ok(())
 }
 
-/// How many turns the words ask for.
+/// Returns the number of turns that the words ask for.
 fn turns_of(rt: &HostRuntime, words: &[&str]) -> Result<Option<u32>, Fail> {
     Ok(match read_words(rt.alloc(), words)? {
         Some(Request::Pair { turns, .. }) => Some(turns),

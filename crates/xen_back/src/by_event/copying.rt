@@ -32,7 +32,7 @@ use arrayvec::ArrayVec;
 use xen_host::Room;
 use xen_netif::{Chain, Fragment, Status};
 use xen_page::{Entry, Place, Rights, check};
-use xen_turns::{Kind, Refusal, State, Wiring};
+use xen_turns::{Kind, PacketRefusal, State, Wiring};
 
 /// After a whole chain.
 pub(crate) fn begin_copy<'p, 'b>(
@@ -45,7 +45,7 @@ pub(crate) fn begin_copy<'p, 'b>(
     ensures { rest_in wiring.now state.now result ≡ after_chain wiring.now state.now chain (offered_fragments wiring.now.offers chain) }
 {
     match chain.offered_fragments(wiring.offers) {
-        Err(fault) => Stage::At(packet, refuse(state, &chain, Refusal::Size(fault))),
+        Err(fault) => Stage::At(packet, refuse(state, &chain, PacketRefusal::Size(fault))),
         Ok(fragments) => {
             let mut packet = packet;
             packet.clear();
@@ -55,7 +55,7 @@ pub(crate) fn begin_copy<'p, 'b>(
 }
 
 /// The chain is answered with ERROR.
-fn refuse(state: &State, chain: &Chain, cause: Refusal) -> Phase
+fn refuse(state: &State, chain: &Chain, cause: PacketRefusal) -> Phase
     ensures { (w : WiringView) (packet : List ℕ) → rest_at w state.now packet result
         ≡ respond w state.now chain.now Error (Refused cause 0 (length chain.now)) }
 {
@@ -87,7 +87,7 @@ fn next_fragment<'p, 'b>(
     } else {
         let fragment = fragments[i];
         match wiring.vif.table.place(fragment.gref) {
-            None => Stage::At(packet, refuse(state, &chain, Refusal::Grant)),
+            None => Stage::At(packet, refuse(state, &chain, PacketRefusal::Grant)),
             Some(at) => Stage::EntryFlags(entering(packet, chain, fragments, i, at)),
         }
     }
@@ -145,7 +145,7 @@ pub(crate) fn after_entry<'p, 'b>(
         Entry::of_words(flags_word, frame_word),
         Rights::ReadOnly,
     ) {
-        Err(_) => Stage::At(packet, refuse(state, &chain, Refusal::Grant)),
+        Err(_) => Stage::At(packet, refuse(state, &chain, PacketRefusal::Grant)),
         Ok(frame) => {
             let fragment = fragments[i];
             begin_page(

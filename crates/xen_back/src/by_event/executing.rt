@@ -37,7 +37,7 @@ pub(crate) fn begin_run<'p, 'b>(
     Stage::Run(Executing { chain, vm, ops: 0 })
 }
 
-/// What the program wants.
+/// Returns what the program wants.
 pub(crate) fn executing_want(run: &Executing) -> Want
     ensures { (w : WiringView) (s : StateView) → result
         ≡ want_of (bind (program (left run.now.vm) run.now.ops) (after_run w s run.now.chain)) }

@@ -17,7 +17,7 @@ use crate::by_event::stage::{Stage, Transmitting};
 use crate::copy_buf::CopyBuf;
 use xen_host::Room;
 use xen_netif::{Chain, RxOffload};
-use xen_rx_fill::{Outcome, Packet, Progress, Transmit};
+use xen_rx_fill::{Progress, RxPacket, Transmit, TransmitOutcome};
 use xen_steps::Want;
 use xen_turns::decisions::{Reply, after_sending};
 use xen_turns::{State, Wiring};
@@ -34,18 +34,18 @@ pub(crate) fn begin_send(chain: Chain, ops: u32) -> Transmitting
 }
 
 /// The packet, which leaves the frontend nothing to do.
-fn whole<'t>(packet: &'t CopyBuf<'_>) -> Packet<'t>
+fn whole<'t>(packet: &'t CopyBuf<'_>) -> RxPacket<'t>
     ensures offload { result.offload ≡ Whole }
     ensures same { result.bytes.now ≡ packet.now }
     ensures short { length result.bytes.now ≤ 65535 }
 {
-    Packet {
+    RxPacket {
         offload: RxOffload::Whole,
         bytes: packet.bytes(),
     }
 }
 
-/// What a transmit wants.
+/// Returns what a transmit wants.
 pub(crate) fn sent_want(
     wiring: &Wiring,
     state: &State,
@@ -105,7 +105,7 @@ fn progressed<'p, 'b>(
 }
 
 /// After the transmit.
-fn transmitted(state: &State, chain: &Chain, ops: u32, outcome: Outcome) -> Phase
+fn transmitted(state: &State, chain: &Chain, ops: u32, outcome: TransmitOutcome) -> Phase
     ensures { (w : WiringView) (packet : List ℕ) → rest_at w state.now packet result
         ≡ after_transmit w state.now chain.now packet ops outcome }
 {

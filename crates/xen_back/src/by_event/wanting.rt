@@ -15,7 +15,7 @@ use xen_steps::{Want, header, tx_entry};
 use xen_turns::decisions::slot_index;
 use xen_turns::{State, Wiring};
 
-/// What a phase wants.
+/// Returns what a phase wants.
 fn phase_want(wiring: &Wiring, state: &State, phase: &Phase) -> Want
     ensures { (packet : List ℕ) → result ≡ want_of (rest_at wiring.now state.now packet phase.now) }
 {
@@ -51,7 +51,7 @@ fn phase_want(wiring: &Wiring, state: &State, phase: &Phase) -> Want
     }
 }
 
-/// What a stage wants.
+/// Returns what a stage wants.
 pub(crate) fn stage_want(wiring: &Wiring, state: &State, stage: &Stage) -> Want
     ensures { result ≡ want_of (rest_in wiring.now state.now stage.now) }
 {

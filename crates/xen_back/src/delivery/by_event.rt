@@ -17,13 +17,13 @@ use crate::delivery::underway::Delivering;
 use std::mem;
 use xen_host::is_taken;
 use xen_netif::Accepts;
-use xen_rx_fill::{Packet, Progress, Transmit, Vif};
+use xen_rx_fill::{Progress, RxPacket, Transmit, Vif};
 use xen_steps::{Answer, Want};
 use xen_turns::decisions::{can_be_delivered, delivered};
 use xen_turns::{Delivery, State, Wiring};
 
 /// A delivery of which nothing is done.
-fn begun<'d>(accepts: &Accepts, state: &State, packet: Packet<'d>) -> Moving<'d>
+fn begun<'d>(accepts: &Accepts, state: &State, packet: RxPacket<'d>) -> Moving<'d>
     ensures { (v : VifView) → rest_moving v state.now result
         ≡ whole_delivery v accepts.now state.now packet.entry.offload packet.entry.bytes.now }
 {
@@ -38,7 +38,7 @@ fn begun<'d>(accepts: &Accepts, state: &State, packet: Packet<'d>) -> Moving<'d>
 }
 
 /// A delivery of a frame, if the frontend accepts what it leaves to it.
-fn begun_frame<'d>(accepts: &Accepts, state: &State, packet: Packet<'d>) -> Moving<'d>
+fn begun_frame<'d>(accepts: &Accepts, state: &State, packet: RxPacket<'d>) -> Moving<'d>
     requires { is_frame packet.bytes.now ≡ true }
     ensures { (v : VifView) → rest_moving v state.now result
         ≡ if_taken v state.now packet.entry.offload packet.entry.bytes.now
@@ -55,7 +55,7 @@ fn begun_frame<'d>(accepts: &Accepts, state: &State, packet: Packet<'d>) -> Movi
 }
 
 /// A delivery of a packet that is accepted, unless the queue has halted.
-fn begun_accepted<'d>(state: &State, packet: Packet<'d>) -> Moving<'d>
+fn begun_accepted<'d>(state: &State, packet: RxPacket<'d>) -> Moving<'d>
     requires { is_frame packet.bytes.now ≡ true }
     ensures { (v : VifView) → rest_moving v state.now result
         ≡ unless_halted v state.now packet.entry.offload packet.entry.bytes.now state.now.halt }
@@ -91,7 +91,7 @@ fn shared<'p>(vif: &Vif<'p>) -> Vif<'p>
 pub(crate) fn underway<'p, 'd>(
     wiring: &Wiring<'p>,
     state: &State,
-    packet: Packet<'d>,
+    packet: RxPacket<'d>,
 ) -> Delivering<'p, 'd>
     requires wired { IsWired wiring.now.vif }
     ensures left { left_of result
@@ -107,7 +107,7 @@ pub(crate) fn underway<'p, 'd>(
     }
 }
 
-/// What a transmit wants.
+/// Returns what a transmit wants.
 fn sending_want(vif: &Vif, state: &State, sending: &Sending) -> Want
     ensures want { result ≡ want_of (rest_moving vif.now state.now (Moving.Sending sending.now)) }
     ensures asks { result ≢ Want.Done }
@@ -115,7 +115,7 @@ fn sending_want(vif: &Vif, state: &State, sending: &Sending) -> Want
     sending.transmit.want(vif, state.rx_index, &sending.packet)
 }
 
-/// What a delivery wants.
+/// Returns what a delivery wants.
 fn moving_want(vif: &Vif, state: &State, moving: &Moving) -> Want
     ensures { result ≡ want_of (rest_moving vif.now state.now moving.now) }
 {
@@ -150,7 +150,7 @@ fn sending_fed<'d>(vif: &Vif, state: &State, sending: Sending<'d>, word: u32) ->
     }
 }
 
-/// What a delivery that wants nothing more came to.
+/// Returns what a delivery that wants nothing more came to.
 pub(crate) fn outcome_of(vif: &Vif, state: &State, moving: &Moving) -> (State, Delivery)
     requires { want_of (rest_moving vif.now state.now moving.now) ≡ Want.Done }
     ensures { rest_moving vif.now state.now moving.now ≡ done (result.0, result.1) }
@@ -166,7 +166,7 @@ pub(crate) fn outcome_of(vif: &Vif, state: &State, moving: &Moving) -> (State, D
 }
 
 impl<'p, 'd> Delivering<'p, 'd> {
-    /// What the delivery wants next: [`Want::Done`] once it is over.
+    /// Returns what the delivery wants next: [`Want::Done`] once it is over.
     pub fn want(&self) -> Want
         ensures want { result ≡ want_of (left_of self.now) }
         ensures within { result ≢ Want.Done → IsPageWant (frames_of self.now) result }
@@ -175,7 +175,7 @@ impl<'p, 'd> Delivering<'p, 'd> {
         moving_want(&self.vif, &self.state, &self.moving)
     }
 
-    /// What the delivery wants next, for a caller that holds it by `&mut`.
+    /// Returns what the delivery wants next, for a caller that holds it by `&mut`.
     pub fn wanted(&mut self) -> Want
         ensures { IsDeliveryAsked result self.old self.new }
     {

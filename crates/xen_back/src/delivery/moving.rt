@@ -2,18 +2,18 @@
 
 ghost use Rattle.std.specs.Prelude.{◌≤◌, length};
 
-use xen_rx_fill::{Packet, Transmit};
+use xen_rx_fill::{RxPacket, Transmit};
 use xen_turns::{Delivery, State};
 
 /// A packet that is being sent.
 #[derive(Drop)]
 pub struct Sending<'d> {
-    pub packet: Packet<'d>,
+    pub packet: RxPacket<'d>,
     pub transmit: Transmit,
     ghost short: { length packet.bytes.now ≤ 65535 },
 }
 
-/// Where a delivery is.
+/// The stage of a delivery.
 #[derive(Drop)]
 pub enum Moving<'d> {
     Sending(Sending<'d>),

@@ -42,7 +42,7 @@ fn looking_fed(state: &State, wanted: u32, looking: Looking, word: u32) -> Looki
 }
 
 impl Awaiting {
-    /// What the wait wants next: [`Want::Done`] once it is over.
+    /// Returns what the wait wants next: [`Want::Done`] once it is over.
     pub fn want(&self) -> Want
         ensures want { result ≡ want_of (left_of_wait self.now) }
         ensures within { (frames : ℕ) → self.now.rx < frames → result ≢ Want.Done → IsPageWant frames result }

@@ -2,7 +2,7 @@
 
 use xen_turns::{Awaited, State};
 
-/// Where a wait is.
+/// The stage of a wait.
 #[derive(Clone, Copy, Debug, PartialEq, Eq)]
 pub enum Looking {
     /// The event index is to be stored.
@@ -20,7 +20,7 @@ pub struct Awaiting {
     pub(crate) rx: u32,
     /// The queue as it was begun.
     pub(crate) state: State,
-    /// How many slots are awaited.
+    /// The number of slots that are awaited.
     pub(crate) wanted: u32,
     pub(crate) looking: Looking,
 }

@@ -12,7 +12,7 @@ use crate::queue::Queue;
 use xen_netif::RxOffload;
 use xen_page::Bus;
 use xen_ring::Ports;
-use xen_rx_fill::Packet;
+use xen_rx_fill::RxPacket;
 use xen_steps::Want;
 use xen_turns::Delivery;
 
@@ -43,7 +43,7 @@ impl<'p, 'b> Queue<'p, 'b> {
         requires ready { IsReady self.now }
         ensures { IsBegun self.now offload packet.now result }
     {
-        let packet = Packet {
+        let packet = RxPacket {
             offload,
             bytes: packet,
         };

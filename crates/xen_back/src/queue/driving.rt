@@ -27,7 +27,7 @@ use xen_steps::{Answer, Want};
 use xen_turns::{State, Turn};
 
 impl<'p, 'b> Queue<'p, 'b> {
-    /// What the queue wants next.
+    /// Returns what the queue wants next.
     pub fn want(&self) -> Want
         ensures want { result ≡ want_of (rest self.now) }
         ensures within { result ≢ Want.Done → may_want (wiring_of self.now) result }
@@ -40,7 +40,7 @@ impl<'p, 'b> Queue<'p, 'b> {
         }
     }
 
-    /// What the queue wants next, for a caller that holds it by `&mut`.
+    /// Returns what the queue wants next, for a caller that holds it by `&mut`.
     pub fn wanted(&mut self) -> Want
         ensures { IsAsked result self.old self.new }
     {
@@ -122,7 +122,7 @@ impl<'p, 'b> Queue<'p, 'b> {
         }
     }
 
-    /// What the queue is between turns; inside one, what it was when that began.
+    /// Returns what the queue is between turns; inside one, what it was when that began.
     pub fn state(&self) -> State
         ensures { result ≡ state_of self.now }
     {

@@ -12,10 +12,10 @@ use std::alloc::Global;
 use xen_back::{Awaited, Delivery, Halt, Queue};
 use xen_page::ScriptBus;
 
-/// What waiting comes to, and how many accesses it makes.
+/// The outcome of a wait, and the number of accesses that it makes.
 type Waited = (Awaited, usize);
 
-/// What waiting for `wanted` slots comes to if the producer is this.
+/// Returns what waiting for `wanted` slots comes to if the producer is this.
 fn awaited(alloc: Global, queue: &mut Queue, wanted: u32, producer: u32) -> Option<Waited>
     requires ready { IsReady queue.old }
     requires owners { length (wiring_of queue.old).vif.owners.now ≡ 20 }
@@ -27,7 +27,7 @@ fn awaited(alloc: Global, queue: &mut Queue, wanted: u32, producer: u32) -> Opti
     Some((awaited, bus.accesses().len()))
 }
 
-/// What waiting for `wanted` slots comes to with `posted` slots posted, if it writes the event index and then reads the
+/// Returns what waiting for `wanted` slots comes to with `posted` slots posted, if it writes the event index and then reads the
 /// producer.
 fn waited(alloc: Global, queue: &mut Queue, start: u32, wanted: u32, posted: u32) -> Option<Awaited>
     requires ready { IsReady queue.old }
@@ -55,7 +55,7 @@ fn waited_first(
     waited(alloc, &mut queue, start, wanted, posted)
 }
 
-/// How many slots are awaited, how many are posted, and what that comes to.
+/// The numbers of slots that are awaited and that are posted, and the outcome.
 const ROWS: [(u32, u32, Awaited); 7] = [
     (2, 1, Awaited::Waiting),
     (2, 2, Awaited::Posted),
@@ -95,7 +95,7 @@ fn slots_are_awaited(rt: HostRuntime) {
     }
 }
 
-/// What two waits come to, the first with a producer past the ring, and then a delivery.
+/// Returns what two waits come to, the first with a producer past the ring, and then a delivery.
 fn halting(
     alloc: Global,
     queue: &mut Queue,

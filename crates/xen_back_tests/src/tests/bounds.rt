@@ -11,7 +11,7 @@ const QUEUES: u32 = 2_000;
 
 const TURNS: u32 = 50;
 
-/// How many events of each kind a turn had.
+/// The number of events of each kind that a turn had.
 #[derive(Clone, Copy)]
 struct Events {
     accesses: u32,
@@ -129,7 +129,7 @@ fn queue_turns(
     random_turns(&mut queue, start, seed)
 }
 
-/// How many queues have turns that are all within the bounds.
+/// Returns the number of queues that have turns that are all within the bounds.
 fn queues_within_the_bounds(alloc: Global, bench: &Bench, buffer: &mut Buffer) -> u32 {
     let mut seed = 2_463_534_242;
     for number in 0..QUEUES {

@@ -4,11 +4,11 @@ use super::fixtures::{PASSES, joined, kind, notice, read, turn, write};
 use super::kind::Kind;
 use super::slots::{STARTS, slot, tx};
 use std::alloc::Global;
-use xen_back::{Halt, Refusal};
+use xen_back::{Halt, PacketRefusal};
 use xen_netif::{ChainFault, SizeFault};
 use xen_page::Access;
 
-/// What a queue answers a chain of two slots with, ids 7 and 8, if it is refused.
+/// Returns what a queue answers a chain of two slots with, ids 7 and 8, if it is refused.
 fn refused(start: u32) -> [Access; 3] {
     [
         write(17, tx(start, 0, 0), 0xffff_0007),
@@ -17,7 +17,7 @@ fn refused(start: u32) -> [Access; 3] {
     ]
 }
 
-/// How many accesses a turn makes that halts, with no notice.
+/// Returns the number of accesses that a turn makes that halts, with no notice.
 fn halts(alloc: Global, start: u32, answers: &[u32], cause: Halt) -> Option<usize> {
     let seen = turn(alloc, &PASSES, start, answers)?;
     (seen.kind == Kind::Halted { cause } && !seen.notified).then_some(seen.accesses.len())
@@ -37,7 +37,7 @@ fn nothing_shown_is_idle_after_a_second_look(rt: HostRuntime) {
     }
 }
 
-/// Whether a packet of fourteen bytes that are 0 passes, with a notice.
+/// Returns whether a packet of fourteen bytes that are 0 passes, with a notice.
 fn passes_zeros(alloc: Global, start: u32, answers: &[u32]) -> bool {
     match turn(alloc, &PASSES, start, answers) {
         Some(seen) => seen.shows(Kind::ran(2, 1), &[0; 14]) && seen.notified,
@@ -148,7 +148,7 @@ fn an_offload_is_refused(rt: HostRuntime) {
             start,
         ];
         let accesses = offload_accesses(start);
-        let kind = Kind::refused(Refusal::Size(SizeFault::ExtraInfo), 2);
+        let kind = Kind::refused(PacketRefusal::Size(SizeFault::ExtraInfo), 2);
         let notice = notice(rt.alloc(), &PASSES, start, &answers, (kind, &accesses));
         assert_eq!(rt; notice, Some(false));
     }
@@ -159,16 +159,16 @@ fn a_packet_below_fourteen_bytes_is_refused(rt: HostRuntime) {
     for start in STARTS {
         let answers = [start.wrapping_add(1), 2, 0, slot(7, 13)];
         let kind = kind(rt.alloc(), &PASSES, start, &answers);
-        let wanted = Kind::refused(Refusal::Size(SizeFault::ShortPacket), 1);
+        let wanted = Kind::refused(PacketRefusal::Size(SizeFault::ShortPacket), 1);
         assert_eq!(rt; kind, Some(wanted));
     }
 }
 
-/// Whether a packet below fourteen bytes is refused, and a notice is sent, if the event index is `event`.
+/// Returns whether a packet below fourteen bytes is refused, and a notice is sent, if the event index is `event`.
 fn is_told(alloc: Global, start: u32, event: u32) -> Option<bool> {
     let answers = [start.wrapping_add(1), 2, 0, slot(7, 13), event];
     let seen = turn(alloc, &PASSES, start, &answers)?;
-    let wanted = Kind::refused(Refusal::Size(SizeFault::ShortPacket), 1);
+    let wanted = Kind::refused(PacketRefusal::Size(SizeFault::ShortPacket), 1);
     (seen.kind == wanted).then_some(seen.notified)
 }
 
@@ -181,7 +181,7 @@ fn a_refusal_is_told_where_a_notice_is_due(rt: HostRuntime) {
     }
 }
 
-/// Whether a packet whose later sizes are larger than it is refused, with a refusal's writes.
+/// Returns whether a packet whose later sizes are larger than it is refused, with a refusal's writes.
 fn refuses_later_sizes(alloc: Global, start: u32) -> bool {
     let answers = [
         start.wrapping_add(2),
@@ -192,7 +192,7 @@ fn refuses_later_sizes(alloc: Global, start: u32) -> bool {
         0,
         slot(8, 101),
     ];
-    let kind = Kind::refused(Refusal::Size(SizeFault::LaterSizes), 2);
+    let kind = Kind::refused(PacketRefusal::Size(SizeFault::LaterSizes), 2);
     match turn(alloc, &PASSES, start, &answers) {
         Some(seen) => seen.kind == kind && seen.wrote(17, &refused(start)),
         None => false,
@@ -211,7 +211,7 @@ fn a_fragment_past_its_page_is_refused(rt: HostRuntime) {
     for start in STARTS {
         let answers = [start.wrapping_add(1), 2, 4083, slot(7, 14)];
         let kind = kind(rt.alloc(), &PASSES, start, &answers);
-        let wanted = Kind::refused(Refusal::Size(SizeFault::PastPage), 1);
+        let wanted = Kind::refused(PacketRefusal::Size(SizeFault::PastPage), 1);
         assert_eq!(rt; kind, Some(wanted));
     }
 }
@@ -232,13 +232,13 @@ fn halts_have_their_numbers(rt: HostRuntime) {
 #[test]
 fn refusals_have_their_numbers(rt: HostRuntime) {
     let numbers = [
-        Refusal::Size(SizeFault::ShortPacket).number(),
-        Refusal::Size(SizeFault::LaterSizes).number(),
-        Refusal::Size(SizeFault::PastPage).number(),
-        Refusal::Grant.number(),
-        Refusal::Size(SizeFault::ExtraInfo).number(),
-        Refusal::FewSlots.number(),
-        Refusal::RxGrant.number(),
+        PacketRefusal::Size(SizeFault::ShortPacket).number(),
+        PacketRefusal::Size(SizeFault::LaterSizes).number(),
+        PacketRefusal::Size(SizeFault::PastPage).number(),
+        PacketRefusal::Grant.number(),
+        PacketRefusal::Size(SizeFault::ExtraInfo).number(),
+        PacketRefusal::FewSlots.number(),
+        PacketRefusal::RxGrant.number(),
     ];
     assert_eq!(rt; numbers, [1, 2, 3, 4, 5, 6, 7]);
 }

@@ -4,7 +4,7 @@ use super::fixtures::{PASSES, Seen, count, joined, read, turn, write};
 use super::kind::Kind;
 use super::slots::{STARTS, slot, tx};
 use std::alloc::{AllocError, Global};
-use xen_back::Refusal;
+use xen_back::PacketRefusal;
 use xen_page::Access;
 
 /// The answers for a packet of one slot, id 7, whose entry and page words are these.
@@ -25,7 +25,7 @@ fn one_slot(alloc: Global, start: u32, second: u32, size: u16, later: &[u32]) ->
     turn(alloc, &PASSES, start, answers.as_slice())
 }
 
-/// What it comes to if its fourteen bytes begin the page, and how many accesses it makes.
+/// Returns what it comes to if its fourteen bytes begin the page, and how many accesses it makes.
 fn one_slot_count(alloc: Global, start: u32, later: &[u32]) -> Option<(Kind, usize)> {
     let seen = one_slot(alloc, start, 0, 14, later)?;
     Some((seen.kind, seen.accesses.len()))
@@ -51,7 +51,7 @@ fn fourteen_accesses(start: u32) -> [Access; 13] {
     ]
 }
 
-/// Whether the bytes 0 to 13 pass with these accesses, and with a notice.
+/// Returns whether the bytes 0 to 13 pass with these accesses, and with a notice.
 fn fourteen_pass(alloc: Global, start: u32) -> bool {
     let shown = start.wrapping_add(1);
     let later = [
@@ -80,7 +80,7 @@ fn fourteen_bytes_pass_with_a_notice(rt: HostRuntime) {
     }
 }
 
-/// How many accesses such a packet makes, and whether a notice is sent.
+/// Returns the number of accesses that such a packet makes, and whether a notice is sent.
 fn one_slot_notice(alloc: Global, start: u32, later: &[u32]) -> Option<(usize, bool)> {
     let seen = one_slot(alloc, start, 0, 14, later)?;
     Some((seen.accesses.len(), seen.notified))
@@ -117,14 +117,14 @@ fn two_slots_turn(alloc: Global, start: u32) -> Option<Seen> {
     turn(alloc, &PASSES, start, answers.as_slice())
 }
 
-/// How many bytes of a packet there are, and how many of them are 1 and 2.
+/// Returns how many bytes of a packet there are, and how many of them are 1 and 2.
 fn ones_and_twos(packet: &[u8]) -> [usize; 3] {
     let ones = packet.iter().filter(|byte| **byte == 1).count();
     let twos = packet.iter().filter(|byte| **byte == 2).count();
     [packet.len(), ones, twos]
 }
 
-/// How many bytes of the packet of two slots there are, and how many of them are 1 and 2, if both are answered.
+/// Returns how many bytes of the packet of two slots there are, and how many of them are 1 and 2, if both are answered.
 fn two_slots_packet(alloc: Global, start: u32) -> Option<[usize; 3]> {
     let writes = [
         write(17, tx(start, 0, 0), 7),
@@ -144,7 +144,7 @@ fn two_slots_are_one_packet(rt: HostRuntime) {
     }
 }
 
-/// What a packet whose second fragment is empty comes to, and how many accesses it makes, if that fragment's entry is read
+/// Returns what a packet whose second fragment is empty comes to, and how many accesses it makes, if that fragment's entry is read
 /// before the packet is answered.
 fn empty_fragment(alloc: Global, start: u32) -> Option<(Kind, usize)> {
     let answers = [
@@ -199,7 +199,7 @@ fn the_last_words_of_a_page_are_read(rt: HostRuntime) {
     }
 }
 
-/// How often one of two accesses was made.
+/// Returns how often one of two accesses was made.
 fn made(accesses: &[Access], first: Access, second: Access) -> usize {
     accesses
         .iter()
@@ -207,7 +207,7 @@ fn made(accesses: &[Access], first: Access, second: Access) -> usize {
         .count()
 }
 
-/// How often a word is read in which one fragment ends and the next one begins, if each has its own bytes of it.
+/// Returns how often a word is read in which one fragment ends and the next one begins, if each has its own bytes of it.
 fn reads_of_shared_word(alloc: Global, start: u32) -> Option<usize> {
     let answers = [
         start.wrapping_add(2),
@@ -249,7 +249,10 @@ fn a_grant_that_fails_its_check_is_refused(rt: HostRuntime) {
     for start in STARTS {
         for entry in [[0, 19], [0x2_0001, 19], [1, 0], [1, 20]] {
             let found = one_slot_count(rt.alloc(), start, &entry);
-            assert_eq!(rt; found, Some((Kind::refused(Refusal::Grant, 1), 4 + 2 + 3)));
+            assert_eq!(rt;
+                found,
+                Some((Kind::refused(PacketRefusal::Grant, 1), 4 + 2 + 3))
+            );
         }
     }
 }
@@ -259,6 +262,9 @@ fn a_reference_outside_the_table_makes_no_access(rt: HostRuntime) {
     for start in STARTS {
         let answers = [start.wrapping_add(1), 512, 0, slot(7, 14)];
         let found = count(rt.alloc(), &PASSES, start, &answers);
-        assert_eq!(rt; found, Some((Kind::refused(Refusal::Grant, 1), 4 + 3)));
+        assert_eq!(rt;
+            found,
+            Some((Kind::refused(PacketRefusal::Grant, 1), 4 + 3))
+        );
     }
 }

@@ -7,12 +7,12 @@ use super::fixtures::{PASSES, access_to, answer_to, is_notified, wrote};
 use crate::bench::{Bench, FRAMES, ready};
 use bpf_vm::Buffer;
 use std::alloc::Global;
-use xen_back::{Delivery, Packet, Queue, Want};
+use xen_back::{Delivery, Queue, RxPacket, Want};
 use xen_netif::{ACCEPTS_WHOLE, Accepts, RxOffload};
 use xen_page::{Access, ScriptBus};
 use xen_ring::Ports;
 
-/// Where word `word` of the i-th rx slot from `start` lies in the rx ring's page.
+/// Returns where word `word` of the i-th rx slot from `start` lies in the rx ring's page.
 pub fn rx(start: u32, i: u32, word: u32) -> u32
     requires { word < 2 }
 {
@@ -28,15 +28,15 @@ pub struct Delivered {
 }
 
 impl Delivered {
-    /// Whether these are its writes to a frame, in order.
+    /// Returns whether these are its writes to a frame, in order.
     pub fn wrote(&self, frame: u32, wanted: &[Access]) -> bool {
         wrote(self.accesses.as_slice(), frame, wanted)
     }
 }
 
 /// A packet that leaves the frontend nothing to do.
-fn whole(bytes: &[u8]) -> Packet<'_> {
-    Packet {
+fn whole(bytes: &[u8]) -> RxPacket<'_> {
+    RxPacket {
         offload: RxOffload::Whole,
         bytes,
     }
@@ -61,7 +61,7 @@ pub fn deliver(
 fn deliver_in_one_go(
     alloc: Global,
     queue: &mut Queue,
-    packet: Packet<'_>,
+    packet: RxPacket<'_>,
     answers: &[u32],
 ) -> Option<Delivered>
     requires ready { IsReady queue.old }
@@ -86,7 +86,7 @@ fn deliver_in_one_go(
 fn deliver_by_event(
     alloc: Global,
     queue: &mut Queue,
-    packet: Packet<'_>,
+    packet: RxPacket<'_>,
     answers: &[u32],
 ) -> Option<Delivered>
     requires ready { IsReady queue.old }
@@ -124,7 +124,7 @@ fn delivered_in_one_go(
     bench: &Bench,
     buffer: &mut Buffer,
     start: u32,
-    packet: Packet<'_>,
+    packet: RxPacket<'_>,
     answers: &[u32],
 ) -> Option<Delivered> {
     let mut queue = bench.queue(alloc, start, buffer)?;
@@ -137,7 +137,7 @@ fn delivered_by_event(
     bench: &Bench,
     buffer: &mut Buffer,
     start: u32,
-    packet: Packet<'_>,
+    packet: RxPacket<'_>,
     answers: &[u32],
 ) -> Option<Delivered> {
     let mut queue = bench.queue(alloc, start, buffer)?;
@@ -159,7 +159,7 @@ pub fn delivered_to(
     alloc: Global,
     accepts: Accepts,
     start: u32,
-    packet: Packet<'_>,
+    packet: RxPacket<'_>,
     answers: &[u32],
 ) -> Option<Delivered> {
     let (bench, mut buffer) = ready(alloc, &PASSES, &[])?;

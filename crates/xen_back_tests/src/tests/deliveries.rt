@@ -13,7 +13,7 @@ use xen_back::{Delivery, Halt, Queue};
 use xen_page::{Access, ScriptBus};
 use xen_ring::Ports;
 
-/// What their delivery into the first slot makes, with this event index read at its end.
+/// Returns what their delivery into the first slot makes, with this event index read at its end.
 fn fourteen_accesses(start: u32, event: u32) -> [Access; 13] {
     let one = start.wrapping_add(1);
     [
@@ -33,7 +33,7 @@ fn fourteen_accesses(start: u32, event: u32) -> [Access; 13] {
     ]
 }
 
-/// What the delivery of fourteen bytes comes to, and whether a notice is sent, if it makes these accesses.
+/// Returns what the delivery of fourteen bytes comes to, and whether a notice is sent, if it makes these accesses.
 fn short_packet(alloc: Global, start: u32, event: u32) -> Option<(Delivery, bool)> {
     let answers = [start.wrapping_add(1), 9, 5, 1, 16, event];
     let seen = delivered_first(alloc, start, &FOURTEEN, &answers)?;
@@ -62,7 +62,8 @@ fn fours_delivered(alloc: Global, start: u32, length: usize, answers: &[u32]) ->
     delivered_first(alloc, start, packet.as_slice(), answers)
 }
 
-/// What the delivery of 4,097 bytes comes to, and how many accesses it makes, if it writes the second buffer and the rx ring.
+/// Returns what the delivery of 4,097 bytes comes to, and how many accesses it makes, if it writes the second buffer and the rx
+/// ring.
 fn two_pages(alloc: Global, start: u32) -> Option<(Delivery, usize)> {
     let two = start.wrapping_add(2);
     let responses = [
@@ -92,7 +93,7 @@ fn sixteen_slots(alloc: Global, start: u32) -> Result<Vec<u32>, AllocError> {
     joined(alloc, &[sixteen], &[9, 5, 1, 16], 16, &[sixteen])
 }
 
-/// What the delivery of 65,535 bytes comes to, how many accesses it makes, and whether a notice is sent.
+/// Returns what the delivery of 65,535 bytes comes to, how many accesses it makes, and whether a notice is sent.
 fn longest(alloc: Global, start: u32) -> Option<(Delivery, usize, bool)> {
     let answers = sixteen_slots(alloc, start).ok()?;
     let seen = fours_delivered(alloc, start, 65_535, answers.as_slice())?;
@@ -108,7 +109,7 @@ fn the_longest_packet_takes_sixteen_slots(rt: HostRuntime) {
     }
 }
 
-/// What the delivery of 4,097 bytes comes to with one slot posted, and whether a notice is sent, if it only reads the
+/// Returns what the delivery of 4,097 bytes comes to with one slot posted, and whether a notice is sent, if it only reads the
 /// producer.
 fn too_few_slots(alloc: Global, start: u32) -> Option<(Delivery, bool)> {
     let one = start.wrapping_add(1);
@@ -125,8 +126,8 @@ fn too_few_slots_take_nothing(rt: HostRuntime) {
     }
 }
 
-/// What the delivery of 4,097 bytes comes to whose second grant is refused, and whether a notice is sent, if it writes the rx
-/// ring and no buffer.
+/// Returns what the delivery of 4,097 bytes comes to whose second grant is refused, and whether a notice is sent, if it writes the
+/// rx ring and no buffer.
 fn second_grant_refused(alloc: Global, start: u32) -> Option<(Delivery, bool)> {
     let two = start.wrapping_add(2);
     let responses = [
@@ -151,8 +152,8 @@ fn a_refused_grant_writes_no_buffer(rt: HostRuntime) {
     }
 }
 
-/// What the delivery of 4,097 bytes comes to whose first grant is refused, and whether a notice is sent, if it writes the rx
-/// ring.
+/// Returns what the delivery of 4,097 bytes comes to whose first grant is refused, and whether a notice is sent, if it writes the
+/// rx ring.
 fn first_grant_refused(alloc: Global, start: u32) -> Option<(Delivery, bool)> {
     let responses = [
         write(18, rx(start, 0, 0), 9),
@@ -178,7 +179,7 @@ pub const OVERFLOWN: Delivery = Delivery::Halted {
     cause: Halt::RxProducer,
 };
 
-/// What the delivery of fourteen bytes comes to if the producer is this, and how many accesses it makes.
+/// Returns what the delivery of fourteen bytes comes to if the producer is this, and how many accesses it makes.
 pub fn delivered_behind(
     alloc: Global,
     queue: &mut Queue,
@@ -193,7 +194,7 @@ pub fn delivered_behind(
     Some((seen.delivery, seen.accesses.len()))
 }
 
-/// What two deliveries come to, the first with a producer past the ring.
+/// Returns what two deliveries come to, the first with a producer past the ring.
 fn past_the_ring(alloc: Global, start: u32) -> Option<[Option<(Delivery, usize)>; 2]> {
     let (bench, mut buffer) = ready(alloc, &PASSES, &[])?;
     match bench.queue(alloc, start, &mut buffer) {
@@ -213,8 +214,7 @@ fn a_producer_past_the_ring_halts(rt: HostRuntime) {
     }
 }
 
-/// What the delivery of bytes comes to with all slots posted, how many accesses it makes, and whether a notice is
-/// sent.
+/// Returns what the delivery of bytes comes to with all slots posted, how many accesses it makes, and whether a notice is sent.
 fn delivery(alloc: Global, packet: &[u8]) -> Option<(Delivery, usize, bool)> {
     let seen = delivered_first(alloc, 0, packet, &[256])?;
     Some((seen.delivery, seen.accesses.len(), seen.notified))
@@ -243,7 +243,7 @@ fn fourteen_responses(start: u32, i: u32) -> [Access; 3] {
     ]
 }
 
-/// Whether fourteen bytes are delivered into the i-th slot.
+/// Returns whether fourteen bytes are delivered into the i-th slot.
 fn delivers_into(alloc: Global, queue: &mut Queue, start: u32, i: u32) -> bool
     requires ready { IsReady queue.old }
     requires owners { length (wiring_of queue.old).vif.owners.now ≡ 20 }
@@ -281,7 +281,7 @@ fn sent_back(alloc: Global, start: u32, i: u32) -> Result<Vec<u32>, AllocError> 
     joined(alloc, &head, &later, 1, &[])
 }
 
-/// What a turn that finds these answers comes to, if these are its writes to the rx ring.
+/// Returns what a turn that finds these answers comes to, if these are its writes to the rx ring.
 fn answering(
     alloc: Global,
     queue: &mut Queue,
@@ -301,7 +301,7 @@ fn answering(
     wrote(bus.accesses(), 18, responses).then_some(kind)
 }
 
-/// What a turn of a packet of fourteen bytes comes to, if it sends them back into the i-th slot.
+/// Returns what a turn of a packet of fourteen bytes comes to, if it sends them back into the i-th slot.
 fn sent_into(alloc: Global, queue: &mut Queue, start: u32, i: u32) -> Option<Kind>
     requires ready { IsReady queue.old }
     requires owners { length (wiring_of queue.old).vif.owners.now ≡ 20 }
@@ -314,7 +314,7 @@ fn sent_into(alloc: Global, queue: &mut Queue, start: u32, i: u32) -> Option<Kin
     answering(alloc, queue, answers.as_slice(), &responses)
 }
 
-/// Whether a delivery takes the first slot and one after a turn the third, and what the turn comes to, if it takes the
+/// Returns whether a delivery takes the first slot and one after a turn the third, and what the turn comes to, if it takes the
 /// second.
 fn in_order(alloc: Global, start: u32) -> Option<([bool; 2], Option<Kind>)> {
     let (bench, mut buffer) = ready(alloc, &SENDS, &[])?;

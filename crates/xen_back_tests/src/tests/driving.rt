@@ -76,7 +76,7 @@ fn turn_over_pages(alloc: Global, queue: &mut Queue) -> Option<(Seen, Vec<u32>)>
     turn_over(alloc, queue, &pages(alloc)?)
 }
 
-/// Whether a new queue's turn over pages is the turn of the answers that it found, of a packet of 14 bytes.
+/// Returns whether a new queue's turn over pages is the turn of the answers that it found, of a packet of 14 bytes.
 fn is_its_answers_turn(alloc: Global, queue: &mut Queue) -> Option<bool>
     requires ready { IsReady queue.old }
     requires owners { length (wiring_of queue.old).vif.owners.now ≡ 20 }
@@ -102,7 +102,7 @@ fn a_turn_over_pages_is_the_turn_of_its_answers(rt: HostRuntime) {
     assert_eq!(rt; pages_answer_a_turn(rt.alloc()), Some(true));
 }
 
-/// What two turns over a script come to, the accesses of both, and whether a notice was sent by the first one and by the
+/// Returns what two turns over a script come to, the accesses of both, and whether a notice was sent by the first one and by the
 /// second one.
 fn driven_twice(
     alloc: Global,
@@ -142,7 +142,7 @@ fn a_halted_queue_makes_no_more_accesses(rt: HostRuntime) {
     assert_eq!(rt; seen, Some(([halted, halted], 1, [false, false])));
 }
 
-/// What a turn over a script comes to, and whether a notice was sent before it, by it and after it.
+/// Returns what a turn over a script comes to, and whether a notice was sent before it, by it and after it.
 fn notices(alloc: Global, queue: &mut Queue, answers: &[u32]) -> Option<(Kind, [bool; 3])>
     requires ready { IsReady queue.old }
     requires owners { length (wiring_of queue.old).vif.owners.now ≡ 20 }
@@ -186,7 +186,7 @@ fn a_due_notice_sets_the_port(rt: HostRuntime) {
     assert_eq!(rt; seen, Some((Kind::ran(2, 1), [false, true, false])));
 }
 
-/// What a turn comes to whose ring shows nothing, and the frames of the rings that the queue hands back then.
+/// Returns what a turn comes to whose ring shows nothing, and the frames of the rings that the queue hands back then.
 fn closed_after(alloc: Global, mut queue: Queue) -> Option<(Kind, (u32, u32))> {
     feed_turn(alloc, &mut queue, &[0, 0])?;
     if queue.want() != Want::Done {

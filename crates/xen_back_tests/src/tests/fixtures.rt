@@ -42,12 +42,12 @@ pub fn write(frame: u32, word: u32, value: u32) -> Access {
 }
 
 impl Seen {
-    /// Whether these are the turn's writes to a frame, in order.
+    /// Returns whether these are the turn's writes to a frame, in order.
     pub fn wrote(&self, frame: u32, wanted: &[Access]) -> bool {
         wrote(self.accesses.as_slice(), frame, wanted)
     }
 
-    /// How often the turn wrote to a frame.
+    /// Returns how often the turn wrote to a frame.
     pub fn writes(&self, frame: u32) -> usize {
         let mut writes: usize = 0;
         for access in self.accesses.as_slice() {
@@ -58,12 +58,12 @@ impl Seen {
         writes
     }
 
-    /// Whether it came to this end, with this packet.
+    /// Returns whether it came to this end, with this packet.
     pub fn shows(&self, kind: Kind, packet: &[u8]) -> bool {
         self.kind == kind && self.packet.as_slice() == packet
     }
 
-    /// Whether these are all of the turn's accesses.
+    /// Returns whether these are all of the turn's accesses.
     pub fn made(&self, accesses: &[Access]) -> bool {
         self.accesses.as_slice() == accesses
     }
@@ -77,7 +77,7 @@ fn written_frame(access: &Access) -> Option<u32> {
     }
 }
 
-/// Whether these are the writes to a frame, in order.
+/// Returns whether these are the writes to a frame, in order.
 pub fn wrote(accesses: &[Access], frame: u32, wanted: &[Access]) -> bool {
     let mut left = wanted.iter();
     for access in accesses {
@@ -142,7 +142,7 @@ pub fn feed_turn(alloc: Global, queue: &mut Queue, answers: &[u32]) -> Option<(V
     None
 }
 
-/// Whether a notice was sent to the queue's port.
+/// Returns whether a notice was sent to the queue's port.
 pub fn is_notified(ports: &Ports) -> bool {
     match Port::of(1) {
         Some(port) => ports.take(port),
@@ -232,7 +232,7 @@ pub fn turn_by_driver(
     }
 }
 
-/// What was seen, if the turn by hand gives the same.
+/// Returns what was seen, if the turn by hand gives the same.
 fn if_same(seen: Option<Seen>, by_hand: Option<Seen>) -> Option<Seen> {
     if seen == by_hand { seen } else { None }
 }
@@ -256,18 +256,18 @@ pub fn turn(alloc: Global, bytes: &[u8], start: u32, answers: &[u32]) -> Option<
     turn_with_maps(alloc, bytes, &[], start, answers)
 }
 
-/// What a turn under a program without maps comes to, and how many accesses it makes.
+/// Returns what a turn under a program without maps comes to, and how many accesses it makes.
 pub fn count(alloc: Global, bytes: &[u8], start: u32, answers: &[u32]) -> Option<(Kind, usize)> {
     let seen = turn(alloc, bytes, start, answers)?;
     Some((seen.kind, seen.accesses.len()))
 }
 
-/// What such a turn comes to.
+/// Returns what such a turn comes to.
 pub fn kind(alloc: Global, bytes: &[u8], start: u32, answers: &[u32]) -> Option<Kind> {
     Some(turn(alloc, bytes, start, answers)?.kind)
 }
 
-/// Whether a notice is sent by such a turn, if it comes to this end with these accesses.
+/// Returns whether a notice is sent by such a turn, if it comes to this end with these accesses.
 pub fn notice(
     alloc: Global,
     bytes: &[u8],

@@ -1,6 +1,6 @@
 //! A turn without its packet.
 
-use xen_back::{Halt, Refusal, Turn};
+use xen_back::{Halt, PacketRefusal, Turn};
 
 #[derive(Clone, Copy, Debug, PartialEq, Eq)]
 pub enum Kind {
@@ -11,7 +11,7 @@ pub enum Kind {
         slots: u32,
     },
     Refused {
-        cause: Refusal,
+        cause: PacketRefusal,
         ops: u32,
         slots: u32,
     },
@@ -20,7 +20,7 @@ pub enum Kind {
     },
 }
 
-/// What a turn came to.
+/// Returns what a turn came to.
 pub fn kind_of(turn: &Turn) -> Kind {
     match turn {
         Turn::Idle => Kind::Idle,
@@ -54,7 +54,7 @@ impl Kind {
     }
 
     /// The end of a packet in `slots` slots that is refused, before any counter is used.
-    pub fn refused(cause: Refusal, slots: u32) -> Kind {
+    pub fn refused(cause: PacketRefusal, slots: u32) -> Kind {
         Kind::Refused {
             cause,
             ops: 0,

@@ -8,7 +8,7 @@ use super::slots::{STARTS, slot, tx};
 use crate::bench::{IFINDEX, QUEUE, ready};
 use bpf_note::MapShape;
 use std::alloc::{AllocError, Global};
-use xen_back::{Halt, Queue, Refusal};
+use xen_back::{Halt, PacketRefusal, Queue};
 use xen_netif::ChainFault;
 
 /// Adds 1 to the counter of key 1, and then TX: ST W [r10 - 4], 1; MOV r2, r10; ADD r2, -4; r1 = map 0; CALL 1;
@@ -20,7 +20,7 @@ const COUNTS_AND_SENDS: [u8; 88] = [
     0, 3, 0, 0, 0, 0x95, 0, 0, 0, 0, 0, 0, 0,
 ];
 
-/// Where word `word` of the i-th rx slot from `start` lies in the rx ring's page.
+/// Returns where word `word` of the i-th rx slot from `start` lies in the rx ring's page.
 fn rx(start: u32, i: u32, word: u32) -> u32
     requires { word < 2 }
 {
@@ -53,7 +53,7 @@ fn a_page(alloc: Global, start: u32) -> Option<Seen> {
     turn(alloc, &SENDS, start, answers.as_slice())
 }
 
-/// What it comes to, how often its buffer is written, and whether a notice is sent, if the rx ring is written.
+/// Returns what it comes to, how often its buffer is written, and whether a notice is sent, if the rx ring is written.
 fn a_page_sent(alloc: Global, start: u32) -> Option<(Kind, usize, bool)> {
     let responses = [
         write(18, rx(start, 0, 0), 9),
@@ -73,7 +73,7 @@ fn a_whole_page_takes_one_rx_slot(rt: HostRuntime) {
     }
 }
 
-/// Whether a notice is sent for a packet that is sent back, if the rx ring's event index is `event`.
+/// Returns whether a notice is sent for a packet that is sent back, if the rx ring's event index is `event`.
 fn is_told(alloc: Global, start: u32, event: u32) -> Option<bool> {
     let later = [start.wrapping_add(1), 9, 5, 1, 16, event, start];
     let answers = fourteen(alloc, start, 0, &later).ok()?;
@@ -89,7 +89,7 @@ fn a_notice_of_the_rx_ring_is_sent(rt: HostRuntime) {
     }
 }
 
-/// What a packet of 14 bytes that counts and is then sent comes to with these later answers, by the driver and by hand.
+/// Returns what a packet of 14 bytes that counts and is then sent comes to with these later answers, by the driver and by hand.
 fn counted(alloc: Global, start: u32, later: &[u32]) -> Option<Kind> {
     let shape = MapShape::of(2, 1)?;
     let answers = fourteen(alloc, start, 0, later).ok()?;
@@ -120,7 +120,7 @@ fn operations_count_though_the_packet_is_sent(rt: HostRuntime) {
 }
 
 /// The end of a packet in one slot whose program counts and then sends it, and which is refused then.
-fn refused_after_counting(cause: Refusal) -> Kind {
+fn refused_after_counting(cause: PacketRefusal) -> Kind {
     Kind::Refused {
         cause,
         ops: 1,
@@ -130,7 +130,7 @@ fn refused_after_counting(cause: Refusal) -> Kind {
 
 #[test]
 fn operations_count_though_no_rx_slot_is_posted(rt: HostRuntime) {
-    let wanted = refused_after_counting(Refusal::FewSlots);
+    let wanted = refused_after_counting(PacketRefusal::FewSlots);
     for start in STARTS {
         assert_eq!(rt; counted(rt.alloc(), start, &[start]), Some(wanted));
     }
@@ -138,7 +138,7 @@ fn operations_count_though_no_rx_slot_is_posted(rt: HostRuntime) {
 
 #[test]
 fn operations_count_though_an_rx_grant_is_refused(rt: HostRuntime) {
-    let wanted = refused_after_counting(Refusal::RxGrant);
+    let wanted = refused_after_counting(PacketRefusal::RxGrant);
     for start in STARTS {
         // The entry's flags, 5, allow reading alone.
         let kind = counted(rt.alloc(), start, &[start.wrapping_add(1), 9, 5, 5, 16]);
@@ -154,20 +154,20 @@ fn two_pages(alloc: Global, start: u32) -> Result<Vec<u32>, AllocError> {
     joined(alloc, &head, &[0], 1024, &later)
 }
 
-/// What that packet comes to.
+/// Returns what that packet comes to.
 fn fed_two_pages(alloc: Global, queue: &mut Queue, start: u32) -> Option<Seen> {
     let answers = two_pages(alloc, start).ok()?;
     fed(alloc, queue, answers.as_slice())
 }
 
-/// What a packet of 14 bytes after it comes to.
+/// Returns what a packet of 14 bytes after it comes to.
 fn fed_fourteen(alloc: Global, queue: &mut Queue, start: u32) -> Option<Seen> {
     let later = [start.wrapping_add(2), 10, 6, 1, 14, start, start];
     let answers = fourteen(alloc, start, 2, &later).ok()?;
     fed(alloc, queue, answers.as_slice())
 }
 
-/// What the first packet comes to, if it has one response.
+/// Returns what the first packet comes to, if it has one response.
 fn first_of_two(alloc: Global, queue: &mut Queue, start: u32) -> Option<Kind> {
     let responses = [
         write(18, rx(start, 0, 0), 9),
@@ -178,7 +178,7 @@ fn first_of_two(alloc: Global, queue: &mut Queue, start: u32) -> Option<Kind> {
     seen.wrote(18, &responses).then_some(seen.kind)
 }
 
-/// What the next packet comes to, if it goes on after it, on both rings.
+/// Returns what the next packet comes to, if it goes on after it, on both rings.
 fn second_of_two(alloc: Global, queue: &mut Queue, start: u32) -> Option<Kind> {
     let responses = [
         write(18, rx(start, 1, 0), 10),
@@ -194,7 +194,7 @@ fn second_of_two(alloc: Global, queue: &mut Queue, start: u32) -> Option<Kind> {
     wrote.then_some(seen.kind)
 }
 
-/// What the two packets come to on a new queue.
+/// Returns what the two packets come to on a new queue.
 fn both_of_two(alloc: Global, start: u32) -> Option<[Option<Kind>; 2]> {
     let (bench, mut buffer) = ready(alloc, &SENDS, &[])?;
     match bench.queue(alloc, start, &mut buffer) {
@@ -208,25 +208,25 @@ fn both_of_two(alloc: Global, start: u32) -> Option<[Option<Kind>; 2]> {
 
 #[test]
 fn a_refused_rx_slot_is_the_last_that_is_used(rt: HostRuntime) {
-    let refused = Kind::refused(Refusal::RxGrant, 2);
+    let refused = Kind::refused(PacketRefusal::RxGrant, 2);
     let wanted = [Some(refused), Some(Kind::ran(3, 1))];
     for start in STARTS {
         assert_eq!(rt; both_of_two(rt.alloc(), start), Some(wanted));
     }
 }
 
-/// What a turn with these answers comes to.
+/// Returns what a turn with these answers comes to.
 fn first_kind(alloc: Global, queue: &mut Queue, answers: &[u32]) -> Option<Kind> {
     Some(fed(alloc, queue, answers)?.kind)
 }
 
-/// What the next turn comes to, if it makes no access.
+/// Returns what the next turn comes to, if it makes no access.
 fn next_kind(alloc: Global, queue: &mut Queue) -> Option<Kind> {
     let seen = fed(alloc, queue, &[1])?;
     seen.made(&[]).then_some(seen.kind)
 }
 
-/// What a turn with these answers comes to, and the next one, if that makes no access.
+/// Returns what a turn with these answers comes to, and the next one, if that makes no access.
 fn two_turns(alloc: Global, answers: &[u32]) -> Option<[Option<Kind>; 2]> {
     let (bench, mut buffer) = ready(alloc, &SENDS, &[])?;
     match bench.queue(alloc, 0, &mut buffer) {
@@ -275,7 +275,7 @@ fn each_halt_lasts(rt: HostRuntime) {
     }
 }
 
-/// What a program comes to that ends with the word of its context at an offset.
+/// Returns what a program comes to that ends with the word of its context at an offset.
 fn ends_with_its_word_at(alloc: Global, offset: u8) -> Option<Kind> {
     let code = [0x61, 0x10, offset, 0, 0, 0, 0, 0, 0x95, 0, 0, 0, 0, 0, 0, 0];
     let answers = fourteen(alloc, 0, 0, &[]).ok()?;

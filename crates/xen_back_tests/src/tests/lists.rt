@@ -7,7 +7,7 @@ use super::programs::COUNTS;
 use super::slots::slot;
 use crate::bench::{Bench, ready};
 use bpf_lists::{KeyedRows, MapList};
-use bpf_note::{Kind as KeyKind, MapKey, MapShape};
+use bpf_note::{KeyKind, MapKey, MapShape};
 use bpf_vm::Buffer;
 use std::alloc::Global;
 
@@ -16,7 +16,7 @@ fn answers() -> [u32; 6] {
     [1, 2, 0, slot(7, 14), 1, 19]
 }
 
-/// What a turn by `drive_turn` comes to.
+/// Returns what a turn by `drive_turn` comes to.
 fn by_driver(alloc: Global, bench: &Bench, buffer: &mut Buffer, shapes: &[MapShape]) -> Option<Kind>
     requires few { length shapes.now ≤ 4 }
     requires program { bench.now.program.shapes ≡ shapes.now }
@@ -27,7 +27,7 @@ fn by_driver(alloc: Global, bench: &Bench, buffer: &mut Buffer, shapes: &[MapSha
     }
 }
 
-/// What a turn by `want` and `feed` comes to.
+/// Returns what a turn by `want` and `feed` comes to.
 fn by_hand(alloc: Global, bench: &Bench, buffer: &mut Buffer) -> Option<Kind> {
     match bench.queue(alloc, 0, buffer) {
         Some(mut queue) => Some(fed(alloc, &mut queue, &answers())?.kind),
@@ -35,7 +35,7 @@ fn by_hand(alloc: Global, bench: &Bench, buffer: &mut Buffer) -> Option<Kind> {
     }
 }
 
-/// What a program that counts under the key `01 00 00 00` comes to, both ways, if the list has these keys.
+/// Returns what a program that counts under the key `01 00 00 00` comes to, both ways, if the list has these keys.
 fn counted(alloc: Global, keys: &[u8]) -> Option<(Option<Kind>, Option<Kind>)> {
     let shape = MapShape::keyed(MapKey::Listed(KeyKind::Exact(4)), 2, 1)?;
     let rows = KeyedRows::make(alloc, KeyKind::Exact(4), keys).ok()?;

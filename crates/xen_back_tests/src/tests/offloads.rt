@@ -5,7 +5,7 @@ use super::deliveries::fours;
 use super::fixtures::{joined, read, write};
 use super::slots::STARTS;
 use std::alloc::{AllocError, Global};
-use xen_back::{Delivery, Packet, slots_of};
+use xen_back::{Delivery, RxPacket, slots_of};
 use xen_netif::{ACCEPTS_WHOLE, Accepts, GsoType, NO_OFFERS, Offers, RxOffload, Segments};
 use xen_page::Access;
 
@@ -43,14 +43,14 @@ fn fours_as(
     answers: &[u32],
 ) -> Option<Delivered> {
     let bytes = fours(alloc, length).ok()?;
-    let packet = Packet {
+    let packet = RxPacket {
         offload,
         bytes: bytes.as_slice(),
     };
     delivered_to(alloc, ACCEPTS_ALL, start, packet, answers)
 }
 
-/// What the delivery of fourteen bytes makes that stand for segments of ten. The second slot is read, and its entry isn't.
+/// Returns what the delivery of fourteen bytes makes that stand for segments of ten. The second slot is read, and its entry isn't.
 fn fourteen_accesses(start: u32, kind: u32) -> [Access; 17] {
     let two = start.wrapping_add(2);
     [
@@ -76,10 +76,10 @@ fn fourteen_accesses(start: u32, kind: u32) -> [Access; 17] {
     ]
 }
 
-/// What that delivery comes to, and whether a notice is sent, if it makes these accesses.
+/// Returns what that delivery comes to, and whether a notice is sent, if it makes these accesses.
 fn short_packet(alloc: Global, start: u32, kind: GsoType) -> Option<(Delivery, bool)> {
     let two = start.wrapping_add(2);
-    let packet = Packet {
+    let packet = RxPacket {
         offload: segmented(kind, 10),
         bytes: &FOURTEEN,
     };
@@ -99,8 +99,8 @@ fn segments_of_a_short_packet_take_a_second_slot(rt: HostRuntime) {
     }
 }
 
-/// What the delivery of 4,097 bytes comes to that stand for segments of 1,440, and how many accesses it makes, if it writes the
-/// buffer of the third slot and the rx ring.
+/// Returns what the delivery of 4,097 bytes comes to that stand for segments of 1,440, and how many accesses it makes, if it writes
+/// the buffer of the third slot and the rx ring.
 fn two_pages(alloc: Global, start: u32) -> Option<(Delivery, usize)> {
     let three = start.wrapping_add(3);
     let responses = [
@@ -134,7 +134,8 @@ fn seventeen_slots(alloc: Global, start: u32) -> Result<Vec<u32>, AllocError> {
     joined(alloc, &head, &[9, 5, 1, 16], 15, &[seventeen])
 }
 
-/// What the delivery of 65,535 bytes comes to that stand for segments, how many accesses it makes, and whether a notice is sent.
+/// Returns what the delivery of 65,535 bytes comes to that stand for segments, how many accesses it makes, and whether a notice is
+/// sent.
 fn longest(alloc: Global, start: u32) -> Option<(Delivery, usize, bool)> {
     let answers = seventeen_slots(alloc, start).ok()?;
     let offload = segmented(GsoType::TcpV4, 1448);
@@ -151,7 +152,7 @@ fn segments_of_the_longest_packet_take_seventeen_slots(rt: HostRuntime) {
     }
 }
 
-/// What the delivery of 65,535 bytes comes to with sixteen slots posted, and how many accesses it makes.
+/// Returns what the delivery of 65,535 bytes comes to with sixteen slots posted, and how many accesses it makes.
 fn one_slot_too_few(alloc: Global, start: u32) -> Option<(Delivery, usize)> {
     let offload = segmented(GsoType::TcpV4, 1448);
     let sixteen = start.wrapping_add(16);
@@ -167,7 +168,7 @@ fn sixteen_slots_are_too_few_for_segments_of_sixteen_pages(rt: HostRuntime) {
     }
 }
 
-/// How many slots `length` bytes take, whole and as segments.
+/// Returns how many slots `length` bytes take, whole and as segments.
 fn slots(alloc: Global, length: usize) -> Option<[u32; 2]> {
     if length > 65_535 {
         return None;
@@ -177,12 +178,12 @@ fn slots(alloc: Global, length: usize) -> Option<[u32; 2]> {
     if bytes.len() > 65_535 {
         return None;
     }
-    let whole = Packet {
+    let whole = RxPacket {
         offload: RxOffload::Whole,
         bytes,
     };
     let offload = segmented(GsoType::TcpV4, 1448);
-    Some([slots_of(&whole), slots_of(&Packet { offload, bytes })])
+    Some([slots_of(&whole), slots_of(&RxPacket { offload, bytes })])
 }
 
 #[test]
@@ -192,8 +193,8 @@ fn a_host_awaits_a_slot_more_for_segments(rt: HostRuntime) {
     }
 }
 
-/// What the delivery of 4,097 bytes comes to that stand for segments, whose third slot's grant is refused, if it writes the rx
-/// ring and no buffer.
+/// Returns what the delivery of 4,097 bytes comes to that stand for segments, whose third slot's grant is refused, if it writes the
+/// rx ring and no buffer.
 fn third_grant_refused(alloc: Global, start: u32) -> Option<Delivery> {
     let three = start.wrapping_add(3);
     let responses = [
@@ -221,7 +222,7 @@ fn a_refused_packet_has_no_extra(rt: HostRuntime) {
     }
 }
 
-/// What the delivery of 4,097 bytes in two slots comes to, if these are the flags of its responses.
+/// Returns what the delivery of 4,097 bytes in two slots comes to, if these are the flags of its responses.
 fn two_flags(alloc: Global, offload: RxOffload, first: u32) -> Option<Delivery> {
     let responses = [
         write(18, rx(0, 0, 0), 9),
@@ -247,10 +248,10 @@ fn a_checksum_takes_no_slot(rt: HostRuntime) {
     }
 }
 
-/// Whether a frontend that accepts so much gets fourteen bytes. `None` if that comes to anything else, or a packet that it
+/// Returns whether a frontend that accepts so much gets fourteen bytes. `None` if that comes to anything else, or a packet that it
 /// doesn't get is begun.
 fn gets(alloc: Global, accepts: Accepts, offload: RxOffload) -> Option<bool> {
-    let packet = Packet {
+    let packet = RxPacket {
         offload,
         bytes: &FOURTEEN,
     };

@@ -24,7 +24,7 @@ const LOOKS_AT_BYTE_14: [u8; 80] = [
     0, 2, 0, 0, 0, 0x95, 0, 0, 0, 0, 0, 0, 0, 0xb7, 0, 0, 0, 1, 0, 0, 0, 0x95, 0, 0, 0, 0, 0, 0, 0,
 ];
 
-/// What a packet of 14 bytes comes to under a program that ends with a number, if it is answered by this word.
+/// Returns what a packet of 14 bytes comes to under a program that ends with a number, if it is answered by this word.
 fn ends_with(alloc: Global, start: u32, number: u8, response: u32) -> Option<Kind> {
     let writes = [
         write(17, tx(start, 0, 0), response),
@@ -46,7 +46,7 @@ fn the_response_says_what_the_program_decided(rt: HostRuntime) {
     }
 }
 
-/// What a packet of 14 bytes comes to under that program.
+/// Returns what a packet of 14 bytes comes to under that program.
 fn counted(alloc: Global, start: u32) -> Option<Kind> {
     let shape = MapShape::of(2, 1)?;
     let answers = [start.wrapping_add(1), 2, 0, slot(7, 14), 1, 19];
@@ -65,13 +65,13 @@ fn a_counter_operation_is_counted(rt: HostRuntime) {
     }
 }
 
-/// What a packet of 15 bytes comes to, and its length.
+/// Returns what a packet of 15 bytes comes to, and its length.
 fn fed_longer(alloc: Global, queue: &mut Queue) -> Option<(Kind, usize)> {
     let seen = fed(alloc, queue, &[1, 2, 0, slot(7, 15), 1, 19, 1, 2, 3, 4])?;
     Some((seen.kind, seen.packet.len()))
 }
 
-/// Whether a packet of 14 bytes that are 0 is dropped after it.
+/// Returns whether a packet of 14 bytes that are 0 is dropped after it.
 fn drops_shorter(alloc: Global, queue: &mut Queue) -> bool {
     match fed(alloc, queue, &[2, 2, 0, slot(8, 14), 1, 19]) {
         Some(seen) => seen.shows(Kind::ran(1, 1), &[0; 14]),
@@ -79,7 +79,7 @@ fn drops_shorter(alloc: Global, queue: &mut Queue) -> bool {
     }
 }
 
-/// What the longer packet comes to and its length, and whether the shorter one is dropped after it.
+/// Returns what the longer packet comes to and its length, and whether the shorter one is dropped after it.
 fn longer_and_shorter(alloc: Global) -> Option<(Option<(Kind, usize)>, bool)> {
     let (bench, mut buffer) = ready(alloc, &LOOKS_AT_BYTE_14, &[])?;
     match bench.queue(alloc, 0, &mut buffer) {

@@ -8,7 +8,7 @@ use xen_back::{Halt, Queue, State, Want};
 use xen_netif::RxOffload;
 use xen_page::Place;
 
-/// What a queue wants first, and what it wants next if the producer shows a request.
+/// Returns what a queue wants first, and what it wants next if the producer shows a request.
 fn first_wants(queue: &mut Queue, producer: u32) -> Option<(Want, Want)> {
     let first = queue.wanted();
     queue.feed(answer_to(first, producer)?);
@@ -24,7 +24,7 @@ fn resumed(alloc: Global, state: State) -> Option<(State, Want, Want)> {
     Some((begun, first, second))
 }
 
-/// What a delivery wants next if the producer shows a request, of a queue that goes on from this state.
+/// Returns what a delivery wants next if the producer shows a request, of a queue that goes on from this state.
 fn delivers(alloc: Global, state: State) -> Option<Want> {
     let (bench, mut buffer) = ready(alloc, &PASSES, &[])?;
     let queue = bench.resumed(alloc, state, &mut buffer)?;
@@ -34,7 +34,7 @@ fn delivers(alloc: Global, state: State) -> Option<Want> {
     Some(delivering.wanted())
 }
 
-/// What a queue wants that goes on from a halt.
+/// Returns what a queue wants that goes on from a halt.
 fn halted(alloc: Global, state: State) -> Option<Want> {
     let (bench, mut buffer) = ready(alloc, &PASSES, &[])?;
     let mut queue = bench.resumed(alloc, state, &mut buffer)?;

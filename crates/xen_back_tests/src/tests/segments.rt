@@ -5,7 +5,7 @@ use super::kind::Kind;
 use super::slots::{STARTS, slot, tx};
 use crate::bench::ready;
 use std::alloc::Global;
-use xen_back::Refusal;
+use xen_back::PacketRefusal;
 use xen_netif::{NO_OFFERS, Offers, SizeFault};
 
 const TCPV4: Offers = Offers {
@@ -63,17 +63,17 @@ fn words(start: u32, extra: u32, kind: u32) -> [u32; 9] {
     ]
 }
 
-/// What becomes of that packet.
+/// Returns what becomes of that packet.
 fn kind(alloc: Global, offers: Offers, start: u32, extra: u32, kind: u32) -> Option<Kind> {
     Some(turn(alloc, offers, start, &words(start, extra, kind))?.kind)
 }
 
 /// A packet with an extra that isn't taken.
 fn refused(slots: u32) -> Option<Kind> {
-    Some(Kind::refused(Refusal::Size(SizeFault::ExtraInfo), slots))
+    Some(Kind::refused(PacketRefusal::Size(SizeFault::ExtraInfo), slots))
 }
 
-/// Whether a packet passes, and its extra's slot is answered with NULL.
+/// Returns whether a packet passes, and its extra's slot is answered with NULL.
 fn passes(alloc: Global, start: u32) -> bool {
     let answers = [
         write(17, tx(start, 0, 0), 7),
@@ -138,7 +138,7 @@ fn an_extra_of_another_type_is_refused(rt: HostRuntime) {
     }
 }
 
-/// What becomes of that packet with two extras, each of which would be taken alone.
+/// Returns what becomes of that packet with two extras, each of which would be taken alone.
 fn kind_of_two(alloc: Global, start: u32) -> Option<Kind> {
     let words = [
         start.wrapping_add(3),

@@ -8,17 +8,17 @@ use std::alloc::Global;
 use xen_netif::RxOffload;
 use xen_page::{Access, Owners, Table};
 use xen_ring::Port;
-use xen_rx_fill::{Outcome, Packet, Progress, Transmit, Vif};
+use xen_rx_fill::{Progress, RxPacket, Transmit, TransmitOutcome, Vif};
 use xen_steps::Want;
 
-/// What a transmit comes to whose first rx slot is at `start`, and adds its accesses. None if it has no end.
+/// Returns what a transmit comes to whose first rx slot is at `start`, and adds its accesses. None if it has no end.
 fn sent(
     vif: &Vif,
     start: u32,
-    packet: &Packet,
+    packet: &RxPacket,
     answers: &[u32],
     accesses: &mut Vec<Access>,
-) -> Option<Outcome>
+) -> Option<TransmitOutcome>
     requires { length packet.now.bytes.now ≤ 65535 }
 {
     let mut given = answers.iter();
@@ -40,16 +40,16 @@ fn sent(
     None
 }
 
-/// What the transmit of fourteen bytes comes to, if it makes these accesses.
+/// Returns what the transmit of fourteen bytes comes to, if it makes these accesses.
 fn sent_with(
     alloc: Global,
     vif: &Vif,
     start: u32,
     answers: &[u32],
     accesses: &[Access],
-) -> Option<Outcome> {
+) -> Option<TransmitOutcome> {
     let mut made = Vec::new(alloc);
-    let packet = Packet {
+    let packet = RxPacket {
         offload: RxOffload::Whole,
         bytes: &FOURTEEN,
     };
@@ -62,7 +62,12 @@ fn sent_with(
 }
 
 /// As [`sent_with`]: frame 1 is the frontend's grant table, and frame 18 its rx ring.
-fn outcome(alloc: Global, start: u32, answers: &[u32], accesses: &[Access]) -> Option<Outcome> {
+fn outcome(
+    alloc: Global,
+    start: u32,
+    answers: &[u32],
+    accesses: &[Access],
+) -> Option<TransmitOutcome> {
     let port = Port::of(1)?;
     let mut domains = [1; 20];
     domains[0] = 0;
@@ -100,7 +105,7 @@ fn a_packet_goes_into_a_posted_buffer(rt: HostRuntime) {
         ];
         let answers = [shown, 9, 5, 1, 16, shown];
         let found = outcome(rt.alloc(), start, &answers, &accesses);
-        assert_eq!(rt; found, Some(Outcome::Sent(1)));
+        assert_eq!(rt; found, Some(TransmitOutcome::Sent(1)));
     }
 }
 
@@ -118,12 +123,15 @@ fn a_grant_for_reading_alone_is_refused(rt: HostRuntime) {
         read(18, 3, 0),
     ];
     let found = outcome(rt.alloc(), 0, &[1, 9, 5, 5, 16, 0], &accesses);
-    assert_eq!(rt; found, Some(Outcome::Refused(1)));
+    assert_eq!(rt; found, Some(TransmitOutcome::Refused(1)));
 }
 
 #[test]
 fn nothing_is_used_where_too_few_are_posted(rt: HostRuntime) {
-    for (producer, wanted) in [(7, Outcome::TooFew), (264, Outcome::Overflow)] {
+    for (producer, wanted) in [
+        (7, TransmitOutcome::TooFew),
+        (264, TransmitOutcome::Overflow),
+    ] {
         let found = outcome(rt.alloc(), 7, &[producer], &[read(18, 0, producer)]);
         assert_eq!(rt; found, Some(wanted));
     }

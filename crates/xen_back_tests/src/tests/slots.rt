@@ -10,7 +10,7 @@ pub fn slot(id: u16, size: u16) -> u32 {
     u32::from(id) + 0x1_0000 * u32::from(size)
 }
 
-/// Where word `word` of the i-th slot from `start` lies in the ring's page.
+/// Returns where word `word` of the i-th slot from `start` lies in the ring's page.
 pub fn tx(start: u32, i: u32, word: u32) -> u32
     requires { word < 3 }
 {

@@ -6,9 +6,9 @@ use super::fixtures::{SENDS, Seen, joined, turn, write};
 use super::kind::Kind;
 use super::slots::{STARTS, slot, tx};
 use std::alloc::{AllocError, Global};
-use xen_back::{Halt, Refusal};
+use xen_back::{Halt, PacketRefusal};
 
-/// Where word `word` of the i-th rx slot from `start` lies in the rx ring's page.
+/// Returns where word `word` of the i-th rx slot from `start` lies in the rx ring's page.
 fn rx(start: u32, i: u32, word: u32) -> u32
     requires { word < 2 }
 {
@@ -56,8 +56,8 @@ fn two_pages(alloc: Global, start: u32, later: &[u32]) -> Option<Seen> {
     turn(alloc, &SENDS, start, answers.as_slice())
 }
 
-/// Whether these are a turn's writes to the frame of the buffer, to the rx ring and to the tx ring of fourteen bytes that are
-/// sent back.
+/// Returns whether these are a turn's writes to the frame of the buffer, to the rx ring and to the tx ring of fourteen bytes that
+/// are sent back.
 fn sends_fourteen(seen: &Seen, start: u32) -> bool {
     let one = start.wrapping_add(1);
     let words = [
@@ -75,7 +75,7 @@ fn sends_fourteen(seen: &Seen, start: u32) -> bool {
     seen.wrote(16, &words) && seen.wrote(18, &responses) && seen.wrote(17, &answered)
 }
 
-/// What fourteen bytes that are sent back come to, and how many accesses they make, if they are written.
+/// Returns what fourteen bytes that are sent back come to, and how many accesses they make, if they are written.
 fn fourteen_sent(alloc: Global, start: u32) -> Option<(Kind, usize)> {
     let one = start.wrapping_add(1);
     let seen = fourteen(alloc, start, &[one, 9, 5, 1, 16, one, one])?;
@@ -115,7 +115,7 @@ fn a_longer_packet_takes_two_slots(rt: HostRuntime) {
     }
 }
 
-/// What a packet comes to whose second buffer can't be written, and how often both buffers are written, if the rx ring is.
+/// Returns what a packet comes to whose second buffer can't be written, and how often both buffers are written, if the rx ring is.
 fn second_grant_fails(alloc: Global, start: u32) -> Option<(Kind, [usize; 2])> {
     let two = start.wrapping_add(2);
     let responses = [
@@ -135,11 +135,14 @@ fn second_grant_fails(alloc: Global, start: u32) -> Option<(Kind, [usize; 2])> {
 fn a_second_grant_that_fails_writes_no_buffer(rt: HostRuntime) {
     for start in STARTS {
         let found = second_grant_fails(rt.alloc(), start);
-        assert_eq!(rt; found, Some((Kind::refused(Refusal::RxGrant, 2), [0, 0])));
+        assert_eq!(rt;
+            found,
+            Some((Kind::refused(PacketRefusal::RxGrant, 2), [0, 0]))
+        );
     }
 }
 
-/// What a packet of two pages comes to with one slot posted, and how often the rx ring is written, if the tx ring is.
+/// Returns what a packet of two pages comes to with one slot posted, and how often the rx ring is written, if the tx ring is.
 fn one_posted_slot(alloc: Global, start: u32) -> Option<(Kind, usize)> {
     let answered = [
         write(17, tx(start, 0, 0), 0xffff_0007),
@@ -155,11 +158,11 @@ fn one_posted_slot(alloc: Global, start: u32) -> Option<(Kind, usize)> {
 fn one_posted_slot_is_too_few_for_two_pages(rt: HostRuntime) {
     for start in STARTS {
         let found = one_posted_slot(rt.alloc(), start);
-        assert_eq!(rt; found, Some((Kind::refused(Refusal::FewSlots, 2), 0)));
+        assert_eq!(rt; found, Some((Kind::refused(PacketRefusal::FewSlots, 2), 0)));
     }
 }
 
-/// What a packet comes to if the rx producer is past the ring, and how many accesses it makes.
+/// Returns what a packet comes to if the rx producer is past the ring, and how many accesses it makes.
 fn past_the_ring(alloc: Global, start: u32) -> Option<(Kind, usize)> {
     let seen = fourteen(alloc, start, &[start.wrapping_add(257)])?;
     Some((seen.kind, seen.accesses.len()))
@@ -191,7 +194,7 @@ fn longest_answers(alloc: Global, start: u32) -> Result<Vec<u32>, AllocError> {
     joined(alloc, answers.as_slice(), &[0, 2, 1, 16], 16, &[])
 }
 
-/// What that packet comes to, its length, and how often the buffer is written.
+/// Returns what that packet comes to, its length, and how often the buffer is written.
 fn longest(alloc: Global, start: u32) -> Option<(Kind, [usize; 2])> {
     let answers = longest_answers(alloc, start).ok()?;
     let seen = turn(alloc, &SENDS, start, answers.as_slice())?;

@@ -13,7 +13,7 @@ use xen_netif::{GsoType, RxOffload, Segments};
 use xen_page::ScriptBus;
 use xen_ring::Ports;
 
-/// What an op of the same delivery tells.
+/// Returns what an op of the same delivery tells.
 fn told_of(delivery: Delivery) -> Told {
     match delivery {
         Delivery::Sent { slots } => [4, 0, 0, 0, slots],
@@ -69,7 +69,7 @@ fn of_new_back(alloc: Global, packet: &[u8], offload: RxOffload, answers: &[u32]
     }
 }
 
-/// How the delivery of `length` bytes of 4 ends, and how many accesses it makes, if both queues make the same.
+/// Returns how the delivery of `length` bytes of 4 ends, and how many accesses it makes, if both queues make the same.
 fn delivered(
     alloc: Global,
     length: usize,
@@ -93,7 +93,7 @@ const TCPV6: RxOffload = RxOffload::Segmented(Segments {
     size: 14,
 });
 
-/// How many bytes, what they leave to the frontend, the answers to the reads, how it ends, and how many accesses there are.
+/// The number of bytes, what they leave to the frontend, the answers to the reads, the end, and the number of accesses.
 const ROWS: [(usize, RxOffload, &'static [u32], Told, usize); 10] = [
     (
         14,

@@ -9,7 +9,7 @@ use std::alloc::Global;
 use xen_back::Turn;
 use xen_back_tests::bench::{FRAMES, ready, seated};
 use xen_drive::drive;
-use xen_host::{Op, Queue};
+use xen_host::{HostOp, Queue};
 use xen_page::{Access, ScriptBus};
 use xen_ring::{Port, Ports};
 
@@ -22,11 +22,11 @@ pub const PASSES: [u8; 16] = [0xb7, 0, 0, 0, 2, 0, 0, 0, 0x95, 0, 0, 0, 0, 0, 0,
 /// MOV r0, 3; EXIT: TX.
 pub const SENDS: [u8; 16] = [0xb7, 0, 0, 0, 3, 0, 0, 0, 0x95, 0, 0, 0, 0, 0, 0, 0];
 
-/// How something ended, in the numbers of an op: its outcome, the program's number, the cause, how many operations the program did, and
-/// how many slots there were.
+/// The end of something, in the numbers of an op: its outcome, the program's number, the cause, and the numbers of the program's
+/// operations and of slots.
 pub type Told = [u32; 5];
 
-/// What was seen of a turn.
+/// The outcome of a turn, as these tests see it.
 #[derive(Debug, PartialEq, Drop)]
 pub struct Seen {
     pub told: Told,
@@ -35,12 +35,12 @@ pub struct Seen {
     pub notified: bool,
 }
 
-/// What an op tells, if it says that something is over.
-pub fn told_by(op: &Op) -> Option<Told> {
+/// Returns what an op tells, if it says that something is over.
+pub fn told_by(op: &HostOp) -> Option<Told> {
     (op.kind == 4).then_some([op.outcome, op.number, op.cause, op.ops, op.slots])
 }
 
-/// What an op of the same turn tells.
+/// Returns what an op of the same turn tells.
 fn told_of(turn: &Turn) -> Told {
     match turn {
         Turn::Idle => [0; 5],
@@ -63,7 +63,7 @@ fn packet_of<'t>(turn: &Turn<'t>) -> &'t [u8] {
     }
 }
 
-/// Whether a notice was sent to the queue's port.
+/// Returns whether a notice was sent to the queue's port.
 pub fn is_notified(ports: &Ports) -> bool {
     match Port::of(1) {
         Some(port) => ports.take(port),
@@ -71,7 +71,7 @@ pub fn is_notified(ports: &Ports) -> bool {
     }
 }
 
-/// What was seen, with copies of a packet and of accesses.
+/// Returns what was seen, with copies of a packet and of accesses.
 pub fn seen_with(
     alloc: Global,
     told: Told,

@@ -4,20 +4,20 @@ use super::seats::{NONE, READS};
 use super::turns::COUNTS;
 use crate::bench::{counters, page, shipped};
 use bpf_lists::{KeyedRows, MapList};
-use bpf_note::{Kind, MapKey, MapShape};
+use bpf_note::{KeyKind, MapKey, MapShape};
 use std::alloc::Global;
-use xen_host::{Lists, Op, Queue, Relist};
+use xen_host::{HostOp, Lists, Queue, Relist};
 
 /// Lists whose map 0 has a row with this key alone.
 fn listed(alloc: Global, key: &[u8]) -> Option<Lists> {
-    let rows = KeyedRows::make(alloc, Kind::Exact(4), key).ok()?;
+    let rows = KeyedRows::make(alloc, KeyKind::Exact(4), key).ok()?;
     let mut lists = Vec::new(alloc);
     lists.push(Some(MapList::Rows(rows))).ok()?;
     Lists::make(alloc, lists).ok()
 }
 
 /// Goes on with what is under way, with these words in front of the lent ones. The first op that is said.
-fn step(queue: &mut Queue, words: &mut [u32], counters: &mut [u64], front: [u32; 3]) -> Op {
+fn step(queue: &mut Queue, words: &mut [u32], counters: &mut [u64], front: [u32; 3]) -> HostOp {
     for (word, read) in words.iter_mut().zip(front) {
         *word = read;
     }
@@ -35,10 +35,10 @@ fn rest_of_turn(queue: &mut Queue, words: &mut [u32], counters: &mut [u64]) -> u
     step(queue, words, counters, event).ops
 }
 
-/// What three turns count under the key `01 00 00 00`: one without a list, one after a list with the key came, and one inside which a list
-/// without it is asked for. And what is answered to that.
+/// Returns what three turns count under the key `01 00 00 00`: one without a list, one after a list with the key came, and one
+/// inside which a list without it is asked for. And what is answered to that.
 fn relisted(alloc: Global) -> Option<([u32; 3], Relist)> {
-    let shape = MapShape::keyed(MapKey::Listed(Kind::Exact(4)), 2, 1)?;
+    let shape = MapShape::keyed(MapKey::Listed(KeyKind::Exact(4)), 2, 1)?;
     let mut queue = shipped(alloc, &COUNTS, &[shape], 0)?;
     let mut words = page(alloc)?;
     let mut counters = counters(alloc, &queue)?;

@@ -54,7 +54,7 @@ fn turn_over_pages(alloc: Global) -> Option<(Seen, Vec<u32>)> {
     }
 }
 
-/// Whether it is the turn of those answers, with the packet and a notice.
+/// Returns whether it is the turn of those answers, with the packet and a notice.
 fn is_its_answers_turn(alloc: Global) -> Option<bool> {
     let (seen, answers) = turn_over_pages(alloc)?;
     let replayed = turn(alloc, &PASSES, 0, answers.as_slice())?;

@@ -11,13 +11,13 @@ use bpf_maps::{CounterSeat, Counters};
 use bpf_note::MapShape;
 use std::alloc::Global;
 use xen_back_tests::bench::seated;
-use xen_host::{Op, Queue};
+use xen_host::{HostOp, Queue};
 
-/// What a packet of fourteen bytes is read by: its slot, its grant's entry, its page, and the event index.
+/// The reads of a packet of fourteen bytes: its slot, its grant's entry, its page, and the event index.
 pub const READS: [[u32; 3]; 4] = [[2, 0, FOURTEEN], [1, 19, 0], [0, 0, 0], [0, 0, 0]];
 
 /// No op.
-pub const NONE: Op = Op {
+pub const NONE: HostOp = HostOp {
     kind: 0,
     frame: 0,
     word: 0,
@@ -43,7 +43,7 @@ fn step(
     counters: &Counters,
     seat: &mut CounterSeat,
     front: [u32; 3],
-) -> Op
+) -> HostOp
     requires shapes { counters.now.shapes ≡ (wired_to queue.old).program.shapes }
     requires seat { IsSeatOf counters.now seat.old }
     ensures words { length words.new ≡ length words.old }
@@ -64,7 +64,7 @@ fn whole_turn(
     words: &mut [u32],
     counters: &Counters,
     seat: &mut CounterSeat,
-) -> Op
+) -> HostOp
     requires rests { IsSome (resting queue.old) }
     requires page { length words.old ≡ 1024 }
     requires shapes { counters.now.shapes ≡ (wired_to queue.old).program.shapes }
@@ -81,7 +81,7 @@ fn whole_turn(
     step(queue, words, counters, seat, event)
 }
 
-/// What two queues' turns tell, and the counter to which each adds 1, at one seat.
+/// Returns what two queues' turns tell, and the counter to which each adds 1, at one seat.
 fn shared(alloc: Global) -> Option<(u32, u32, u64)> {
     let shape = MapShape::of(2, 1)?;
     let (counters, mut seat) = seated(alloc, &[shape])?;

@@ -151,7 +151,7 @@ fn idle(start: u32) -> [Access; 3] {
     [read(0, start), stored, read(0, start)]
 }
 
-/// Whether an idle turn makes these accesses, and tells nobody.
+/// Returns whether an idle turn makes these accesses, and tells nobody.
 fn is_idle(alloc: Global, start: u32) -> bool {
     match turn(alloc, &PASSES, start, &[start, start]) {
         Some(seen) => seen.accesses.as_slice() == idle(start).as_slice() && !seen.notified,
@@ -177,7 +177,7 @@ const SHORT: [(bool, u32, u32); 7] = [
     (false, 3, 1),
 ];
 
-/// Whether a turn refuses that packet with these accesses, and sends a notice.
+/// Returns whether a turn refuses that packet with these accesses, and sends a notice.
 fn is_short(alloc: Global) -> bool {
     let Some(seen) = turn(alloc, &PASSES, 0, &[1, 2, 0, THIRTEEN, 1]) else {
         return false;
@@ -210,7 +210,7 @@ pub const COUNTS: [u8; 88] = [
     0, 2, 0, 0, 0, 0x95, 0, 0, 0, 0, 0, 0, 0,
 ];
 
-/// What fourteen bytes come to under that program.
+/// Returns what fourteen bytes come to under that program.
 fn counted(alloc: Global) -> Option<Told> {
     let shape = MapShape::of(2, 1)?;
     let answers = [1, 2, 0, FOURTEEN, 1, 19];

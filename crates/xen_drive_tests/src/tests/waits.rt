@@ -12,7 +12,7 @@ use xen_drive::await_slots;
 use xen_page::{Access, Place, ScriptBus};
 use xen_ring::Ports;
 
-/// What an op of the same wait tells.
+/// Returns what an op of the same wait tells.
 fn told_of(awaited: Awaited) -> Told {
     match awaited {
         Awaited::Posted => [9, 0, 0, 0, 0],
@@ -64,7 +64,7 @@ fn last_look(pages: u32, producer: u32) -> [Access; 2] {
     ]
 }
 
-/// How a wait ends that makes those accesses, if both queues make the same.
+/// Returns how a wait ends that makes those accesses, if both queues make the same.
 fn awaited(alloc: Global, pages: u32, producer: u32) -> Option<Told> {
     let seen = of_shipped(alloc, pages, producer)?;
     let wanted = of_new_back(alloc, pages, producer)?;
@@ -72,7 +72,7 @@ fn awaited(alloc: Global, pages: u32, producer: u32) -> Option<Told> {
     (looked && seen == wanted).then_some(seen.told)
 }
 
-/// How many slots are awaited, the producer, and how that ends.
+/// The number of slots that are awaited, the producer, and the end.
 const ROWS: [(u32, u32, Told); 5] = [
     (2, 1, [10, 0, 0, 0, 0]),
     (2, 2, [9, 0, 0, 0, 0]),

@@ -25,15 +25,15 @@ use crate::by_event::sending::{
 };
 use crate::by_event::taking::{after_tx_response, shown, tx_first_looked, tx_looked};
 use crate::packet::Packet;
-use crate::state::{Ring, State};
+use crate::state::{FrontState, Ring};
 use crate::turn::{Outcome, RxTurn};
-use xen_buffers::{Buffer, Wiring, buffer_of, grant_flags};
+use xen_buffers::{FrontWiring, GrantedPage, buffer_of, grant_flags};
 use xen_page::Place;
 use xen_ring::{REQ_EVENT, REQ_PROD, RSP_EVENT, RSP_PROD};
 use xen_steps::{Want, header, rx_entry, tx_entry};
 
 /// The next tx response, or the rx ring's producer if none is left.
-fn taking(wiring: &Wiring, state: &State, n: u32) -> Want
+fn taking(wiring: &FrontWiring, state: &FrontState, n: u32) -> Want
     ensures { result ≡ want_of (take_all wiring.now n state.now) }
 {
     if n == 0 {
@@ -51,14 +51,19 @@ fn announce(frame: u32, ring: &Ring) -> Want
 }
 
 /// Ends a buffer's grant.
-fn end_grant(wiring: &Wiring, buffer: &Buffer) -> Want
+fn end_grant(wiring: &FrontWiring, buffer: &GrantedPage) -> Want
     ensures { result ≡ Want.Write (ended wiring.now buffer.now).at 0 }
 {
     Want::Write(grant_flags(wiring, buffer), 0)
 }
 
-/// What a phase wants.
-pub(crate) fn phase_want(wiring: &Wiring, state: &State, sent: &[u8], phase: &Phase) -> Want
+/// Returns what a phase wants.
+pub(crate) fn phase_want(
+    wiring: &FrontWiring,
+    state: &FrontState,
+    sent: &[u8],
+    phase: &Phase,
+) -> Want
     requires { length sent.now ≤ 65535 }
     ensures { (q : List ℕ) → result ≡ want_of (rest_at wiring.now state.now sent.now q phase.now) }
 {
@@ -97,9 +102,9 @@ pub(crate) fn phase_want(wiring: &Wiring, state: &State, sent: &[u8], phase: &Ph
 }
 
 /// After the word of a tx response, or of the rx ring's producer if none was left.
-fn taken(state: &mut State, received: &mut Packet, n: u32, word: u32) -> Phase
+fn taken(state: &mut FrontState, received: &mut Packet, n: u32, word: u32) -> Phase
     ensures space { HasSpace result received.new }
-    ensures rest { (w : Wiring) (p : List ℕ) (counter : ℕ) → rest_at w state.new p received.new result
+    ensures rest { (w : FrontWiring) (p : List ℕ) (counter : ℕ) → rest_at w state.new p received.new result
         ≡ next_by (take_all w n state.old) word counter }
 {
     if n == 0 {
@@ -126,8 +131,8 @@ fn extra_begun(extra: Extra, first: u32) -> Phase
 
 /// The phase after an answer.
 pub(crate) fn phase_fed(
-    wiring: &Wiring,
-    state: &mut State,
+    wiring: &FrontWiring,
+    state: &mut FrontState,
     sent: &[u8],
     received: &mut Packet,
     phase: Phase,
@@ -180,10 +185,10 @@ pub(crate) fn phase_fed(
     }
 }
 
-/// What the activity gave, without the packet's bytes.
+/// Returns what the activity gave, without the packet's bytes.
 pub(crate) fn ending(phase: Phase) -> Outcome
-    requires { (w : Wiring) × (s : State) × (p : List ℕ) × (q : List ℕ) × (want_of (rest_at w s p q phase) ≡ Want.Done) }
-    ensures { (w : Wiring) (s : State) (p q : List ℕ) → rest_at w s p q phase ≡ done (s, given result q) }
+    requires { (w : FrontWiring) × (s : FrontState) × (p : List ℕ) × (q : List ℕ) × (want_of (rest_at w s p q phase) ≡ Want.Done) }
+    ensures { (w : FrontWiring) (s : FrontState) (p q : List ℕ) → rest_at w s p q phase ≡ done (s, given result q) }
 {
     match phase {
         Phase::Ended(outcome) => outcome,
@@ -192,7 +197,7 @@ pub(crate) fn ending(phase: Phase) -> Outcome
     }
 }
 
-/// What an activity gave, as the host is shown it.
+/// Returns what an activity gave, as the host is shown it.
 pub(crate) fn show<'t>(received: &'t Packet, outcome: Outcome) -> RxTurn<'t>
     ensures { Shows (given outcome received.now) result }
 {
@@ -207,7 +212,7 @@ pub(crate) fn show<'t>(received: &'t Packet, outcome: Outcome) -> RxTurn<'t>
     }
 }
 
-/// Whether the front is inside an activity, or nobody has yet asked what it gave.
+/// Returns whether the front is inside an activity, or nobody has yet asked what it gave.
 pub(crate) fn is_busy(phase: &Phase) -> bool
     ensures { result ≡ busy_in phase.now }
 {

@@ -5,7 +5,7 @@ ghost use Rattle.xen_front.specs.Fronts.{chosen};
 ghost use Rattle.xen_front.specs.Slots.{pieces_of as pieces_of_spec};
 ghost use Rattle.xen_front.specs.Tree.{flown, flown_post, fly as fly_spec};
 
-use crate::state::{Ring, State};
+use crate::state::{FrontState, Ring};
 use arrayvec::ArrayVec;
 
 /// The bytes of a page.
@@ -52,7 +52,7 @@ pub(crate) fn fly(ring: &mut Ring, ids: &[u8])
 }
 
 /// Marks the id of a posted buffer as in flight, notes the entry of its request, and advances the producer past it.
-pub(crate) fn fly_post(state: &mut State, id: u8)
+pub(crate) fn fly_post(state: &mut FrontState, id: u8)
     ensures { state.new ≡ flown_post state.old id }
 {
     let entry = state.rx.prod % ENTRIES;

@@ -72,7 +72,7 @@ pub struct Push {
     pub new: u32,
 }
 
-/// What the next event of an activity is.
+/// The next event of an activity.
 #[derive(Drop)]
 pub enum Phase {
     /// Between activities.

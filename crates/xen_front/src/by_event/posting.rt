@@ -3,14 +3,14 @@
 ghost use Rattle.std.specs.Prelude.{◌≡◌, ℕ, List};
 ghost use Rattle.xen_front.specs.Rest.{HasSpace, posting, rest_at};
 ghost use Rattle.xen_front.specs.Tree.{notice, publish};
-ghost use Rattle.xen_front.specs.declared.state.State.{State};
+ghost use Rattle.xen_front.specs.declared.state.FrontState.{FrontState};
 ghost use Rattle.xen_ring.specs.Index.{is_due};
 ghost use Rattle.xen_steps.specs.Places.{add32};
 ghost use Rattle.xen_steps.specs.Steps.{want_of};
 
 use crate::by_event::phase::{Phase, Push};
 use crate::turn::Outcome;
-use xen_buffers::{Wiring, buffer_of, grant_flags, grant_frame};
+use xen_buffers::{FrontWiring, buffer_of, grant_flags, grant_frame};
 use xen_netif::RxReq;
 use xen_ring::due;
 use xen_steps::{Want, rx_entry};
@@ -21,22 +21,22 @@ const WRITE_GRANT: u32 = 1;
 /// Before a posted buffer's grant.
 pub(crate) fn begin_post(id: u8, start: u32) -> Phase
     ensures space { (q : List ℕ) → HasSpace result q }
-    ensures rest { (w : Wiring) (s : State) (p q : List ℕ) → rest_at w s p q result ≡ posting w s id start 0 }
+    ensures rest { (w : FrontWiring) (s : FrontState) (p q : List ℕ) → rest_at w s p q result ≡ posting w s id start 0 }
 {
     Phase::PostFrame { id, start }
 }
 
 /// The frame word of a posted buffer's grant.
-pub(crate) fn post_frame(wiring: &Wiring, id: u8) -> Want
-    ensures { (s : State) (start : ℕ) → result ≡ want_of (posting wiring.now s id start 0) }
+pub(crate) fn post_frame(wiring: &FrontWiring, id: u8) -> Want
+    ensures { (s : FrontState) (start : ℕ) → result ≡ want_of (posting wiring.now s id start 0) }
 {
     let buffer = buffer_of(wiring.rx, u16::from(id));
     Want::Write(grant_frame(wiring, &buffer), buffer.frame)
 }
 
 /// Its flags word: the back may read and write.
-pub(crate) fn post_flags(wiring: &Wiring, id: u8) -> Want
-    ensures { (s : State) (start : ℕ) → result ≡ want_of (posting wiring.now s id start 1) }
+pub(crate) fn post_flags(wiring: &FrontWiring, id: u8) -> Want
+    ensures { (s : FrontState) (start : ℕ) → result ≡ want_of (posting wiring.now s id start 1) }
 {
     let buffer = buffer_of(wiring.rx, u16::from(id));
     Want::Write(
@@ -46,8 +46,8 @@ pub(crate) fn post_flags(wiring: &Wiring, id: u8) -> Want
 }
 
 /// The slot's first word: the buffer's id.
-pub(crate) fn post_first(wiring: &Wiring, id: u8, start: u32) -> Want
-    ensures { (s : State) → result ≡ want_of (posting wiring.now s id start 2) }
+pub(crate) fn post_first(wiring: &FrontWiring, id: u8, start: u32) -> Want
+    ensures { (s : FrontState) → result ≡ want_of (posting wiring.now s id start 2) }
 {
     let gref = buffer_of(wiring.rx, u16::from(id)).gref;
     let id = u16::from(id);
@@ -58,8 +58,8 @@ pub(crate) fn post_first(wiring: &Wiring, id: u8, start: u32) -> Want
 }
 
 /// The slot's second word: the buffer's reference.
-pub(crate) fn post_second(wiring: &Wiring, id: u8, start: u32) -> Want
-    ensures { (s : State) → result ≡ want_of (posting wiring.now s id start 3) }
+pub(crate) fn post_second(wiring: &FrontWiring, id: u8, start: u32) -> Want
+    ensures { (s : FrontState) → result ≡ want_of (posting wiring.now s id start 3) }
 {
     let gref = buffer_of(wiring.rx, u16::from(id)).gref;
     let id = u16::from(id);
@@ -70,9 +70,9 @@ pub(crate) fn post_second(wiring: &Wiring, id: u8, start: u32) -> Want
 }
 
 /// After a posted buffer's slot.
-pub(crate) fn posted(wiring: &Wiring, start: u32) -> Phase
+pub(crate) fn posted(wiring: &FrontWiring, start: u32) -> Phase
     ensures space { (q : List ℕ) → HasSpace result q }
-    ensures rest { (s : State) (p q : List ℕ) → rest_at wiring.now s p q result
+    ensures rest { (s : FrontState) (p q : List ℕ) → rest_at wiring.now s p q result
         ≡ publish wiring.now wiring.now.rx_frame start (add32 start 1) s }
 {
     Phase::Publish(Push {
@@ -85,7 +85,7 @@ pub(crate) fn posted(wiring: &Wiring, start: u32) -> Phase
 /// After the event index: a notice if it is due.
 pub(crate) fn after_event(push: Push, event: u32) -> Phase
     ensures space { (q : List ℕ) → HasSpace result q }
-    ensures rest { (w : Wiring) (s : State) (p q : List ℕ) → rest_at w s p q result ≡ notice w (is_due push.old push.new event) s }
+    ensures rest { (w : FrontWiring) (s : FrontState) (p q : List ℕ) → rest_at w s p q result ≡ notice w (is_due push.old push.new event) s }
 {
     if due(push.old, push.new, event) {
         Phase::Notice

@@ -16,15 +16,19 @@ use crate::by_event::extras::extra_next;
 use crate::by_event::phase::{Chained, Paging, Part, Phase};
 use crate::by_event::taking::{halt, is_in_flight, land};
 use crate::packet::Packet;
-use crate::state::State;
-use crate::turn::{Halt, Outcome};
-use xen_buffers::{Buffer, Wiring, buffer_of};
+use crate::state::FrontState;
+use crate::turn::{FrontHalt, Outcome};
+use xen_buffers::{FrontWiring, GrantedPage, buffer_of};
 use xen_netif::{Accepts, Fragment, RxFlags, RxOffload, RxRsp};
 
 /// After the first look at the rx ring.
-pub(crate) fn rx_first_looked(state: &mut State, received: &mut Packet, n: Option<u32>) -> Phase
+pub(crate) fn rx_first_looked(
+    state: &mut FrontState,
+    received: &mut Packet,
+    n: Option<u32>,
+) -> Phase
     ensures space { HasSpace result received.new }
-    ensures rest { (w : Wiring) (p : List ℕ) → rest_at w state.new p received.new result
+    ensures rest { (w : FrontWiring) (p : List ℕ) → rest_at w state.new p received.new result
         ≡ bind (seen w.rx_frame state.old.rx n) (after_rx_look w state.old) }
 {
     match n {
@@ -40,12 +44,12 @@ pub(crate) fn rx_first_looked(state: &mut State, received: &mut Packet, n: Optio
 }
 
 /// After the last look at the rx ring.
-pub(crate) fn rx_looked(state: &mut State, received: &mut Packet, n: Option<u32>) -> Phase
+pub(crate) fn rx_looked(state: &mut FrontState, received: &mut Packet, n: Option<u32>) -> Phase
     ensures space { HasSpace result received.new }
-    ensures rest { (w : Wiring) (p : List ℕ) → rest_at w state.new p received.new result ≡ after_rx_look w state.old n }
+    ensures rest { (w : FrontWiring) (p : List ℕ) → rest_at w state.new p received.new result ≡ after_rx_look w state.old n }
 {
     match n {
-        None => halt(state, Halt::RxProducer),
+        None => halt(state, FrontHalt::RxProducer),
         Some(n) => {
             if n == 0 {
                 Phase::Ended(Outcome::Idle)
@@ -70,29 +74,29 @@ fn covered_bytes(status: i16) -> u16
     if status < 0 { 0 } else { status as u16 }
 }
 
-/// Whether a status is an error's.
+/// Returns whether a status is an error's.
 fn is_negative(status: i16) -> bool
     ensures { result ≡ is_negative_spec status }
 {
     status < 0
 }
 
-/// Whether offset and status, added as whole numbers, are above a page's 4,096 bytes.
+/// Returns whether offset and status, added as whole numbers, are above a page's 4,096 bytes.
 fn passes_page(offset: u16, status: i16) -> bool
     ensures { result ≡ passes_page_spec offset status }
 {
     i32::from(offset) + i32::from(status) > 4096
 }
 
-/// Whether an extra may lie behind the slot that comes after so many.
+/// Returns whether an extra may lie behind the slot that comes after so many.
 fn may_have_extra(accepts: &Accepts, slots: u32) -> bool
     ensures { result ≡ may_have_extra_spec accepts.now slots }
 {
     slots == 0 && (accepts.segments.gso_tcpv4 || accepts.segments.gso_tcpv6)
 }
 
-/// Whether a response names no buffer in flight, or its flags ask for what may not come.
-fn is_strange(state: &State, slots: u32, response: &RxRsp) -> bool
+/// Returns whether a response names no buffer in flight, or its flags ask for what may not come.
+fn is_strange(state: &FrontState, slots: u32, response: &RxRsp) -> bool
     ensures { result ≡ (not (in_flight state.now.rx response.now.id)
         || (response.now.flags.extra_info && not (may_have_extra_spec state.now.accepts slots)) || response.now.flags.gso_prefix) }
 {
@@ -106,35 +110,35 @@ fn is_strange(state: &State, slots: u32, response: &RxRsp) -> bool
         || gso_prefix
 }
 
-/// Why a response halts the front, if it does.
-fn fault(state: &State, slots: u32, bytes: u32, response: &RxRsp) -> Option<Halt>
+/// Returns why a response halts the front, if it does.
+fn fault(state: &FrontState, slots: u32, bytes: u32, response: &RxRsp) -> Option<FrontHalt>
     requires { bytes ≤ 65535 }
     ensures { result ≡ fault_of state.now.accepts state.now.rx slots bytes response.now }
 {
     if is_strange(state, slots, response) {
-        return Some(Halt::RxSlot);
+        return Some(FrontHalt::RxSlot);
     }
     if passes_page(response.offset, response.status) {
-        return Some(Halt::RxSize);
+        return Some(FrontHalt::RxSize);
     }
     if slots == 15 && response.flags.more_data
         || bytes + u32::from(covered_bytes(response.status)) > 65535
     {
-        return Some(Halt::LongChain);
+        return Some(FrontHalt::LongChain);
     }
     None
 }
 
 /// After a response's two words.
 pub(crate) fn after_response(
-    state: &mut State,
+    state: &mut FrontState,
     received: &Packet,
     chained: Chained,
     first: u32,
     second: u32,
 ) -> Phase
     ensures space { HasSpace result received.now }
-    ensures rest { (w : Wiring) (p : List ℕ) → rest_at w state.new p received.now result
+    ensures rest { (w : FrontWiring) (p : List ℕ) → rest_at w state.new p received.now result
         ≡ checked w state.old (gathered chained received.now) (rx_rsp_of (first ∷ second ∷ []))
         (fault_of state.old.accepts state.old.rx chained.slots (length received.now) (rx_rsp_of (first ∷ second ∷ [])))
         (receive w chained.left) }
@@ -155,7 +159,7 @@ pub(crate) fn after_response(
 }
 
 /// The part of the packet that a response describes.
-fn part_of(buffer: &Buffer, response: &RxRsp) -> Fragment
+fn part_of(buffer: &GrantedPage, response: &RxRsp) -> Fragment
     ensures { result ≡ part_of_spec buffer.now response.now }
 {
     Fragment {
@@ -166,7 +170,7 @@ fn part_of(buffer: &Buffer, response: &RxRsp) -> Fragment
 }
 
 /// After the end of a response's grant.
-pub(crate) fn grant_ended(wiring: &Wiring, state: &mut State, part: Part) -> Phase
+pub(crate) fn grant_ended(wiring: &FrontWiring, state: &mut FrontState, part: Part) -> Phase
     ensures space { (q : List ℕ) → length q + covered_bytes_spec part.response.status ≤ 65535 → HasSpace result q }
     ensures rest { (p q : List ℕ) → rest_at wiring.now state.new p q result
         ≡ read_page wiring.now state.old (gathered part.chained q) part.response (receive wiring.now part.chained.left) }
@@ -188,7 +192,7 @@ fn before_word(part: Part, frame: u32, fragment: Fragment, place: u32, more: u32
     requires covers { Covers fragment place }
     requires last { place + more ≡ (fragment.offset + fragment.size - 1) / 4 }
     ensures space { (q : List ℕ) → length q + bytes_left fragment place ≤ 65535 → HasSpace result q }
-    ensures rest { (w : Wiring) (s : State) (p q : List ℕ) → rest_at w s p q result
+    ensures rest { (w : FrontWiring) (s : FrontState) (p q : List ℕ) → rest_at w s p q result
         ≡ bind (copy_words fragment frame place (suc more) q) (part_rest w s part) }
 {
     Phase::RxPage(Paging {
@@ -203,19 +207,19 @@ fn before_word(part: Part, frame: u32, fragment: Fragment, place: u32, more: u32
 /// Before a response of the chain.
 fn before_response(chained: Chained) -> Phase
     ensures space { (q : List ℕ) → HasSpace result q }
-    ensures rest { (w : Wiring) (s : State) (p q : List ℕ) → rest_at w s p q result
+    ensures rest { (w : FrontWiring) (s : FrontState) (p q : List ℕ) → rest_at w s p q result
         ≡ first_word w s (gathered chained q) (receive w chained.left) }
 {
     Phase::RxFirst(chained)
 }
 
 /// Before a further response of the chain, or the halt if the producer showed none: here `left` counts that one too.
-pub(crate) fn more_responses(state: &mut State, chained: Chained) -> Phase
+pub(crate) fn more_responses(state: &mut FrontState, chained: Chained) -> Phase
     ensures space { (q : List ℕ) → HasSpace result q }
-    ensures rest { (w : Wiring) (p q : List ℕ) → rest_at w state.new p q result ≡ receive w chained.left state.old (gathered chained q) }
+    ensures rest { (w : FrontWiring) (p q : List ℕ) → rest_at w state.new p q result ≡ receive w chained.left state.old (gathered chained q) }
 {
     if chained.left == 0 {
-        halt(state, Halt::ShortChain)
+        halt(state, FrontHalt::ShortChain)
     } else {
         before_response(one_less(chained))
     }
@@ -235,10 +239,10 @@ pub(crate) fn one_less(chained: Chained) -> Chained
     }
 }
 
-/// What a whole chain gives.
+/// Returns what a whole chain gives.
 pub(crate) fn given(bad: bool, offload: RxOffload) -> Phase
     ensures space { (q : List ℕ) → HasSpace result q }
-    ensures rest { (w : Wiring) (s : State) (p q : List ℕ) → rest_at w s p q result ≡ done (s, if bad then givens.Refused else givens.Packet offload q) }
+    ensures rest { (w : FrontWiring) (s : FrontState) (p q : List ℕ) → rest_at w s p q result ≡ done (s, if bad then givens.Refused else givens.Packet offload q) }
 {
     if bad {
         Phase::Ended(Outcome::Refused)
@@ -247,21 +251,21 @@ pub(crate) fn given(bad: bool, offload: RxOffload) -> Phase
     }
 }
 
-/// Whether a status was negative, that of a part among them.
+/// Returns whether a status was negative, that of a part among them.
 fn is_bad(part: &Part) -> bool
     ensures { result ≡ (part.now.chained.bad || is_negative_spec part.now.response.status) }
 {
     part.chained.bad || is_negative(part.response.status)
 }
 
-/// What a response behind so many slots says of the packet's checksum, if it is the first; else what was known.
+/// Returns what a response behind so many slots says of the packet's checksum, if it is the first; else what was known.
 fn first_said(slots: u32, known: RxOffload, said: RxOffload) -> RxOffload
     ensures { result ≡ first_said_spec slots known said }
 {
     if slots == 0 { said } else { known }
 }
 
-/// What the packet leaves to the front, as far as this part and those before it say.
+/// Returns what the packet leaves to the front, as far as this part and those before it say.
 fn said(part: &Part) -> RxOffload
     ensures { result ≡ said_by part.now.response.flags part.now.chained.slots part.now.chained.offload }
 {
@@ -281,9 +285,9 @@ fn said(part: &Part) -> RxOffload
 }
 
 /// After a part's page.
-fn after_part(state: &mut State, part: Part) -> Phase
+fn after_part(state: &mut FrontState, part: Part) -> Phase
     ensures space { (q : List ℕ) → HasSpace result q }
-    ensures rest { (w : Wiring) (p q : List ℕ) → rest_at w state.new p q result ≡ part_rest w state.old part q }
+    ensures rest { (w : FrontWiring) (p q : List ℕ) → rest_at w state.new p q result ≡ part_rest w state.old part q }
 {
     let bad = is_bad(&part);
     let offload = said(&part);
@@ -310,14 +314,14 @@ fn after_part(state: &mut State, part: Part) -> Phase
 
 /// After a word of a part's page.
 pub(crate) fn after_word(
-    state: &mut State,
+    state: &mut FrontState,
     received: &mut Packet,
     paging: Paging,
     word: u32,
 ) -> Phase
     requires { length received.old + bytes_left paging.fragment paging.place ≤ 65535 }
     ensures space { HasSpace result received.new }
-    ensures rest { (w : Wiring) (p : List ℕ) → rest_at w state.new p received.new result
+    ensures rest { (w : FrontWiring) (p : List ℕ) → rest_at w state.new p received.new result
         ≡ bind (copy_words paging.fragment paging.frame (paging.place + 1) paging.more
         (received.old ++ bytes_in paging.fragment paging.place word)) (part_rest w state.old paging.part) }
 {

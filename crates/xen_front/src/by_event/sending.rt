@@ -8,7 +8,7 @@ ghost use Rattle.xen_netif.specs.Slots.{tx_req_words};
 ghost use Rattle.xen_netif.specs.Words.{joined};
 ghost use Rattle.xen_page.specs.Mapping.{frame_place};
 ghost use Rattle.xen_front.specs.Tree.{publish};
-ghost use Rattle.xen_front.specs.declared.state.State.{State};
+ghost use Rattle.xen_front.specs.declared.state.FrontState.{FrontState};
 ghost use Rattle.xen_steps.specs.Pages.{write_all};
 ghost use Rattle.xen_steps.specs.Places.{add32, tx_entry as tx_entry_place};
 ghost use Rattle.xen_steps.specs.Steps.{next_by, want_of};
@@ -16,7 +16,7 @@ ghost use Rattle.xen_steps.specs.Steps.{next_by, want_of};
 use crate::by_event::phase::{Filling, Phase, Piece, Push};
 use crate::by_event::places::{piece_size, piece_words, word_at};
 use arrayvec::ArrayVec;
-use xen_buffers::{Buffer, Wiring, buffer_of, grant_flags, grant_frame};
+use xen_buffers::{FrontWiring, GrantedPage, buffer_of, grant_flags, grant_frame};
 use xen_netif::{TxFlags, TxReq};
 use xen_page::Place;
 use xen_steps::{Want, tx_entry};
@@ -40,14 +40,14 @@ fn pieces(piece: &Piece) -> u32
 }
 
 /// The buffer of a piece.
-pub(crate) fn page(wiring: &Wiring, piece: &Piece) -> Buffer
+pub(crate) fn page(wiring: &FrontWiring, piece: &Piece) -> GrantedPage
     ensures { result ≡ buffer wiring.now.tx.now (id_of piece.now) }
 {
     buffer_of(wiring.tx, u16::from(id(piece)))
 }
 
 /// The frame word of a piece's grant.
-pub(crate) fn piece_frame(wiring: &Wiring, piece: &Piece) -> Want
+pub(crate) fn piece_frame(wiring: &FrontWiring, piece: &Piece) -> Want
     ensures { let b = buffer wiring.now.tx.now (id_of piece.now) in
         result ≡ Want.Write (frame_place (grant_place wiring.now b)) b.frame }
 {
@@ -56,7 +56,7 @@ pub(crate) fn piece_frame(wiring: &Wiring, piece: &Piece) -> Want
 }
 
 /// Its flags word: the back may read.
-pub(crate) fn piece_flags(wiring: &Wiring, piece: &Piece) -> Want
+pub(crate) fn piece_flags(wiring: &FrontWiring, piece: &Piece) -> Want
     ensures { result ≡ Want.Write (grant_place wiring.now (buffer wiring.now.tx.now (id_of piece.now))) (joined 5 wiring.now.back) }
 {
     let buffer = page(wiring, piece);
@@ -80,7 +80,7 @@ fn told_size(sent: &[u8], index: u32) -> u16
 }
 
 /// The request of a piece.
-pub(crate) fn request(wiring: &Wiring, sent: &[u8], piece: &Piece) -> TxReq
+pub(crate) fn request(wiring: &FrontWiring, sent: &[u8], piece: &Piece) -> TxReq
     requires { length sent.now ≤ 65535 }
     ensures { result ≡ piece_request_spec wiring.now sent.now (pieces_spec piece.now) piece.now.index (id_of piece.now) }
 {
@@ -99,7 +99,7 @@ pub(crate) fn request(wiring: &Wiring, sent: &[u8], piece: &Piece) -> TxReq
 }
 
 /// A word of a piece's slot.
-pub(crate) fn slot_write(wiring: &Wiring, sent: &[u8], piece: &Piece, word: u32) -> Want
+pub(crate) fn slot_write(wiring: &FrontWiring, sent: &[u8], piece: &Piece, word: u32) -> Want
     requires length { length sent.now ≤ 65535 }
     requires word { word < 3 }
     ensures { result ≡ Want.Write (tx_entry_place wiring.now.tx_frame (add32 piece.now.start piece.now.index) word)
@@ -114,9 +114,9 @@ pub(crate) fn slot_write(wiring: &Wiring, sent: &[u8], piece: &Piece, word: u32)
 }
 
 /// The next word of a page, or its slot's first word once all are written.
-pub(crate) fn filling_want(wiring: &Wiring, sent: &[u8], filling: &Filling) -> Want
+pub(crate) fn filling_want(wiring: &FrontWiring, sent: &[u8], filling: &Filling) -> Want
     requires { length sent.now ≤ 65535 }
-    ensures { (s : State) → result ≡ want_of (filling_from wiring.now s sent.now filling.now.piece filling.now.written) }
+    ensures { (s : FrontState) → result ≡ want_of (filling_from wiring.now s sent.now filling.now.piece filling.now.written) }
 {
     let piece = &filling.piece;
     if filling.written < piece_words(sent.len() as u32, piece.index) {
@@ -140,7 +140,7 @@ pub(crate) fn filling_want(wiring: &Wiring, sent: &[u8], filling: &Filling) -> W
 pub(crate) fn first_piece(start: u32, ids: ArrayVec<u8, 16>) -> Phase
     requires { 0 < length ids.items }
     ensures space { (q : List ℕ) → HasSpace result q }
-    ensures rest { (w : Wiring) (s : State) (p q : List ℕ) → rest_at w s p q result
+    ensures rest { (w : FrontWiring) (s : FrontState) (p q : List ℕ) → rest_at w s p q result
         ≡ write_all (send_writes w start p (length ids.items) 0 ids.items)
         (publish w w.tx_frame start (add32 start (length ids.items)) s) }
 {
@@ -154,7 +154,7 @@ pub(crate) fn first_piece(start: u32, ids: ArrayVec<u8, 16>) -> Phase
 /// After the grant's flags.
 pub(crate) fn granted(piece: Piece) -> Phase
     ensures space { (q : List ℕ) → HasSpace result q }
-    ensures rest { (w : Wiring) (s : State) (p q : List ℕ) → rest_at w s p q result
+    ensures rest { (w : FrontWiring) (s : FrontState) (p q : List ℕ) → rest_at w s p q result
         ≡ sending w s p piece (filling_spec w piece.start p (pieces_spec piece) piece.index (id_of piece)
         (piece_words_spec (length p) piece.index) 0) }
 {
@@ -165,7 +165,7 @@ pub(crate) fn granted(piece: Piece) -> Phase
 pub(crate) fn filled(sent: &[u8], filling: Filling) -> Phase
     requires { length sent.now ≤ 65535 }
     ensures space { (q : List ℕ) → HasSpace result q }
-    ensures rest { (w : Wiring) (s : State) (q : List ℕ) (word counter : ℕ) → rest_at w s sent.now q result
+    ensures rest { (w : FrontWiring) (s : FrontState) (q : List ℕ) (word counter : ℕ) → rest_at w s sent.now q result
         ≡ next_by (filling_from w s sent.now filling.piece filling.written) word counter }
 {
     if filling.written < piece_words(sent.len() as u32, filling.piece.index) {
@@ -180,9 +180,9 @@ pub(crate) fn filled(sent: &[u8], filling: Filling) -> Phase
 }
 
 /// After a slot.
-pub(crate) fn slot_written(wiring: &Wiring, piece: Piece) -> Phase
+pub(crate) fn slot_written(wiring: &FrontWiring, piece: Piece) -> Phase
     ensures space { (q : List ℕ) → HasSpace result q }
-    ensures rest { (s : State) (p q : List ℕ) → rest_at wiring.now s p q result ≡ sending wiring.now s p piece [] }
+    ensures rest { (s : FrontState) (p q : List ℕ) → rest_at wiring.now s p q result ≡ sending wiring.now s p piece [] }
 {
     let Piece { start, index, ids } = piece;
     let n = ids.len() as u32;

@@ -9,16 +9,16 @@ ghost use Rattle.xen_steps.specs.Places.{fresh};
 ghost use Rattle.xen_steps.specs.Steps.{bind};
 
 use crate::by_event::phase::Phase;
-use crate::state::{Counts, Ring, State};
-use crate::turn::{Halt, Outcome};
-use xen_buffers::Wiring;
+use crate::state::{Counts, FrontState, Ring};
+use crate::turn::{FrontHalt, Outcome};
+use xen_buffers::FrontWiring;
 use xen_netif::TxRsp;
 use xen_steps::responses_shown;
 
 /// Ends the activity and halts the front.
-pub(crate) fn halt(state: &mut State, cause: Halt) -> Phase
+pub(crate) fn halt(state: &mut FrontState, cause: FrontHalt) -> Phase
     ensures space { (q : List ℕ) → HasSpace result q }
-    ensures rest { (w : Wiring) (p q : List ℕ) → rest_at w state.new p q result ≡ halted state.old cause }
+    ensures rest { (w : FrontWiring) (p q : List ℕ) → rest_at w state.new p q result ≡ halted state.old cause }
 {
     state.halt = Some(cause);
     Phase::Ended(Outcome::Halted { cause })
@@ -34,19 +34,19 @@ pub(crate) fn shown(ring: &Ring, producer: u32) -> Option<u32>
 /// Before a poll.
 pub(crate) fn begin_poll() -> Phase
     ensures space { (q : List ℕ) → HasSpace result q }
-    ensures rest { (w : Wiring) (s : State) (p q : List ℕ) → rest_at w s p q result ≡ poll w s }
+    ensures rest { (w : FrontWiring) (s : FrontState) (p q : List ℕ) → rest_at w s p q result ≡ poll w s }
 {
     Phase::TxLook
 }
 
 /// After the first look at the tx ring.
-pub(crate) fn tx_first_looked(state: &mut State, n: Option<u32>) -> Phase
+pub(crate) fn tx_first_looked(state: &mut FrontState, n: Option<u32>) -> Phase
     ensures space { (q : List ℕ) → HasSpace result q }
-    ensures rest { (w : Wiring) (p q : List ℕ) → rest_at w state.new p q result
+    ensures rest { (w : FrontWiring) (p q : List ℕ) → rest_at w state.new p q result
         ≡ bind (seen w.tx_frame state.old.tx n) (after_tx_look w state.old) }
 {
     match n {
-        None => halt(state, Halt::TxProducer),
+        None => halt(state, FrontHalt::TxProducer),
         Some(n) => {
             if n == 0 {
                 Phase::TxAnnounce
@@ -58,12 +58,12 @@ pub(crate) fn tx_first_looked(state: &mut State, n: Option<u32>) -> Phase
 }
 
 /// After the last look at the tx ring.
-pub(crate) fn tx_looked(state: &mut State, n: Option<u32>) -> Phase
+pub(crate) fn tx_looked(state: &mut FrontState, n: Option<u32>) -> Phase
     ensures space { (q : List ℕ) → HasSpace result q }
-    ensures rest { (w : Wiring) (p q : List ℕ) → rest_at w state.new p q result ≡ after_tx_look w state.old n }
+    ensures rest { (w : FrontWiring) (p q : List ℕ) → rest_at w state.new p q result ≡ after_tx_look w state.old n }
 {
     match n {
-        None => halt(state, Halt::TxProducer),
+        None => halt(state, FrontHalt::TxProducer),
         Some(n) => Phase::Take(n),
     }
 }
@@ -89,7 +89,7 @@ pub(crate) fn land(ring: &mut Ring, id: u16)
     ring.out[usize::from(id)] = false;
 }
 
-/// Whether a request with this id is open.
+/// Returns whether a request with this id is open.
 pub(crate) fn is_in_flight(ring: &Ring, id: u16) -> bool
     ensures { result ≡ in_flight_spec ring.now id }
 {
@@ -100,10 +100,10 @@ pub(crate) fn is_in_flight(ring: &Ring, id: u16) -> bool
 }
 
 /// After a tx response.
-pub(crate) fn after_tx_response(state: &mut State, n: u32, word: u32) -> Phase
+pub(crate) fn after_tx_response(state: &mut FrontState, n: u32, word: u32) -> Phase
     requires { 0 < n }
     ensures space { (q : List ℕ) → HasSpace result q }
-    ensures rest { (w : Wiring) (p q : List ℕ) → rest_at w state.new p q result
+    ensures rest { (w : FrontWiring) (p q : List ℕ) → rest_at w state.new p q result
         ≡ judged w state.old (tx_rsp_of (word ∷ [])) (in_flight_spec state.old.tx (tx_rsp_of (word ∷ [])).id)
         (take_all w (n - 1) (took_spec state.old (tx_rsp_of (word ∷ [])))) }
 {
@@ -116,6 +116,6 @@ pub(crate) fn after_tx_response(state: &mut State, n: u32, word: u32) -> Phase
             left: n - 1,
         }
     } else {
-        halt(state, Halt::TxId)
+        halt(state, FrontHalt::TxId)
     }
 }

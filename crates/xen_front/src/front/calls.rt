@@ -17,7 +17,7 @@ use crate::by_event::feeding::{ending, phase_fed, phase_want, show};
 use crate::by_event::phase::Phase;
 use crate::front::Front;
 use crate::in_one_go::drive::{drive_events, drive_pieces};
-use crate::state::State;
+use crate::state::FrontState;
 use crate::turn::RxTurn;
 use std::mem;
 use xen_page::Bus;
@@ -25,7 +25,7 @@ use xen_ring::Ports;
 use xen_steps::{Answer, Want};
 
 impl<'p> Front<'p> {
-    /// What the front wants next: an access to a page of its own, a notice, or `Done` when the activity is over.
+    /// Returns what the front wants next: an access to a page of its own, a notice, or `Done` when the activity is over.
     pub fn want(&self) -> Want
         ensures want { result ≡ want_of (rest self.now) }
         ensures within { result ≢ Want.Done → IsPageWant (wiring_of self.now).frames result }
@@ -57,7 +57,7 @@ impl<'p> Front<'p> {
         );
     }
 
-    /// What the activity gave. The next activity may begin once the borrow of the packet has ended.
+    /// Returns what the activity gave. The next activity may begin once the borrow of the packet has ended.
     pub fn received(&mut self) -> RxTurn<'_>
         requires { want_of (rest self.old) ≡ Want.Done }
         ensures* after { sem 𝓛 (follows_so
@@ -96,11 +96,11 @@ impl<'p> Front<'p> {
         [c.okay, c.dropped, c.error, c.other]
     }
 
-    /// How many requests of the tx ring and of the rx ring aren't answered, as far as the polls have seen.
+    /// Returns the numbers of requests of the tx ring and of the rx ring that aren't answered, as far as the polls have seen.
     pub fn unanswered(&self) -> (u32, u32)
         ensures { let s = state_of self.now in result ≡ (outstanding s.tx, outstanding s.rx) }
     {
-        let State { tx, rx, .. } = &self.state;
+        let FrontState { tx, rx, .. } = &self.state;
         (tx.prod.wrapping_sub(tx.cons), rx.prod.wrapping_sub(rx.cons))
     }
 }

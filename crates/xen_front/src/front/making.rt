@@ -7,9 +7,9 @@ ghost use Rattle.xen_buffers.specs.Wired.{IsWired, wiring_in};
 use crate::by_event::phase::Phase;
 use crate::front::Front;
 use crate::packet::Packet;
-use crate::state::{Counts, Ring, State};
+use crate::state::{Counts, FrontState, Ring};
 use std::alloc::{AllocError, Global};
-use xen_buffers::{FrontDesc, Wiring};
+use xen_buffers::{FrontDesc, FrontWiring};
 use xen_netif::Accepts;
 
 /// A ring with nothing in flight, at this index.
@@ -35,7 +35,7 @@ impl<'p> Front<'p> {
         requires { IsWired (wiring_in desc) }
         ensures { IfOk result (IsMade desc.entry accepts) }
     {
-        let wiring = Wiring {
+        let wiring = FrontWiring {
             frames: desc.frames,
             tx_frame: desc.tx_frame,
             rx_frame: desc.rx_frame,
@@ -45,7 +45,7 @@ impl<'p> Front<'p> {
             back: desc.back,
             port: desc.port,
         };
-        let state = State {
+        let state = FrontState {
             tx: new_ring(desc.start),
             rx: new_ring(desc.start),
             posts: [0; 256],

@@ -32,7 +32,7 @@ pub fn flags_and_status(left: u32, may_have_extra: bool, random: &mut Random) ->
     more | checksum | extra | status << 16
 }
 
-/// What the first response of a packet says of its checksum.
+/// Returns what the first response of a packet says of its checksum.
 pub fn said(second: u32) -> RxOffload {
     if second & 2 != 0 {
         RxOffload::Blank
@@ -68,7 +68,7 @@ pub fn segments_in([first, second]: [u32; 2]) -> Option<Segments> {
     })
 }
 
-/// What a whole chain gives.
+/// Returns what a whole chain gives.
 pub fn given(bad: bool, offload: RxOffload) -> End {
     if bad {
         End::Refused
@@ -77,12 +77,12 @@ pub fn given(bad: bool, offload: RxOffload) -> End {
     }
 }
 
-/// Whether the status of a response with this second word is negative.
+/// Returns whether the status of a response with this second word is negative.
 pub fn is_negative(second: u32) -> bool {
     second >> 16 >= 0x8000
 }
 
-/// How many bytes a response with this second word has.
+/// Returns the number of bytes that a response with this second word has.
 pub fn size_of(second: u32) -> u32 {
     if is_negative(second) { 0 } else { second >> 16 }
 }

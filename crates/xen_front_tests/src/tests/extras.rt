@@ -6,7 +6,7 @@ use super::fixtures::{Call, End, READ, STARTS, WRITE};
 use super::steps::{Step, after, after_accepting};
 use crate::bench::RX;
 use std::alloc::Global;
-use xen_front::{Accepts, Halt, RxOffload};
+use xen_front::{Accepts, FrontHalt, RxOffload};
 use xen_netif::{GsoType, Offers, Segments};
 
 /// Both types are accepted.
@@ -134,7 +134,7 @@ fn an_extra_of_a_refused_packet(rt: HostRuntime) {
 fn after_halting(
     alloc: Global,
     answers: &[u32],
-    cause: Halt,
+    cause: FrontHalt,
     accesses: usize,
 ) -> Result<[u64; 4], usize> {
     let halts = Step::of(Call::Poll, answers, End::Halted(cause)).makes(accesses);
@@ -158,7 +158,7 @@ fn an_extra_that_is_not_taken(rt: HostRuntime) {
         (0x05a8_0000, 1),
     ] {
         let answers = [0, 0, 2, 0, 0x0000_000b, first, second];
-        let seen = after_halting(rt.alloc(), &answers, Halt::RxSlot, 4 + 3 + 2);
+        let seen = after_halting(rt.alloc(), &answers, FrontHalt::RxSlot, 4 + 3 + 2);
         assert_eq!(rt; seen, Ok([0; 4]), "{first} {second}");
     }
 }
@@ -167,12 +167,12 @@ fn an_extra_that_is_not_taken(rt: HostRuntime) {
 #[test]
 fn an_extra_in_a_wrong_place(rt: HostRuntime) {
     let answered = [0, 0, 2, 1, 0x0000_000b, 0x05a8_0001, 1];
-    let seen = after_halting(rt.alloc(), &answered, Halt::RxSlot, 4 + 3 + 2);
+    let seen = after_halting(rt.alloc(), &answered, FrontHalt::RxSlot, 4 + 3 + 2);
     assert_eq!(rt; seen, Ok([0; 4]));
     let later = [0, 0, 3, 0, 0x0000_0004, 1, 0x0000_000b];
-    let seen = after_halting(rt.alloc(), &later, Halt::RxSlot, 4 + 3 + 2);
+    let seen = after_halting(rt.alloc(), &later, FrontHalt::RxSlot, 4 + 3 + 2);
     assert_eq!(rt; seen, Ok([0; 4]));
     let short = [0, 0, 1, 0, 0x0000_000b];
-    let seen = after_halting(rt.alloc(), &short, Halt::ShortChain, 4 + 3);
+    let seen = after_halting(rt.alloc(), &short, FrontHalt::ShortChain, 4 + 3);
     assert_eq!(rt; seen, Ok([0; 4]));
 }

@@ -7,7 +7,8 @@ ghost use Rattle.xen_front.specs.Fronts.{wiring_of};
 use crate::bench::{Bench, FRAMES};
 use std::alloc::{AllocError, Global};
 use xen_front::{
-    ACCEPTS_WHOLE, Accepts, Front, Halt, PollRefusal, PostRefusal, RxOffload, RxTurn, SendRefusal,
+    ACCEPTS_WHOLE, Accepts, Front, FrontHalt, PollRefusal, PostRefusal, RxOffload, RxTurn,
+    SendRefusal,
 };
 use xen_page::{Access, ScriptBus};
 use xen_ring::{Port, Ports};
@@ -27,13 +28,13 @@ pub enum Call<'a> {
     Poll,
 }
 
-/// What came of a call. A packet is kept beside it.
+/// The outcome of a call. A packet is kept beside it.
 #[derive(Clone, Copy, Debug, PartialEq, Eq)]
 pub enum End {
     Idle,
     Packet(RxOffload),
     Refused,
-    Halted(Halt),
+    Halted(FrontHalt),
     NotSent(SendRefusal),
     NotPosted(PostRefusal),
     NotPolled(PollRefusal),
@@ -65,7 +66,7 @@ fn row(access: &Access) -> Row {
     }
 }
 
-/// Whether these are the accesses from the `from`-th on, and perhaps more.
+/// Returns whether these are the accesses from the `from`-th on, and perhaps more.
 pub fn has(accesses: &[Access], from: usize, rows: &[Row]) -> bool {
     let mut at = from;
     for wanted in rows {
@@ -99,7 +100,7 @@ impl Bench {
     }
 }
 
-/// What a turn gave, its packet copied.
+/// Returns what a turn gave, its packet copied.
 fn copied(alloc: Global, turn: RxTurn) -> Result<(End, Vec<u8>), AllocError> {
     let (end, bytes): (End, &[u8]) = match turn {
         RxTurn::Idle => (End::Idle, &[]),
@@ -179,7 +180,7 @@ fn feed_one(front: &mut Front, word: u32) -> Event
     }
 }
 
-/// What the activity gave, if it is over.
+/// Returns what the activity gave, if it is over.
 fn ended(alloc: Global, front: &mut Front) -> Result<(End, Vec<u8>), AllocError>
     ensures { wiring_of front.new ≡ wiring_of front.old }
 {
@@ -224,7 +225,7 @@ fn feed(alloc: Global, front: &mut Front, answers: &[u32]) -> Result<Played, All
     Ok(played)
 }
 
-/// What both fronts did, if it is the same. A refusal is what came of the call.
+/// Returns what both fronts did, if it is the same. A refusal is what came of the call.
 fn compared(
     by_drive: Result<Played, AllocError>,
     by_hand: Result<Played, AllocError>,

@@ -6,7 +6,7 @@ use std::alloc::{AllocError, Global};
 use std::test::Fail;
 use xen_front::{ACCEPTS_WHOLE, Front};
 
-/// What a front stands on.
+/// Returns what a front stands on.
 fn bench(alloc: Global) -> Result<Bench, AllocError> {
     match Bench::make(alloc) {
         Ok(bench) => Ok(bench),
@@ -14,7 +14,7 @@ fn bench(alloc: Global) -> Result<Bench, AllocError> {
     }
 }
 
-/// Whether a front is made: it isn't if it was refused memory.
+/// Returns whether a front is made: it isn't if it was refused memory.
 fn is_made(alloc: Global, bench: &Bench) -> Result<bool, Fail> {
     let desc = bench.desc(0);
     if desc.is_wired() {

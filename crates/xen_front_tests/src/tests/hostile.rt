@@ -4,10 +4,10 @@ use super::fixtures::{Call, End, READ, Row, SMALL, STARTS, WRITE};
 use super::steps::{Step, after, filled};
 use crate::bench::{RX, TX};
 use std::alloc::{AllocError, Global};
-use xen_front::{Halt, PollRefusal, PostRefusal, SendRefusal};
+use xen_front::{FrontHalt, PollRefusal, PostRefusal, SendRefusal};
 
 /// A poll for which the front halts.
-fn halting(answers: &[u32], cause: Halt) -> Step<'_> {
+fn halting(answers: &[u32], cause: FrontHalt) -> Step<'_> {
     Step::of(Call::Poll, answers, End::Halted(cause))
 }
 
@@ -42,14 +42,14 @@ const LONG: [u32; 35] = [
 /// The shortest lists of answers that give each halt in a new ring, as in docs/NETFRONT.md.
 #[test]
 fn the_shortest_scripts(rt: HostRuntime) {
-    let scripts: [(u32, u32, &[u32], Halt); 7] = [
-        (0, 0, &[1], Halt::TxProducer),
-        (1, 0, &[1, 5], Halt::TxId),
-        (0, 0, &[0, 0, 1], Halt::RxProducer),
-        (0, 1, &[0, 0, 1, 5, 0], Halt::RxSlot),
-        (0, 1, &[0, 0, 1, 0, 0x1001_0000], Halt::RxSize),
-        (0, 1, &[0, 0, 1, 0, 4], Halt::ShortChain),
-        (0, 16, &LONG, Halt::LongChain),
+    let scripts: [(u32, u32, &[u32], FrontHalt); 7] = [
+        (0, 0, &[1], FrontHalt::TxProducer),
+        (1, 0, &[1, 5], FrontHalt::TxId),
+        (0, 0, &[0, 0, 1], FrontHalt::RxProducer),
+        (0, 1, &[0, 0, 1, 5, 0], FrontHalt::RxSlot),
+        (0, 1, &[0, 0, 1, 0, 0x1001_0000], FrontHalt::RxSize),
+        (0, 1, &[0, 0, 1, 0, 4], FrontHalt::ShortChain),
+        (0, 16, &LONG, FrontHalt::LongChain),
     ];
     let mut number = 0u8;
     for (sent, posted, answers, cause) in scripts {
@@ -68,11 +68,11 @@ fn a_tx_producer_beyond_what_is_outstanding(rt: HostRuntime) {
         let back = [start.wrapping_sub(1)];
         let second = [start, producer];
         for last in [
-            halting(&beyond, Halt::TxProducer).ends(0, &read),
+            halting(&beyond, FrontHalt::TxProducer).ends(0, &read),
             // A producer that goes back.
-            halting(&back, Halt::TxProducer),
+            halting(&back, FrontHalt::TxProducer),
             // At the second look.
-            halting(&second, Halt::TxProducer).makes(3),
+            halting(&second, FrontHalt::TxProducer).makes(3),
         ] {
             assert_eq!(rt; after_the_last(rt.alloc(), start, 3, 0, last), Ok([0; 4]));
         }
@@ -88,7 +88,7 @@ fn a_tx_response_to_nothing(rt: HostRuntime) {
         for id in [1, 255, 256, 0xFFFF] {
             let log = [(READ, TX, 2, producer), (READ, TX, slot, id)];
             let answers = [producer, id];
-            let last = halting(&answers, Halt::TxId).ends(0, &log);
+            let last = halting(&answers, FrontHalt::TxId).ends(0, &log);
             let seen = after_the_last(rt.alloc(), start, 1, 0, last);
             assert_eq!(rt; seen, Ok([0; 4]), "{id}");
         }
@@ -99,7 +99,7 @@ fn a_tx_response_to_nothing(rt: HostRuntime) {
 fn a_second_response_to_one_request(rt: HostRuntime) {
     for start in STARTS {
         let answers = [start.wrapping_add(2), 1, 1];
-        let last = halting(&answers, Halt::TxId).makes(4);
+        let last = halting(&answers, FrontHalt::TxId).makes(4);
         let seen = after_the_last(rt.alloc(), start, 2, 0, last);
         assert_eq!(rt; seen, Ok([1, 0, 0, 0]));
     }
@@ -111,7 +111,7 @@ fn an_rx_producer_beyond_what_is_outstanding(rt: HostRuntime) {
         let producer = start.wrapping_add(1);
         let answers = [start, start, producer];
         let read = [(READ, RX, 2, producer)];
-        let last = halting(&answers, Halt::RxProducer).ends(3, &read);
+        let last = halting(&answers, FrontHalt::RxProducer).ends(3, &read);
         assert_eq!(rt; after_the_last(rt.alloc(), start, 0, 0, last), Ok([0; 4]));
     }
 }
@@ -129,7 +129,7 @@ fn an_rx_response_with_a_wrong_id_or_flags(rt: HostRuntime) {
             (0, 0x1001_0008),
         ] {
             let answers = [start, start, start.wrapping_add(1), first, second];
-            let last = halting(&answers, Halt::RxSlot).makes(6);
+            let last = halting(&answers, FrontHalt::RxSlot).makes(6);
             let seen = after_the_last(rt.alloc(), start, 0, 1, last);
             assert_eq!(rt; seen, Ok([0; 4]), "{first} {second}");
         }
@@ -148,7 +148,7 @@ fn an_rx_response_past_its_page(rt: HostRuntime) {
             (0, 0x1001_0004),
         ] {
             let answers = [start, start, start.wrapping_add(1), first, second];
-            let last = halting(&answers, Halt::RxSize).makes(6);
+            let last = halting(&answers, FrontHalt::RxSize).makes(6);
             let seen = after_the_last(rt.alloc(), start, 0, 1, last);
             assert_eq!(rt; seen, Ok([0; 4]), "{first} {second}");
         }
@@ -161,7 +161,7 @@ fn a_chain_past_the_producer(rt: HostRuntime) {
     for start in STARTS {
         let answers = [start, start, start.wrapping_add(1), 0, 0x0005_0004, 1, 2];
         let end = [(WRITE, 1, 516, 0), (READ, 275, 0, 1), (READ, 275, 1, 2)];
-        let last = halting(&answers, Halt::ShortChain).ends(6, &end);
+        let last = halting(&answers, FrontHalt::ShortChain).ends(6, &end);
         assert_eq!(rt; after_the_last(rt.alloc(), start, 0, 2, last), Ok([0; 4]));
     }
 }
@@ -173,7 +173,7 @@ struct Chain {
     /// The second word of each response but the last.
     second: u32,
     last: u32,
-    /// How many words of each page are read.
+    /// The number of words of each page that are read.
     words: u32,
 }
 
@@ -196,7 +196,7 @@ fn after_a_chain(
     alloc: Global,
     start: u32,
     chain: Chain,
-    cause: Halt,
+    cause: FrontHalt,
     accesses: usize,
 ) -> Result<[u64; 4], usize> {
     let mut answers = Vec::new(alloc);
@@ -220,7 +220,7 @@ fn a_seventeenth_slot(rt: HostRuntime) {
     };
     for start in STARTS {
         let accesses = 4 + 15 * 3 + 2;
-        let seen = after_a_chain(rt.alloc(), start, chain, Halt::LongChain, accesses);
+        let seen = after_a_chain(rt.alloc(), start, chain, FrontHalt::LongChain, accesses);
         assert_eq!(rt; seen, Ok([0; 4]));
     }
 }
@@ -235,7 +235,7 @@ fn a_packet_of_more_than_65_535_bytes(rt: HostRuntime) {
     };
     for start in STARTS {
         let accesses = 4 + 15 * 1027 + 2;
-        let seen = after_a_chain(rt.alloc(), start, chain, Halt::LongChain, accesses);
+        let seen = after_a_chain(rt.alloc(), start, chain, FrontHalt::LongChain, accesses);
         assert_eq!(rt; seen, Ok([0; 4]));
     }
 }
@@ -251,7 +251,7 @@ fn a_page_is_passed_before_a_chain_is_too_long(rt: HostRuntime) {
     };
     for start in STARTS {
         let accesses = 4 + 15 * 3 + 2;
-        let seen = after_a_chain(rt.alloc(), start, chain, Halt::RxSize, accesses);
+        let seen = after_a_chain(rt.alloc(), start, chain, FrontHalt::RxSize, accesses);
         assert_eq!(rt; seen, Ok([0; 4]));
     }
 }

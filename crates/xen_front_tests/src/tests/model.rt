@@ -7,7 +7,7 @@ use super::answers::{
 };
 use super::fixtures::End;
 use std::alloc::{AllocError, Global};
-use xen_front::{Accepts, Halt, RxOffload};
+use xen_front::{Accepts, FrontHalt, RxOffload};
 use xen_netif::Segments;
 
 /// Numbers that look random, the same in each run (Knuth's MMIX generator).
@@ -32,7 +32,7 @@ impl Random {
         self.number() & mask
     }
 
-    /// Whether the next answer is any number at all.
+    /// Returns whether the next answer is any number at all.
     pub fn is_wild(&mut self) -> bool {
         self.small(255) == 0
     }
@@ -45,7 +45,7 @@ struct Ring {
     cons: u32,
     open: Vec<u32>,
     all: Vec<u32>,
-    /// How many responses were taken.
+    /// The number of responses that were taken.
     taken: usize,
 }
 
@@ -98,12 +98,12 @@ impl Ring {
     }
 }
 
-/// What a poll was answered, and what comes of it.
+/// The answers to a poll, and its outcome.
 #[derive(Drop)]
 pub struct Poll {
     pub answers: Vec<u32>,
     pub packet: Vec<u8>,
-    /// How many words it read or wrote.
+    /// The number of words that it read or wrote.
     pub accesses: usize,
 }
 
@@ -151,7 +151,7 @@ impl Poll {
     }
 }
 
-/// Which count a status two below this number belongs to: OKAY, DROPPED, ERROR or another.
+/// Returns the count that a status two below this number belongs to: OKAY, DROPPED, ERROR or another.
 fn place_of(status: u32) -> usize
     ensures { result < 4 }
 {
@@ -174,7 +174,7 @@ impl Model {
         }
     }
 
-    /// Whether `pieces` ids are free.
+    /// Returns whether `pieces` ids are free.
     pub fn has_room(&self, pieces: usize) -> bool {
         self.tx.open.len().saturating_add(pieces) <= 256
     }
@@ -203,15 +203,15 @@ impl Model {
     /// Makes up the answers of a poll, and returns what comes of it.
     pub fn poll(&mut self, poll: &mut Poll, random: &mut Random) -> Result<End, AllocError> {
         let Some(responses) = poll.look(&self.tx, random)? else {
-            return Ok(End::Halted(Halt::TxProducer));
+            return Ok(End::Halted(FrontHalt::TxProducer));
         };
         for _response in 0..responses {
             if !self.take(poll, random)? {
-                return Ok(End::Halted(Halt::TxId));
+                return Ok(End::Halted(FrontHalt::TxId));
             }
         }
         match poll.look(&self.rx, random)? {
-            None => Ok(End::Halted(Halt::RxProducer)),
+            None => Ok(End::Halted(FrontHalt::RxProducer)),
             Some(0) => Ok(End::Idle),
             Some(responses) => self.receive(responses, poll, random),
         }
@@ -250,7 +250,7 @@ impl Model {
                     extra = None;
                     match self.extra(poll, random)? {
                         Some(segments) => offload = RxOffload::Segmented(segments),
-                        None => return Ok(End::Halted(Halt::RxSlot)),
+                        None => return Ok(End::Halted(FrontHalt::RxSlot)),
                     }
                     if !more {
                         return Ok(given(bad, offload));
@@ -275,7 +275,7 @@ impl Model {
                 }
             }
         }
-        Ok(End::Halted(Halt::ShortChain))
+        Ok(End::Halted(FrontHalt::ShortChain))
     }
 
     /// A response to a slot and its page: its second word, or why the front halts.
@@ -285,7 +285,7 @@ impl Model {
         left: u32,
         poll: &mut Poll,
         random: &mut Random,
-    ) -> Result<Result<u32, Halt>, AllocError> {
+    ) -> Result<Result<u32, FrontHalt>, AllocError> {
         let id = self.rx.some_id(random);
         let offset = random.small(31);
         let may_have_extra = slots == 0 && self.accepts.segments.gso_tcpv4;
@@ -293,7 +293,7 @@ impl Model {
         poll.answer(id | offset << 16)?;
         poll.answer(second)?;
         if !self.rx.open.contains(&id) || second & 8 != 0 && !may_have_extra {
-            return Ok(Err(Halt::RxSlot));
+            return Ok(Err(FrontHalt::RxSlot));
         }
         if let Some(cause) = poll.fault(slots, offset, second) {
             return Ok(Err(cause));
@@ -329,17 +329,17 @@ impl Model {
 }
 
 impl Poll {
-    /// Why a response to a buffer in flight halts the front, if it does.
-    fn fault(&self, slot: u32, offset: u32, second: u32) -> Option<Halt> {
+    /// Returns why a response to a buffer in flight halts the front, if it does.
+    fn fault(&self, slot: u32, offset: u32, second: u32) -> Option<FrontHalt> {
         let size = size_of(second);
         if second & 16 != 0 {
-            Some(Halt::RxSlot)
+            Some(FrontHalt::RxSlot)
         } else if !is_negative(second) && offset.saturating_add(size) > 4096 {
-            Some(Halt::RxSize)
+            Some(FrontHalt::RxSize)
         } else if slot >= 15 && second & 4 != 0
             || self.packet.len().saturating_add(size as usize) > 65_535
         {
-            Some(Halt::LongChain)
+            Some(FrontHalt::LongChain)
         } else {
             None
         }

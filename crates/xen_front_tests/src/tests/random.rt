@@ -8,7 +8,7 @@ use std::alloc::Global;
 use xen_front::{ACCEPTS_WHOLE, Accepts};
 use xen_netif::Offers;
 
-/// How often each outcome came: packets, those of them with an extra, packets refused, halts.
+/// The number of times each outcome came: packets, those of them with an extra, packets refused, halts.
 #[derive(Clone, Copy, Debug)]
 struct Outcomes {
     packets: u32,
@@ -38,14 +38,14 @@ impl Outcomes {
     }
 }
 
-/// Whether a poll came to what its model came to.
+/// Returns whether a poll came to what its model came to.
 fn is_same(played: &Played, poll: &Poll, end: End) -> bool {
     let is_packet = !matches!(end, End::Packet(_))
         || played.packet.as_slice() == poll.packet.as_slice();
     played.end == end && is_packet && played.accesses.len() == poll.accesses
 }
 
-/// Whether a poll of the front comes to what its model came to.
+/// Returns whether a poll of the front comes to what its model came to.
 fn polls(fronts: &mut Fronts, poll: &Poll, end: End) -> bool {
     match fronts.play(Call::Poll, poll.answers.as_slice()) {
         Some(played) => is_same(&played, poll, end),

@@ -237,7 +237,7 @@ fn two_hundred_fifty_six_buffers_are_posted(rt: HostRuntime) {
     assert_eq!(rt; after(rt.alloc(), 0, &steps), Ok([0; 4]));
 }
 
-/// What a poll, a post, a send and a send of one byte come to.
+/// The outcomes of a poll, a post, a send and a send of one byte.
 type Calls = (
     Result<(), PollRefusal>,
     Result<(), PostRefusal>,
@@ -252,7 +252,7 @@ fn calls(front: &mut Front) -> Calls {
     )
 }
 
-/// What calls come to after a poll has begun.
+/// Returns what calls come to after a poll has begun.
 fn calls_during_a_poll(alloc: Global) -> Option<(Result<(), PollRefusal>, Calls)> {
     let Ok(bench) = Bench::make(alloc) else {
         return None;
@@ -286,7 +286,7 @@ fn halts(front: &mut Front) -> bool {
     front.wanted() == Want::Done
 }
 
-/// What calls come to after a front has halted, which isn't asked what it gave.
+/// Returns what calls come to after a front has halted, which isn't asked what it gave.
 fn calls_after_a_halt(alloc: Global) -> Option<(bool, Calls)> {
     let Ok(bench) = Bench::make(alloc) else {
         return None;

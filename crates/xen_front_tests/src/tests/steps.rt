@@ -92,7 +92,7 @@ impl<'a> Step<'a> {
         }
     }
 
-    /// Whether it sends a notice.
+    /// Sets whether it sends a notice.
     pub fn tells(self, noticed: bool) -> Step<'a> {
         Step {
             noticed: Some(noticed),
@@ -100,7 +100,7 @@ impl<'a> Step<'a> {
         }
     }
 
-    /// Whether the call has come to that.
+    /// Returns whether the call has come to that.
     fn is_met(&self, played: &Played) -> bool {
         let accesses = played.accesses.as_slice();
         played.end == self.end
@@ -113,7 +113,7 @@ impl<'a> Step<'a> {
 }
 
 impl Fronts<'_> {
-    /// Whether a call comes to what it has to.
+    /// Returns whether a call comes to what it has to.
     fn comes_to(&mut self, step: &Step) -> bool {
         match self.play(step.call, step.answers) {
             Some(played) => step.is_met(&played),
@@ -121,7 +121,7 @@ impl Fronts<'_> {
         }
     }
 
-    /// Whether each of a step's calls comes to what it has to.
+    /// Returns whether each of a step's calls comes to what it has to.
     pub fn makes(&mut self, step: &Step) -> bool {
         for _time in 0..step.times {
             if !self.comes_to(step) {

@@ -2,7 +2,7 @@
 
 use crate::bench::buffers;
 use std::alloc::Global;
-use xen_buffers::{Buffer, FrontDesc, Wiring, buffer_of, grant_flags, grant_frame};
+use xen_buffers::{FrontDesc, FrontWiring, GrantedPage, buffer_of, grant_flags, grant_frame};
 use xen_page::{Owners, Place, Table};
 use xen_ring::Port;
 
@@ -12,11 +12,11 @@ fn table(alloc: Global) -> Option<Table> {
     Table::make(&owners, 1, &[1, 2])
 }
 
-/// Whether a front may be made with these buffers, these ring pages and a bus of `frames` frames.
+/// Returns whether a front may be made with these buffers, these ring pages and a bus of `frames` frames.
 fn is_wired(
     alloc: Global,
-    tx: &[Buffer],
-    rx: &[Buffer],
+    tx: &[GrantedPage],
+    rx: &[GrantedPage],
     rings: [u32; 2],
     frames: u32,
 ) -> Option<bool> {
@@ -37,7 +37,7 @@ fn is_wired(
 }
 
 /// The buffers without the first.
-fn all_but_one(buffers: &[Buffer]) -> &[Buffer] {
+fn all_but_one(buffers: &[GrantedPage]) -> &[GrantedPage] {
     match buffers.split_first() {
         Some((_, others)) => others,
         None => buffers,
@@ -45,7 +45,7 @@ fn all_but_one(buffers: &[Buffer]) -> &[Buffer] {
 }
 
 /// These buffers, that of an id replaced.
-fn with(buffers: &[Buffer; 256], id: usize, buffer: Buffer) -> [Buffer; 256] {
+fn with(buffers: &[GrantedPage; 256], id: usize, buffer: GrantedPage) -> [GrantedPage; 256] {
     let mut changed = *buffers;
     if let Some(place) = changed.get_mut(id) {
         *place = buffer;
@@ -53,7 +53,7 @@ fn with(buffers: &[Buffer; 256], id: usize, buffer: Buffer) -> [Buffer; 256] {
     changed
 }
 
-/// Whether a front may be made with the tests' buffers, these ring pages and a bus of `frames` frames.
+/// Returns whether a front may be made with the tests' buffers, these ring pages and a bus of `frames` frames.
 fn is_wired_with(alloc: Global, rings: [u32; 2], frames: u32) -> Option<bool> {
     is_wired(alloc, &buffers(2), &buffers(258), rings, frames)
 }
@@ -71,7 +71,7 @@ fn are_lists_wired(alloc: Global) -> [Option<bool>; 3] {
 
 /// As [`is_wired_with`], if the last rx buffer is of frame 531 and has this reference.
 fn is_last_wired(alloc: Global, gref: u32) -> Option<bool> {
-    let rx = with(&buffers(258), 255, Buffer { gref, frame: 531 });
+    let rx = with(&buffers(258), 255, GrantedPage { gref, frame: 531 });
     is_wired(alloc, &buffers(2), &rx, [17, 18], 532)
 }
 
@@ -103,10 +103,10 @@ fn distinct_pages_in_the_table_and_on_the_bus(rt: HostRuntime) {
 }
 
 /// The last rx buffer, and where the two words of its grant lie.
-fn last_grant(alloc: Global) -> Option<(Buffer, [Place; 2])> {
+fn last_grant(alloc: Global) -> Option<(GrantedPage, [Place; 2])> {
     let table = table(alloc)?;
     let (tx, rx) = (buffers(2), buffers(258));
-    let wiring = Wiring {
+    let wiring = FrontWiring {
         frames: 531,
         tx_frame: 17,
         rx_frame: 18,
@@ -123,7 +123,7 @@ fn last_grant(alloc: Global) -> Option<(Buffer, [Place; 2])> {
 
 #[test]
 fn grants_have_their_words(rt: HostRuntime) {
-    let buffer = Buffer {
+    let buffer = GrantedPage {
         gref: 513,
         frame: 530,
     };

@@ -34,7 +34,7 @@ pub(super) fn visited([first, second, third, fourth]: [u32; 4]) -> [Access; 5] {
 
 fn shared<T: Sync>(_frames: &T) {}
 
-/// What pages answer: the numbers of frames, what [`visit`] reads, and word `B` through the same bus and another.
+/// Returns what pages answer: the numbers of frames, what [`visit`] reads, and word `B` through the same bus and another.
 fn answers_of_pages(alloc: Global) -> Option<([u32; 2], [u32; 4], [u32; 2])> {
     let frames = Frames::make(alloc, &[0, 1]).ok()?;
     let mut bus = PageBus::of(&frames);
@@ -54,7 +54,7 @@ fn pages_keep_what_is_written(rt: HostRuntime) {
     );
 }
 
-/// Whether all words of two frames are 0.
+/// Returns whether all words of two frames are 0.
 fn are_zeros(frames: &Frames) -> bool
     requires { 2 ≤ frames.now }
 {
@@ -79,7 +79,7 @@ fn write_numbers(frames: &Frames)
     }
 }
 
-/// Whether each word of two frames has the number that [`write_numbers`] writes.
+/// Returns whether each word of two frames has the number that [`write_numbers`] writes.
 fn have_numbers(frames: &Frames) -> bool
     requires { 2 ≤ frames.now }
 {
@@ -93,7 +93,7 @@ fn have_numbers(frames: &Frames) -> bool
     true
 }
 
-/// Whether new frames have zeros, and then the numbers that are written.
+/// Returns whether new frames have zeros, and then the numbers that are written.
 fn fresh_and_written(alloc: Global) -> Option<[bool; 2]> {
     let frames = Frames::make(alloc, &[1, 1]).ok()?;
     let fresh = are_zeros(&frames);
@@ -106,7 +106,7 @@ fn all_words_are_0_at_first_and_each_is_its_own(rt: HostRuntime) {
     assert_eq!(rt; fresh_and_written(rt.alloc()), Some([true, true]));
 }
 
-/// What [`visit`] reads of a script, whether its log is full then, the log, and the number of frames.
+/// Returns what [`visit`] reads of a script, whether its log is full then, the log, and the number of frames.
 fn answers_of_script(
     alloc: Global,
     script: &[u32],
@@ -135,7 +135,7 @@ fn a_full_script_answers_on(rt: HostRuntime) {
     );
 }
 
-/// What [`visit`] reads of pages through a recorder of five accesses, whether it is full then, and its log; word `B` after
+/// Returns what [`visit`] reads of pages through a recorder of five accesses, whether it is full then, and its log; word `B` after
 /// that, whether it is full then, and its log; and the number of frames.
 fn recorded_pages(alloc: Global) -> Option<([u32; 4], (bool, Log), u32, (bool, Log), u32)> {
     let frames = Frames::make(alloc, &[0, 1]).ok()?;
@@ -164,7 +164,7 @@ fn a_recorder_tells_what_pages_answered(rt: HostRuntime) {
     );
 }
 
-/// What [`visit`] reads of a script through a recorder of one access, whether it is full then, its log, and the number of
+/// Returns what [`visit`] reads of a script through a recorder of one access, whether it is full then, its log, and the number of
 /// frames.
 fn recorded_script(alloc: Global, script: &[u32]) -> Option<([u32; 4], bool, Log, u32)> {
     let script = ScriptBus::make(alloc, 2, script, 0).ok()?;
@@ -193,8 +193,8 @@ const WRITES: [(u32, Place, u32); 6] = [
     (5, A, 3),
 ];
 
-/// What [`visit`] reads of pages that are rewritten, the log, whether the log's answers are what was read, word `A` then, and
-/// the number of frames.
+/// Returns what [`visit`] reads of pages that are rewritten, the log, whether the log's answers are what was read, word `A` then,
+/// and the number of frames.
 fn rewritten_pages(alloc: Global) -> Option<([u32; 4], Log, bool, u32, u32)> {
     let frames = Frames::make(alloc, &[0, 1]).ok()?;
     let rewriter = Rewriter::make(PageBus::of(&frames), &WRITES);

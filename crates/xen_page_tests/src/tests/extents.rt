@@ -22,7 +22,7 @@ fn guest() -> [Extent; 5] {
     ]
 }
 
-/// How many frames there are, and who owns one.
+/// Returns the number of frames, and the owner of one.
 fn known(alloc: Global, extents: &[Extent], frame: u32) -> Result<(u32, Option<u16>), OwnersFault> {
     let owners = Owners::of_extents(alloc, extents)?;
     Ok((owners.count(), owners.of(frame)))
@@ -73,7 +73,7 @@ fn frames_are_counted_in_32_bits(rt: HostRuntime) {
     assert_eq!(rt; seen, wanted);
 }
 
-/// Whether `count` frames of the guest's, from `first` on, are a table that `make` makes, and that `large` does.
+/// Returns whether `count` frames of the guest's, from `first` on, are a table that `make` makes, and that `large` does.
 fn is_table(alloc: Global, first: u32, count: usize) -> Result<(bool, bool), OwnersFault> {
     let owners = Owners::of_extents(alloc, &guest())?;
     let mut frames = [0; 66];

@@ -16,7 +16,7 @@ fn say_refused(rt: &HostRuntime) -> io::Result<()> {
     println!(rt; "refused")
 }
 
-/// Who owns frame 1.
+/// Returns who owns frame 1.
 fn owner(alloc: Global) -> Result<Option<u16>, AllocError> {
     Ok(Owners::make(alloc, &[0, FRONT])?.of(1))
 }

@@ -144,11 +144,11 @@ fn readable(bus: &mut PageBus, table: &Table, owners: &Owners) -> Option<[u32; 2
     Some([bus.read(FLAGS), bus.read(FRAME)])
 }
 
-/// What is found as pages are mapped for writing, again, unmapped, and mapped for reading: the flags word while they are
-/// mapped and afterwards, the second mapping's fault, and the entry's two words.
+/// The findings as pages are mapped for writing, again, unmapped, and mapped for reading: the flags word while they are mapped and
+/// afterwards, the second mapping's fault, and the entry's two words.
 type Pages = ([u32; 2], Option<GrantFault>, [u32; 2]);
 
-/// What is found over these pages.
+/// Returns what is found over these pages.
 fn pages_of(frames: &Frames, table: &Table, owners: &Owners) -> Option<Pages>
     requires table { IsTable owners.now 1 table.now }
     requires within { All (λ frame. frame < 20) table.now }

@@ -48,7 +48,7 @@ fn plain_words_keep_what_is_written(rt: HostRuntime) {
 /// The bytes of three words.
 const BYTES: [u8; 12] = [24, 25, 26, 27, 28, 29, 30, 31, 32, 33, 34, 35];
 
-/// What a run writes to the last three words of the first frame, and what a run reads there.
+/// Returns what a run writes to the last three words of the first frame, and what a run reads there.
 fn run_written() -> ([Option<(usize, u32)>; 3], [u8; 12], u32) {
     let mut words = numbered();
     let mut bus = PlainBus::of(&mut words);
@@ -73,7 +73,7 @@ fn a_run_over_plain_words_writes_no_other(rt: HostRuntime) {
     assert_eq!(rt; run_written(), (written, BYTES, 1024));
 }
 
-/// What two writes and a failed exchange leave.
+/// Returns what two writes and a failed exchange leave.
 fn written_twice() -> (u32, [Option<(usize, u32)>; 3]) {
     let mut words = numbered();
     let mut bus = PlainBus::of(&mut words);

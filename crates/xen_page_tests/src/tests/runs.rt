@@ -40,7 +40,7 @@ fn frames(alloc: Global) -> Option<Frames> {
     Some(frames)
 }
 
-/// What a run of the nine words reads.
+/// Returns what a run of the nine words reads.
 fn nine_by_run<T: Bus>(bus: &mut T) -> [u8; 36]
     requires { 2 ≤ T.size bus.old }
 {
@@ -49,7 +49,7 @@ fn nine_by_run<T: Bus>(bus: &mut T) -> [u8; 36]
     bytes
 }
 
-/// What a run of the three words reads.
+/// Returns what a run of the three words reads.
 fn three_by_run<T: Bus>(bus: &mut T) -> [u8; 12]
     requires { 2 ≤ T.size bus.old }
     ensures { T.size bus.new ≡ T.size bus.old }
@@ -59,7 +59,7 @@ fn three_by_run<T: Bus>(bus: &mut T) -> [u8; 12]
     bytes
 }
 
-/// What single reads of the three words read.
+/// Returns what single reads of the three words read.
 fn three_by_reads<T: Bus>(bus: &mut T) -> [u8; 12]
     requires { 2 ≤ T.size bus.old }
     ensures { T.size bus.new ≡ T.size bus.old }
@@ -95,7 +95,7 @@ fn reads([first, second, third]: [u32; 3]) -> Log {
     ])
 }
 
-/// What pages' runs of nine and of three words read, and what single reads do.
+/// Returns what pages' runs of nine and of three words read, and what single reads do.
 fn read_of_pages(alloc: Global) -> Option<([u8; 36], [u8; 12], [u8; 12])> {
     let frames = frames(alloc)?;
     if frames.count() < 2 {
@@ -113,7 +113,7 @@ fn a_run_over_pages_reads_what_single_reads_do(rt: HostRuntime) {
     assert_eq!(rt; read_of_pages(rt.alloc()), Some((BYTES, three, three)));
 }
 
-/// What a run of the three words reads of a recorder of pages, and its log; and the same of single reads.
+/// Returns what a run of the three words reads of a recorder of pages, and its log; and the same of single reads.
 fn recorded_of_pages(alloc: Global) -> Option<[([u8; 12], bool, Log); 2]> {
     let frames = frames(alloc)?;
     if frames.count() < 2 {
@@ -139,7 +139,7 @@ fn a_recorder_tells_each_read_of_a_run(rt: HostRuntime) {
     );
 }
 
-/// What a run of the three words reads of a script, whether its log is full then, and the log.
+/// Returns what a run of the three words reads of a script, whether its log is full then, and the log.
 fn run_of_script(alloc: Global, script: &[u32], cap: usize) -> Option<([u8; 12], bool, Log)> {
     let mut bus = ScriptBus::make(alloc, 2, script, cap).ok()?;
     let bytes = three_by_run(&mut bus);
@@ -183,7 +183,7 @@ const WRITES: [(u32, Place, u32); 2] = [
     ),
 ];
 
-/// What a run of the three words reads of pages that are rewritten in it, and its log; then what single reads do.
+/// Returns what a run of the three words reads of pages that are rewritten in it, and its log; then what single reads do.
 fn rewritten_in_a_run(alloc: Global) -> Option<([u8; 12], Log, [u8; 12])> {
     let frames = frames(alloc)?;
     if frames.count() < 2 {
@@ -204,7 +204,7 @@ fn a_run_reads_what_is_written_before_each_word(rt: HostRuntime) {
     assert_eq!(rt; rewritten_in_a_run(rt.alloc()), Some((by_run, told, then)));
 }
 
-/// Whether a run of no words reads nothing of a script, and leaves its answers.
+/// Returns whether a run of no words reads nothing of a script, and leaves its answers.
 fn nothing_read(alloc: Global) -> Option<(bool, Log, u32)> {
     let mut bus = ScriptBus::make(alloc, 2, &[7], 3).ok()?;
     none_by_run(&mut bus);
@@ -293,7 +293,7 @@ fn a_script_tells_each_write_of_a_run(rt: HostRuntime) {
     assert_eq!(rt; written_to_script(rt.alloc(), 2), Some((true, first)));
 }
 
-/// What a run leaves that is written to pages which are rewritten in it, and its log.
+/// Returns what a run leaves that is written to pages which are rewritten in it, and its log.
 fn written_and_rewritten(alloc: Global) -> Option<([u8; 12], Log)> {
     let frames = frames(alloc)?;
     if frames.count() < 2 {

@@ -13,7 +13,7 @@ const ELEVEN: Place = Place {
     word: 1013,
 };
 
-/// What kind of step it was, its word, and what it read or wrote.
+/// The kind of a step, its word, and the number that it read or wrote.
 type Step = (char, u32, u32);
 
 /// The steps of a log of at most eleven, and nothing after them.
@@ -91,7 +91,7 @@ fn a_run_makes_one_step_for_each_word_in_rising_order(rt: HostRuntime) {
     assert_eq!(rt; written_and_read(rt.alloc()), Some((WRITTEN, READ, BYTES)));
 }
 
-/// What [`visit`] reads of new pages, the steps that it makes, and the number of frames.
+/// Returns what [`visit`] reads of new pages, the steps that it makes, and the number of frames.
 fn visited_by_steps(alloc: Global) -> Option<([u32; 4], Log, u32)> {
     let frames = Frames::make(alloc, &[0, 1]).ok()?;
     let words = WordRecorder::make(SharedWords::of(&frames));
@@ -111,7 +111,8 @@ fn an_access_is_one_step(rt: HostRuntime) {
     assert_eq!(rt; visited_by_steps(rt.alloc()), Some((answers, told, 2)));
 }
 
-/// How many steps are kept of two runs of eleven words, whether one was left out, and the bytes that the second run reads.
+/// Returns the number of steps that are kept of two runs of eleven words, whether one was left out, and the bytes that the second
+/// run reads.
 fn left_out(alloc: Global) -> Option<(usize, bool, [u8; 44])> {
     let frames = Frames::make(alloc, &[0, 1]).ok()?;
     if frames.count() < 2 {

@@ -29,13 +29,13 @@ fn a_place_is_within_its_page(rt: HostRuntime) {
     assert_eq!(rt; places, wanted);
 }
 
-/// How many frames have an owner, and those of frames 0, 19 and 20.
+/// Returns the number of frames that have an owner, and those of frames 0, 19 and 20.
 fn known(alloc: Global) -> Option<(u32, [Option<u16>; 3])> {
     let owners = owners(alloc).ok()?;
     Some((owners.count(), [owners.of(0), owners.of(19), owners.of(20)]))
 }
 
-/// How many frames have an owner if there are none.
+/// Returns the number of frames that have an owner if there are none.
 fn none_known(alloc: Global) -> Option<u32> {
     let none: [u16; 0] = [];
     Some(Owners::make(alloc, &none).ok()?.count())
@@ -47,13 +47,13 @@ fn owners_are_known_by_frame(rt: HostRuntime) {
     assert_eq!(rt; (known(rt.alloc()), none_known(rt.alloc())), wanted);
 }
 
-/// Whether these frames are a table of the granter's.
+/// Returns whether these frames are a table of the granter's.
 fn is_table(alloc: Global, granter: u16, frames: &[u32]) -> Option<bool> {
     let owners = owners(alloc).ok()?;
     Some(Table::make(&owners, granter, frames).is_some())
 }
 
-/// Whether the first `count` frames of the front's, at most seventeen, are a table of its.
+/// Returns whether the first `count` frames of the front's, at most seventeen, are a table of its.
 fn is_front_table(alloc: Global, count: usize) -> Option<bool> {
     let frames = [1, 2, 3, 4, 5, 6, 7, 8, 9, 10, 11, 12, 13, 14, 15, 16, 17];
     is_table(alloc, FRONT, frames.get(..count)?)

@@ -17,7 +17,7 @@ fn ports_are_numbered_to_63(rt: HostRuntime) {
     assert_eq!(rt; found, [Some(0), Some(63), None, None]);
 }
 
-/// What is taken of a port before anything was sent, twice after two sends, and after another send.
+/// Returns what is taken of a port before anything was sent, twice after two sends, and after another send.
 fn merged() -> Option<(bool, [bool; 2], bool)> {
     let ports = Ports::new();
     let ports = shared(&ports);
@@ -35,7 +35,7 @@ fn sends_merge_until_taken(rt: HostRuntime) {
     assert_eq!(rt; merged(), Some((false, [true, false], true)));
 }
 
-/// What is taken of a port that is sent to while it is masked: twice while it is, twice once it isn't, and after it was
+/// Returns what is taken of a port that is sent to while it is masked: twice while it is, twice once it isn't, and after it was
 /// unmasked again.
 fn masked() -> Option<([bool; 2], [bool; 2], bool)> {
     let ports = Ports::new();
@@ -56,7 +56,7 @@ fn a_masked_port_stays_pending(rt: HostRuntime) {
     assert_eq!(rt; masked(), Some(wanted));
 }
 
-/// Whether a port that is sent to is the only one of which something is taken.
+/// Returns whether a port that is sent to is the only one of which something is taken.
 fn is_alone(ports: &Ports, port: Port) -> bool {
     ports.notify(port);
     for other in 0..64 {
@@ -69,7 +69,7 @@ fn is_alone(ports: &Ports, port: Port) -> bool {
     true
 }
 
-/// How many ports are alone, one after another.
+/// Returns the number of ports that are alone, one after another.
 fn alone() -> Option<u32> {
     let ports = Ports::new();
     for number in 0..64 {
@@ -80,7 +80,7 @@ fn alone() -> Option<u32> {
     Some(64)
 }
 
-/// What is taken of two ports that are sent to, of which the second is masked.
+/// Returns what is taken of two ports that are sent to, of which the second is masked.
 fn open_and_masked() -> Option<[bool; 2]> {
     let ports = Ports::new();
     let masked = Port::of(0)?;

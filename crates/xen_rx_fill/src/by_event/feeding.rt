@@ -8,13 +8,19 @@ ghost use Rattle.xen_steps.specs.Steps.{next_by};
 use crate::by_event::phase::Phase;
 use crate::by_event::reading::{after_entry, after_first, after_flags, found, requested};
 use crate::by_event::writing::{after_event, after_response, filled, outcome, responded};
-use crate::packet::Packet;
+use crate::packet::RxPacket;
 use crate::vif::Vif;
 use xen_netif::RxReq;
 use xen_steps::requests_shown;
 
 /// The transmit after an answer.
-pub(crate) fn phase_fed(vif: &Vif, rx_index: u32, packet: &Packet, phase: Phase, word: u32) -> Phase
+pub(crate) fn phase_fed(
+    vif: &Vif,
+    rx_index: u32,
+    packet: &RxPacket,
+    phase: Phase,
+    word: u32,
+) -> Phase
     requires { length packet.now.bytes.now ≤ 65535 }
     ensures { rest_of vif.now rx_index packet.now.offload packet.now.bytes.now result
         ≡ next_by (rest_of vif.now rx_index packet.now.offload packet.now.bytes.now phase) word 0 }

@@ -5,9 +5,9 @@ ghost use Rattle.std.specs.Prelude.{◌<◌, ◌+◌, length};
 use crate::target::{Grants, Targets};
 use xen_page::Place;
 
-/// How a transmit ended. The last two used this many rx slots.
+/// The end of a transmit. The last two used this many rx slots.
 #[derive(Clone, Copy, Debug, PartialEq, Eq)]
-pub enum Outcome {
+pub enum TransmitOutcome {
     /// The rx ring's producer is more than a whole ring ahead.
     Overflow,
     /// The frontend posted fewer slots than the packet needs.
@@ -46,7 +46,7 @@ pub struct Responding {
     ghost within: { i < length targets },
 }
 
-/// What a transmit does next.
+/// The next act of a transmit.
 #[derive(Drop)]
 pub enum Phase {
     /// Read the producer.
@@ -86,5 +86,5 @@ pub enum Phase {
         n: u32,
     },
     /// Nothing.
-    Over(Outcome),
+    Over(TransmitOutcome),
 }

@@ -15,8 +15,8 @@ ghost use Rattle.xen_rx_fill.specs.Transmit.{requested as requested_spec, rx_res
 ghost use Rattle.xen_rx_fill.specs.declared.target.Grants.TheVariants.{Refused};
 ghost use Rattle.xen_rx_fill.specs.declared.vif.Vif.{Vif as VifView};
 
-use crate::by_event::phase::{Granting, Outcome, Phase, Posting};
-use crate::packet::Packet;
+use crate::by_event::phase::{Granting, Phase, Posting, TransmitOutcome};
+use crate::packet::RxPacket;
 use crate::target::{Grants, Target, Targets};
 use crate::vif::Vif;
 use crate::words::{slots_of, takes_extra};
@@ -24,17 +24,17 @@ use xen_netif::{RxOffload, RxReq};
 use xen_page::{Entry, Place, Rights, check};
 
 /// After the read of the producer, which shows this many slots.
-pub(crate) fn found(packet: &Packet, shown: Option<u32>) -> Phase
+pub(crate) fn found(packet: &RxPacket, shown: Option<u32>) -> Phase
     requires { length packet.now.bytes.now ≤ 65535 }
     ensures { (v : VifView) (x : ℕ) → rest_of v x packet.now.offload packet.now.bytes.now result
         ≡ found_spec v x packet.now.offload packet.now.bytes.now shown }
 {
     match shown {
-        None => Phase::Over(Outcome::Overflow),
+        None => Phase::Over(TransmitOutcome::Overflow),
         Some(m) => {
             let slots = slots_of(packet);
             if m < slots {
-                Phase::Over(Outcome::TooFew)
+                Phase::Over(TransmitOutcome::TooFew)
             } else {
                 slot_or_fill(slots, Targets::new())
             }

@@ -8,7 +8,7 @@ ghost use Rattle.xen_steps.specs.Steps.{want_of};
 ghost use Rattle.xen_rx_fill.specs.Transmit.{fill_from, rx_answer};
 
 use crate::by_event::phase::Phase;
-use crate::packet::Packet;
+use crate::packet::RxPacket;
 use crate::target::{Grants, Targets};
 use crate::vif::Vif;
 use crate::words::{buffer_at, packet_word, response, words_of};
@@ -22,8 +22,8 @@ fn slot_index(rx_index: u32, targets: &Targets) -> u32
     rx_index.wrapping_add(targets.len())
 }
 
-/// What a transmit in this phase wants.
-pub(crate) fn phase_want(vif: &Vif, rx_index: u32, packet: &Packet, phase: &Phase) -> Want
+/// Returns what a transmit in this phase wants.
+pub(crate) fn phase_want(vif: &Vif, rx_index: u32, packet: &RxPacket, phase: &Phase) -> Want
     requires { length packet.now.bytes.now ≤ 65535 }
     ensures { result ≡ want_of (rest_of vif.now rx_index packet.now.offload packet.now.bytes.now phase.now) }
 {
@@ -59,7 +59,7 @@ pub(crate) fn phase_want(vif: &Vif, rx_index: u32, packet: &Packet, phase: &Phas
 }
 
 /// The next word of the packet, or the first response if all words are written.
-fn filling_want(vif: &Vif, rx_index: u32, packet: &Packet, targets: &Targets, k: u32) -> Want
+fn filling_want(vif: &Vif, rx_index: u32, packet: &RxPacket, targets: &Targets, k: u32) -> Want
     requires { length packet.now.bytes.now ≤ 65535 }
     ensures { result ≡ want_of (fill_from vif.now rx_index packet.now.offload packet.now.bytes.now targets.now k) }
 {
@@ -77,7 +77,7 @@ fn filling_want(vif: &Vif, rx_index: u32, packet: &Packet, targets: &Targets, k:
 fn response_want(
     vif: &Vif,
     rx_index: u32,
-    packet: &Packet,
+    packet: &RxPacket,
     grants: Grants,
     targets: &Targets,
     i: u32,

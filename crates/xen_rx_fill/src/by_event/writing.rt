@@ -12,7 +12,7 @@ ghost use Rattle.xen_rx_fill.specs.Transmit.{fill_from, outcome_of, rx_answer, r
 ghost use Rattle.xen_steps.specs.declared.want.Want.TheVariants as want;
 ghost use Rattle.xen_rx_fill.specs.declared.vif.Vif.{Vif as VifView};
 
-use crate::by_event::phase::{Outcome, Phase, Responding};
+use crate::by_event::phase::{Phase, Responding, TransmitOutcome};
 use crate::target::{Grants, Targets};
 use crate::words::words_of;
 use xen_ring::due;
@@ -68,12 +68,12 @@ pub(crate) fn after_response(responding: Responding) -> Phase
     }
 }
 
-pub(crate) fn outcome(grants: Grants, n: u32) -> Outcome
+pub(crate) fn outcome(grants: Grants, n: u32) -> TransmitOutcome
     ensures { result ≡ outcome_of grants n }
 {
     match grants {
-        Grants::Passed => Outcome::Sent(n),
-        Grants::Refused => Outcome::Refused(n),
+        Grants::Passed => TransmitOutcome::Sent(n),
+        Grants::Refused => TransmitOutcome::Refused(n),
     }
 }
 

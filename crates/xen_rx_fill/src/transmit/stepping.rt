@@ -9,9 +9,9 @@ ghost use Rattle.xen_rx_fill.specs.Transmit.{transmit};
 ghost use Rattle.xen_rx_fill.specs.declared.vif.Vif.{Vif as VifView};
 
 use crate::by_event::feeding::phase_fed;
-use crate::by_event::phase::{Outcome, Phase};
+use crate::by_event::phase::{Phase, TransmitOutcome};
 use crate::by_event::wanting::phase_want;
-use crate::packet::Packet;
+use crate::packet::RxPacket;
 use crate::transmit::{Progress, Transmit};
 use crate::vif::Vif;
 use xen_steps::Want;
@@ -25,8 +25,8 @@ impl Transmit {
         Transmit { phase: Phase::Look }
     }
 
-    /// What the transmit wants next. Vif, index and packet are the same at each call.
-    pub fn want(&self, vif: &Vif, rx_index: u32, packet: &Packet) -> Want
+    /// Returns what the transmit wants next. Vif, index and packet are the same at each call.
+    pub fn want(&self, vif: &Vif, rx_index: u32, packet: &RxPacket) -> Want
         requires { length packet.now.bytes.now ≤ 65535 }
         ensures want { result ≡ want_of (rest_of vif.now rx_index packet.now.offload packet.now.bytes.now self.now.phase) }
         ensures asks { IsTrue (asks (rest_of vif.now rx_index packet.now.offload packet.now.bytes.now self.now.phase)) }
@@ -35,7 +35,7 @@ impl Transmit {
     }
 
     /// The transmit after the event that it wanted, with the word that was read, if one was.
-    pub fn feed(self, vif: &Vif, rx_index: u32, packet: &Packet, word: u32) -> Progress
+    pub fn feed(self, vif: &Vif, rx_index: u32, packet: &RxPacket, word: u32) -> Progress
         requires { length packet.now.bytes.now ≤ 65535 }
         ensures rest { (number : ℕ) → rest_after vif.now rx_index packet.now.offload packet.now.bytes.now result
             ≡ next_by (rest_of vif.now rx_index packet.now.offload packet.now.bytes.now self.phase) word number }

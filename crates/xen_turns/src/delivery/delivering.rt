@@ -11,9 +11,9 @@ ghost use Rattle.xen_turns.specs.declared.wiring.Wiring.{Wiring as WiringView};
 use crate::decisions::{after_slots, halted};
 use crate::state::State;
 use crate::turn::Halt;
-use xen_rx_fill::Outcome;
+use xen_rx_fill::TransmitOutcome;
 
-/// What became of a packet that the host delivers.
+/// The fate of a packet that the host delivers.
 #[derive(Clone, Copy, Debug, PartialEq, Eq)]
 pub enum Delivery {
     /// It lies in the buffers of `slots` rx slots.
@@ -30,27 +30,27 @@ pub enum Delivery {
     NotAccepted,
 }
 
-/// Whether a packet can be delivered.
+/// Returns whether a packet can be delivered.
 pub fn can_be_delivered(packet: &[u8]) -> bool
     ensures { result ≡ is_frame packet.now }
 {
     !(packet.len() < 14 || packet.len() > 65_535)
 }
 
-/// What a transmit of the host's packet came to.
-pub fn delivered(state: &State, outcome: Outcome) -> (State, Delivery)
+/// Returns what a transmit of the host's packet came to.
+pub fn delivered(state: &State, outcome: TransmitOutcome) -> (State, Delivery)
     ensures arrival { arrival state.now outcome ≡ (result.0, result.1) }
     ensures rows { (w : WiringView) (o : RxOffload) (packet : List ℕ) (p : List Event) → IsDeliverable w.accepts o packet
         → state.now.halt ≡ None → IsTransmit w.vif state.now.rx_index o packet p outcome
         → IsDelivery w state.now o packet p result.0 result.1 }
 {
     match outcome {
-        Outcome::Overflow => {
+        TransmitOutcome::Overflow => {
             let cause = Halt::RxProducer;
             (halted(state, cause), Delivery::Halted { cause })
         }
-        Outcome::TooFew => (*state, Delivery::FewSlots),
-        Outcome::Refused(slots) => (after_slots(state, slots), Delivery::Refused { slots }),
-        Outcome::Sent(slots) => (after_slots(state, slots), Delivery::Sent { slots }),
+        TransmitOutcome::TooFew => (*state, Delivery::FewSlots),
+        TransmitOutcome::Refused(slots) => (after_slots(state, slots), Delivery::Refused { slots }),
+        TransmitOutcome::Sent(slots) => (after_slots(state, slots), Delivery::Sent { slots }),
     }
 }

@@ -135,6 +135,9 @@ impl Device {
     fn say_found(&self, rate: Option<String>) {
         let Device { id, guest, filter, log, .. } = self;
         log.line(&format!("found for domain {} ({}), filter {}", id.domain, guest.name, filter.path.display()));
+        if *guest == Guest::default() {
+            log.line("the guest's name and UUID can't be read here: no file by them is looked for");
+        }
         if let Some(rate) = rate {
             log.line(&format!("its rate isn't limited: the key rate ({rate}) is ignored"));
         }

@@ -41,6 +41,8 @@ fn the_first_that_is_there_is_taken_and_refusals_say_where() {
     assert!(refused.contains("a.toml: V7 at slot 0: a register is read that may be unset; "), "{refused}");
     std::fs::write(at("a.toml"), [b"program = []\n", &b"gso = false\n"[..]].concat()).unwrap();
     assert!(Filter::load(&at("a.toml")).unwrap_err().to_string().contains("L3"));
+    std::fs::write(at("a.toml"), String::from_utf8_lossy(COUNT).replace("entries = 256", "entries = 256\nvalues = [0, 7]")).unwrap();
+    assert!(find(&["a.toml"]).unwrap_err().to_string().contains("/a.toml: it gives counters numbers to begin with (values)"));
     std::fs::write(at("a.toml"), vec![b'#'; (1 << 20) + 1]).unwrap();
     assert!(Filter::load(&at("a.toml")).unwrap_err().to_string().contains("L1"));
     assert!(Filter::load(&folder).is_err());
@@ -129,6 +131,14 @@ fn a_list_file_beside_the_settings_has_the_rows() {
     write("10.0.0.1\nten\n");
     let refused = find().unwrap_err().to_string();
     assert!(refused.ends_with("/web.one.list: line 2: ten is no address"), "{refused}");
+    // as `>` leaves it until what writes it has begun
+    write("");
+    let refused = find().unwrap_err().to_string();
+    assert!(refused.contains("/web.one.list: the file is empty: "), "{refused}");
+    write("# none\n");
+    assert_eq!(action(&find().unwrap()), laxonje::Action::Pass);
+    write("1.0.0.0\n");
+    let second = find().unwrap();
     write("1.0.0.0\n2.0.0.0\n3.0.0.0\n4.0.0.0\n");
     let refused = find().unwrap_err().to_string();
     assert!(refused.contains("/web.toml: L4: "), "{refused}");
@@ -136,6 +146,30 @@ fn a_list_file_beside_the_settings_has_the_rows() {
     let last = find().unwrap();
     assert_eq!((action(&last), last.lists_of), (laxonje::Action::Pass, second.number));
     assert_eq!(Filter::load(&path).unwrap().text, std::fs::read(&path).unwrap());
+    std::fs::remove_dir_all(&folder).unwrap();
+}
+
+#[test]
+fn a_list_file_that_nothing_reads_is_named() {
+    let (folder, mut filters) = (folder("unread"), Filters::default());
+    let write = |name: &str, text: &str| std::fs::write(folder.join(name), text).unwrap();
+    let mut unread = |settings: &str| {
+        filters.look_again();
+        filters.find(vec![folder.join(settings)]).unwrap();
+        filters.unread().iter().map(|line| line.replace(&format!("{}/", folder.display()), "")).collect::<Vec<_>>()
+    };
+    write("web.toml", &listed("one", ""));
+    write("web.one.list", "1.0.0.0\n");
+    write("other.two.list", "");
+    assert_eq!(unread("web.toml"), [""; 0]);
+    write("web.on.list", "");
+    write("web.0.one.list", "# none\n");
+    let line = |file: &str| format!("{file} isn't read: web.toml has no map of that name");
+    assert_eq!(unread("web.toml"), [line("web.0.one.list"), line("web.on.list")]);
+    // it is that of a device
+    write("web.0.toml", &listed("one", ""));
+    assert_eq!(unread("web.toml"), [line("web.on.list")]);
+    assert_eq!(unread("web.0.toml"), [""; 0]);
     std::fs::remove_dir_all(&folder).unwrap();
 }
 

@@ -168,7 +168,8 @@ impl Serving {
             let (notifies, scatters) = (connect.notifies, connect.scatters);
             workers.push(Worker { place, guest, events, queue, tap: Tap::of(tap), totals, stalled, log, notifies, scatters });
         }
-        let counters = SharedCounters::of(program, workers.iter_mut().map(|worker| &mut worker.queue));
+        let counters = SharedCounters::of(program, workers.len());
+        workers.iter_mut().for_each(|worker| counters.share(&mut worker.queue));
         self.start(connect.device, workers, counters)
     }
 
@@ -208,10 +209,10 @@ impl Serving {
             (Some(program), Some(served)) => (program, served),
             _ => return,
         };
-        served.counters.replace(program);
+        served.counters.replace(program, served.queues.len());
         for queue in &mut served.queues {
             match program.try_clone() {
-                Ok(program) => drop(queue.order(serve::Order::Replace(program))),
+                Ok(program) => drop(queue.order(serve::Order::Replace(program, served.counters.clone()))),
                 Err(error) => self.log.line(&format!("the filter stays: {error}")),
             }
         }

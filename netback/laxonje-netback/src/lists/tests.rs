@@ -54,7 +54,7 @@ fn rows_take_the_place_of_rows_and_all_else_stays() {
     let made = given(&[("networks", "2001:db8::/32\n::1\n")]).unwrap();
     let rows = "rows = [\n  \"2000000020010db8000000000000000000000000\",\n  \"8000000000000000000000000000000000000001\",\n]\n";
     assert_eq!(made, SETTINGS.replace("name = \"networks\"", &format!("{rows}name = \"networks\"")));
-    let empty = given(&[("hosts", "# none\n"), ("networks", "")]).unwrap();
+    let empty = given(&[("hosts", "# none\n"), ("networks", "\n")]).unwrap();
     assert_eq!(empty.matches("rows = [\n]\n").count(), 2);
     assert_eq!(given(&[]).as_deref(), Ok(SETTINGS));
 }

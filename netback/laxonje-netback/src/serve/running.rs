@@ -1,5 +1,6 @@
 //! A queue's thread at work: packets both ways, and what its process's first thread orders.
 use super::arena::{Arena, Exchanged, Out, Packet};
+use super::counting::SharedCounters;
 use super::guest::Delivering;
 use super::noting::{note_delivered, note_left};
 use super::rests::Rests;
@@ -174,16 +175,17 @@ impl Running {
                     let Worker { queue, guest, .. } = &self.worker;
                     let _ = to.send(Told { counters: queue.counters().to_vec(), rings: Some(guest.rings()) });
                 }
-                Order::Replace(program) => self.replace(&program),
+                Order::Replace(program, counters) => self.replace(&program, &counters),
             }
         }
         true
     }
 
-    fn replace(&mut self, program: &Program) {
+    fn replace(&mut self, program: &Program, counters: &SharedCounters) {
         let Worker { queue, log, .. } = &mut self.worker;
-        if let Err(why) = queue.replace(program) {
-            log.line(&format!("the filter isn't replaced: {why}"));
+        match queue.replace(program) {
+            Ok(()) => counters.share(queue), // one that has kept its counters shares these already
+            Err(why) => log.line(&format!("the filter isn't replaced: {why}")),
         }
     }
 

@@ -1,5 +1,6 @@
 //! The thread of a queue, as the first thread of its guest's process has it: it is started, gets orders, and reports why it ended.
 use super::arena::PACKETS_BYTES;
+use super::counting::SharedCounters;
 use super::guest::{XenGuest, COPIES_BYTES, OWN_DOMAIN, RX_RING, TABLE_FRAMES, TX_RING};
 use super::running::Running;
 use crate::log::Log;
@@ -26,8 +27,8 @@ const _: () = assert!(PACKETS_BYTES + COPIES_BYTES + STACK_BYTES + LIBRARY_BYTES
 
 /// What the first thread wants of a queue's.
 pub enum Order {
-    /// Go on with another program.
-    Replace(Program),
+    /// Go on with another program, whose counters the queues of the device share.
+    Replace(Program, SharedCounters),
     /// Say what the program counted, and where the rings stand.
     Tell(Sender<Told>),
     /// End, between two turns.

@@ -22,7 +22,7 @@ PROVED |= {"read-and-count": "proved alone", "syn-share": "proved alone"}
 SAME = "COUNTER_INDEX", "STACK_INDEX"
 BY_COUNTS = "COUNT", "COUNT_OF_A_NUMBER", "TWO_COUNTS", "COUNT_IN_A_LOOP"
 ALONE = "COUNT_READ", "DOUBLED", "COUNTER_SET", "COUNTER_SET_ON_SOME_WAYS", "COUNTED_TWICE"
-HALVES = {"HALF_COUNTER": "proved alone", "UPPER_HALF": "compared", "BOTH_HALVES": "compared"}  # the last two are counts
+HALVES = "HALF_COUNTER", "UPPER_HALF", "BOTH_HALVES"  # compared as they are written out; the last two are counts
 # what stands in place of `xdpbox same`, and which of the ways it leaves
 ANSWERS = {
     "a yes": ("echo 'same, 1 slots for 1'", "proved"),
@@ -100,9 +100,9 @@ def tests(xdpbox):
     for name in ALONE:
         found = how(xdpbox, getattr(programs, name), proved=True)
         yield f"{name} is proved alone", "" if found == "proved alone" else found
-    for name, wanted in HALVES.items():
-        found = how(xdpbox, getattr(programs, name))
-        yield f"{name} is {wanted}", "" if found == wanted else found
+    for name in HALVES:
+        found = how(xdpbox, getattr(programs, name), proved=True)
+        yield f"{name} is proved alone", "" if found == "proved alone" else found
         found = straightened(getattr(programs, name), xdpbox, Wanted(writes_out=False)).how
         yield f"{name} isn't as it is", "" if found == "compared" else found
     yield "constants in memory aren't asked of", "" if question(programs.TABLE, programs.TABLE, {}) is None else "they are"

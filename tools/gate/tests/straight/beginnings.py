@@ -15,7 +15,7 @@ WITH_PARTS = {
     "whole numbers": (MAP.format("__u64") + BODY.format("return *(__u64 *)v ? XDP_DROP : XDP_PASS;"), False, None),
     "a narrow number that is loaded": (MAP.format(VALUE) + BODY.format(LOADS), True, None),
     "a narrow number that isn't reached": (MAP.format(VALUE) + BODY.format("return *(__u64 *)(v + 8) ? XDP_DROP : XDP_PASS;"), False, None),
-    "one that is counted": (MAP.format(VALUE) + BODY.format("*(__u32 *)v += 1; return XDP_PASS;"), False, "compared"),
+    "one that is counted": (MAP.format(VALUE) + BODY.format("*(__u32 *)v += 1; return XDP_PASS;"), False, "proved alone"),
     "a count beside narrow numbers": (MAP.format(VALUE) + BODY.format("*(__u64 *)(v + 8) += 1; return XDP_PASS;"), False, "proved by counts"),
     "a narrow number behind a loop": (
         MAP.format(VALUE)

@@ -9,19 +9,13 @@ import tomllib
 
 from tests.straight import machine
 from laxonje_tools.from_c import elf
-from laxonje_tools.from_c.memory import memory_of
+from tests.straight.calling import MTU, NANOSECONDS, Calling
 from tests.straight.objects import object_of
-from laxonje_tools.straight.instructions import CALL, EXIT, FRAME_POINTER, MASK_32, MASK_64, signed
-from laxonje_tools.straight.settings import instructions_of
 
 TOOLS = pathlib.Path(__file__).resolve().parents[3]
-PLACES = (TOOLS / f"gate/tests/straight/{name}.c" for name in "calls absent mtu sequences repeated frames sums".split())
-SOURCE, ABSENT, ASKS_MTU, SEQUENCES, REPEATED, FRAMES_DOWN, SUMS = PLACES
-MASK_16, FOLDS_SUMS = 0xFFFF, [6, 13]  # the second: Linux from which on bpf_csum_diff gives 16 bits
-NANOSECONDS, JIFFY = 150000, 4000000  # from one call for the time to the next, and where CONFIG_HZ is 250
-MTU, NO_DEVICE = 1500, -19  # the latter: ENODEV
-LOOP, FUNCTIONS = 181, 1 << 50  # bpf_loop, and addresses of functions: this and the number among a file's
-LOCAL, FRAMES, NO_BYTES, NO_ROOM, TOO_BIG = 1, 8, -14, -22, -7  # the last three: EFAULT, EINVAL, E2BIG
+PLACES = (TOOLS / f"gate/tests/straight/{name}.c" for name in "calls absent mtu sequences repeated frames sums each".split())
+SOURCE, ABSENT, ASKS_MTU, SEQUENCES, REPEATED, FRAMES_DOWN, SUMS, EACH_VALUE = PLACES
+FOLDS_SUMS = [6, 13]  # Linux from which on bpf_csum_diff gives 16 bits
 HEADERS = "#include <linux/bpf.h>\n#include <bpf/bpf_helpers.h>\n"
 # what can't be written out: in front of the function, in it, and what is said
 REFUSED = {
@@ -60,180 +54,6 @@ REFUSED = {
 UNSET = """static __attribute__((noinline)) int g(int n) { int x; asm volatile("r6 = %1; %0 = r6" : "=r"(x) : "r"(n) : "r6"); return x; }
 SEC("xdp") int f(struct xdp_md *ctx) { return g(ctx->rx_queue_index) ? XDP_DROP : XDP_PASS; }
 """
-# the helpers of what isn't there, as Linux answers where there is none: those that don't look at their arguments
-NOTHING_THERE = {25: -2, 69: 5, 131: 0}
-
-
-class Calling(machine.Machine):
-    """An object's functions as they are, each called in a frame of its own."""
-
-    def __init__(self, sections, maps):
-        self.functions, self.frames = {}, []
-        self.places = [(function.section, function.place) for function in elf.functions_of(sections)]
-        for function in elf.functions_of(sections):
-            rows = list(elf.relocations_of(sections, function))
-            words = [function.code[at : at + 8].hex() for at in range(0, len(function.code), 8)]
-            named = [{"slot": row.slot, "map": row.name} for row in rows if row.kind == elf.MAP_ADDRESS and not row.section]
-            memory = memory_of(sections, rows).settings()
-            calls = {row.slot: (row.section, row.place) for row in rows if row.kind == elf.FUNCTION_CALL}
-            code = instructions_of({"program": words, "reloc": named, **memory})
-            for row in rows:
-                if (row.section, row.place) in self.places and row.kind == elf.MAP_ADDRESS:
-                    address = code[row.slot]
-                    address.source, address.immediate, address.upper = 0, self.places.index((row.section, row.place)), FUNCTIONS >> 32
-            self.functions[function.section, function.place] = (code, calls)
-            super().__init__({"program": [], "map": maps, **memory})
-        self.first = next(key for key in self.functions if key[0].startswith("xdp"))
-
-    def place(self, address, size):
-        start = machine.STACK - machine.STACK_BYTES * FRAMES
-        address &= MASK_64
-        if start <= address and address + size <= machine.STACK:
-            return self.deep, address - start
-        return super().place(address, size)
-
-    def run(self, packet):
-        self.packet, self.deep, self.frames = bytearray(packet), bytearray(machine.STACK_BYTES * FRAMES), []
-        self.registers = [0] * (FRAME_POINTER + 1)
-        self.registers[1], self.registers[FRAME_POINTER] = machine.CONTEXT, machine.STACK
-        key, slot = self.first, 0
-        for _ in range(machine.MOST_STEPS):
-            code, calls = self.functions[key]
-            instruction = code[slot]
-            if instruction.opcode == EXIT and not self.frames:
-                return machine.ACTIONS.get(self.registers[0] & MASK_32, "ABORTED"), bytes(self.packet)
-            if instruction.opcode == EXIT and self.is_called_again():
-                slot = 0
-            elif instruction.opcode == EXIT:
-                key, slot, kept, _ = self.frames.pop()
-                self.registers[6:11] = kept
-            elif instruction.opcode == CALL and instruction.immediate == LOOP and instruction.source == 0:
-                times, address, given = self.registers[1:4]
-                if times & MASK_32:
-                    self.frames.append((key, slot + 1, self.registers[6:11], [0, times & MASK_32, given]))
-                    self.registers[1:3] = 0, given
-                    self.registers[FRAME_POINTER] -= machine.STACK_BYTES
-                    key, slot = self.places[address - FUNCTIONS], 0
-                else:
-                    self.registers[0], slot = 0, slot + 1
-            elif instruction.opcode == CALL and instruction.source == LOCAL:
-                section, place = calls.get(slot, (key[0], key[1] + 8 * slot + 8))
-                self.frames.append((key, slot + 1, self.registers[6:11], None))
-                self.registers[FRAME_POINTER] -= machine.STACK_BYTES
-                key, slot = (section, place + 8 * (instruction.immediate + (1 if slot in calls else 0))), 0
-            else:
-                slot += self.step(instruction)
-        raise AssertionError("no end")
-
-    def is_called_again(self):
-        """Whether bpf_loop calls a function again, whose call ends; else its answer is how often it was called."""
-        loop = self.frames[-1][3]
-        if loop is None:
-            return False
-        loop[0] += 1
-        is_over = bool(self.registers[0]) or loop[0] == loop[1]
-        if is_over:
-            self.registers[0] = loop[0]
-        else:
-            self.registers[1:3] = loop[0], loop[2]
-        return not is_over
-
-    def step(self, instruction):
-        if instruction.opcode == CALL and instruction.immediate != 1:
-            self.registers[0] = self.helped(instruction.immediate, *self.registers[1:6]) & MASK_64
-            return 1
-        return super().step(instruction)
-
-    def helped(self, number, *words):
-        if number == 8 or number in (6, 177):
-            return 0
-        if number == 188:
-            return len(self.packet)
-        if number == 2:
-            return self.updated(self.maps[words[0] - machine.MAPS], words[1], words[2])
-        if number == 163:
-            return self.compared_with_mtu(*words[1:])
-        if number in (5, 125):
-            return self.counted("bpf_ktime_get_ns", NANOSECONDS)
-        if number == 118:
-            return self.counted("bpf_ktime_get_ns", NANOSECONDS) // JIFFY
-        if number == 7:
-            return splitmix(self.counted("bpf_get_prandom_u32", 1)) >> 32
-        if number in NOTHING_THERE:
-            return NOTHING_THERE[number]
-        if number == 23:
-            return 0 if words[1] else 4
-        if number == 51:
-            name, flags = self.maps[words[0] - machine.MAPS]["name"], words[2]
-            if flags & ~(27 if name == "devices" else 3):
-                return 0
-            return 4 if flags & 8 else flags & 3
-        if number in (189, 190):
-            offset, size = words[1] & MASK_32, words[3]
-            if offset > 0xFFFF:
-                return NO_BYTES
-            if offset + size > len(self.packet):
-                return NO_ROOM
-            part, at = self.place(words[2], size)
-            if number == 189:
-                part[at : at + size] = self.packet[offset : offset + size]
-            else:
-                self.packet[offset : offset + size] = part[at : at + size]
-            return 0
-        assert number == 28
-        return NO_ROOM if words[1] % 4 or words[3] % 4 else carried(self.summed(*words), MASK_16)
-
-    def summed(self, old, old_size, new, new_size, seed):
-        """bpf_csum_diff of Linux 6.13, before its sum of 32 bits is folded."""
-        seed &= MASK_32
-        if old_size and not new_size:
-            return carried(self.words_at(old, old_size) + (seed ^ MASK_32), MASK_32) ^ MASK_32
-        less = carried(self.words_at(old, old_size), MASK_32) ^ MASK_32 if old_size else 0
-        return carried(carried(self.words_at(new, new_size) + seed, MASK_32) + less, MASK_32)
-
-    def words_at(self, address, size):
-        """The sum of the words at an address."""
-        parts = [self.place(address + at, 4) for at in range(0, size, 4)]
-        return sum(int.from_bytes(part[at : at + 4], "little") for part, at in parts)
-
-    def compared_with_mtu(self, device, address, more, flags):
-        """bpf_check_mtu, of an own device that has the number 0."""
-        if flags or device & MASK_32:
-            return NO_ROOM if flags else NO_DEVICE
-        part, at = self.place(address, 4)
-        given = int.from_bytes(part[at : at + 4], "little")
-        part[at : at + 4] = MTU.to_bytes(4, "little")
-        return int(signed((given + 14 if given else len(self.packet)) + more, 32) > MTU + 14)
-
-    def counted(self, name, step):
-        """The one counter of a map, after an addition."""
-        there = self.values[self.numbers[name]]
-        number = int.from_bytes(there[:8], "little") + step
-        there[:8] = number.to_bytes(8, "little")
-        return number
-
-    def updated(self, row, key, value):
-        """bpf_map_update_elem of an array."""
-        part, at = self.place(key, 4)
-        number, size = int.from_bytes(part[at : at + 4], "little"), 8 * row.get("counters", 1)
-        if number >= row["entries"]:
-            return TOO_BIG
-        part, at = self.place(value, size)
-        self.values[self.numbers[row["name"]]][size * number : size * (number + 1)] = part[at : at + size]
-        return 0
-
-
-def carried(number, mask):
-    """A sum in so many bits, to which each carry out of them is added: 0 only if it was 0."""
-    return number and (number - 1) % mask + 1
-
-
-def splitmix(count):
-    """SplitMix64 of a count, as its authors have it."""
-    number = count * 0x9E3779B97F4A7C15 & MASK_64
-    for shift, factor in ((30, 0xBF58476D1CE4E5B9), (27, 0x94D049BB133111EB)):
-        number = (number ^ number >> shift) * factor & MASK_64
-    return number ^ number >> 31
 
 
 def packets():
@@ -245,6 +65,16 @@ def packets():
 def settings_from(clang, xdpbox, *words):
     env = {**os.environ, "CLANG": clang, "XDPBOX": str(xdpbox)}
     return subprocess.run([TOOLS / "settings-from-c", *words], env=env, capture_output=True, text=True, check=False)
+
+
+def differing(xdpbox, settings, one, given, wanted, actions=3):
+    """What is wrong with the program of settings on packets that an interpreter has run, which answered with so many actions."""
+    relocations = [(row["slot"], row["map"]) for row in settings["reloc"]]
+    runs, counters = machine.filtered(xdpbox, settings, settings["program"], relocations, given)
+    wrong = [packet[:8].hex() for packet, mine, theirs in zip(given, wanted, runs) if mine != theirs]
+    found = len({row[0] for row in wanted})
+    right = not wrong and len(runs) == len(given) and counters == one.counters() and actions in (None, found)
+    return "" if right else f"{wrong[:3]} {counters} {one.counters()} {found} actions"
 
 
 def absent_tests(clang, xdpbox, folder):
@@ -261,10 +91,7 @@ def absent_tests(clang, xdpbox, folder):
     empty = [{"name": name, "entries": 0} for name in ("sockets", "devices", "processors", "events", "ring")]
     one = Calling(elf.sections_of(data), [*settings["map"], *empty])
     wanted = [one.run(packet) for packet in given]
-    runs, counters = machine.filtered(xdpbox, settings, settings["program"], [(row["slot"], row["map"]) for row in settings["reloc"]], given)
-    wrong = [packet.hex() for packet, mine, theirs in zip(given, wanted, runs) if mine != theirs]
-    right = not wrong and len(runs) == len(given) and counters == one.counters() and len({row[0] for row in wanted}) == 3
-    yield f"what isn't there, on {len(given)} packets", "" if right else f"{wrong[:3]} {counters} {one.counters()}"
+    yield f"what isn't there, on {len(given)} packets", differing(xdpbox, settings, one, given, wanted)
 
 
 def mtu_tests(clang, xdpbox, folder):
@@ -279,11 +106,7 @@ def mtu_tests(clang, xdpbox, folder):
     given = [bytes(first) + bytes(size - 4) for first in firsts for size in (60, 1474, 1514)]
     one = Calling(elf.sections_of(data), settings["map"])
     wanted = [one.run(packet) for packet in given]
-    relocations = [(row["slot"], row["map"]) for row in settings["reloc"]]
-    runs, counters = machine.filtered(xdpbox, settings, settings["program"], relocations, given)
-    wrong = [packet[:4].hex() for packet, mine, theirs in zip(given, wanted, runs) if mine != theirs]
-    right = not wrong and len(runs) == len(given) and counters == one.counters() and len({row[0] for row in wanted}) == 3
-    yield f"an MTU on {len(given)} packets", "" if right else f"{wrong[:3]} {counters} {one.counters()}"
+    yield f"an MTU on {len(given)} packets", differing(xdpbox, settings, one, given, wanted)
     lines = folder / "mtu.packets"
     lines.write_text("".join(f"{action} {packet.hex()}\n" for packet, (action, _) in zip(given, wanted)))
     env = {**os.environ, "CLANG": clang, "XDPBOX": str(xdpbox)}
@@ -302,11 +125,21 @@ def repeated_tests(clang, xdpbox, folder):
     given = [bytes([times + 64 * sum, stop]) + bytes((times * at + stop) & 15 for at in range(10 + length)) for times in range(16) for sum in range(4) for stop in (0, 3, 8, 99) for length in (2, 4, 9)]
     one = Calling(elf.sections_of(data), settings["map"])
     wanted = [one.run(packet) for packet in given]
-    relocations = [(row["slot"], row["map"]) for row in settings["reloc"]]
-    runs, counters = machine.filtered(xdpbox, settings, settings["program"], relocations, given)
-    wrong = [packet[:4].hex() for packet, mine, theirs in zip(given, wanted, runs) if mine != theirs]
-    right = not wrong and len(runs) == len(given) and counters == one.counters() and len({row[0] for row in wanted}) == 3
-    yield f"bpf_loop on {len(given)} packets", "" if right else f"{wrong[:3]} {counters} {one.counters()} {len({row[0] for row in wanted})}"
+    yield f"bpf_loop on {len(given)} packets", differing(xdpbox, settings, one, given, wanted)
+
+
+def each_tests(clang, xdpbox, folder):
+    """A function that bpf_for_each_map_elem calls for each value of an array, and a lock that is left out, by an interpreter."""
+    run = settings_from(clang, xdpbox, "--without-locks", EACH_VALUE)
+    if run.returncode:
+        yield "bpf_for_each_map_elem is written out", run.stderr
+        return
+    yield "a lock that is left out is noted", "" if "the lock is left out" in run.stderr else run.stderr
+    settings, data = tomllib.loads(run.stdout), object_of(clang, EACH_VALUE, folder / "each.o").read_bytes()
+    given = [bytes([at, net]) + bytes([at * 7 & 255, at & 3] * 6) for at in range(256) for net in (0, 1, 5, 130)]
+    one = Calling(elf.sections_of(data), [{**row, "counters": row.get("counters", 1)} for row in settings["map"]])
+    wanted = [one.run(packet) for packet in given]
+    yield f"bpf_for_each_map_elem on {len(given)} packets", differing(xdpbox, settings, one, given, wanted)
 
 
 def sequence_tests(clang, xdpbox, folder):
@@ -321,11 +154,7 @@ def sequence_tests(clang, xdpbox, folder):
     given = [bytes([size, side, 255 - size, 0]) + bytes((side + at * size) & 255 for at in range(16 + side)) for size in range(0, 256, 3) for side in range(4)]
     one = Calling(elf.sections_of(data), settings["map"])
     wanted = [one.run(packet) for packet in given]
-    relocations = [(row["slot"], row["map"]) for row in settings["reloc"]]
-    runs, counters = machine.filtered(xdpbox, settings, settings["program"], relocations, given)
-    wrong = [packet[:4].hex() for packet, mine, theirs in zip(given, wanted, runs) if mine != theirs]
-    right = not wrong and len(runs) == len(given) and counters == one.counters() and len({row[0] for row in wanted}) == 3
-    yield f"numbers of sequences on {len(given)} packets", "" if right else f"{wrong[:3]} {counters} {one.counters()}"
+    yield f"numbers of sequences on {len(given)} packets", differing(xdpbox, settings, one, given, wanted)
 
 
 def sum_tests(clang, xdpbox, folder):
@@ -355,11 +184,7 @@ def frame_tests(clang, xdpbox, folder):
     given = [bytes(first * at + second & 255 for at in range(32 + second % 3)) for first in range(1, 8) for second in range(9)]
     one = Calling(elf.sections_of(target.read_bytes()), settings["map"])
     wanted = [one.run(packet) for packet in given]
-    relocations = [(row["slot"], row["map"]) for row in settings["reloc"]]
-    runs, counters = machine.filtered(xdpbox, settings, settings["program"], relocations, given)
-    wrong = [packet[:4].hex() for packet, mine, theirs in zip(given, wanted, runs) if mine != theirs]
-    right = not wrong and len(runs) == len(given) and counters == one.counters()
-    yield f"frames that aren't named, on {len(given)} packets", "" if right else f"{wrong[:3]} {counters} {one.counters()}"
+    yield f"frames that aren't named, on {len(given)} packets", differing(xdpbox, settings, one, given, wanted, None)
     run = settings_from(clang, xdpbox, target)
     right = run.returncode == 1 and not run.stdout and "its object file doesn't show how much of the stack" in run.stderr
     yield "an object of such frames is refused", "" if right else run.stderr + run.stdout[:80]
@@ -377,15 +202,12 @@ def tests(clang, xdpbox):
             settings, given = tomllib.loads(run.stdout), packets()
             one = Calling(elf.sections_of(data), settings["map"])
             wanted = [one.run(packet) for packet in given]
-            relocations = [(row["slot"], row["map"]) for row in settings["reloc"]]
-            runs, counters = machine.filtered(xdpbox, settings, settings["program"], relocations, given)
-            wrong = [packet.hex() for packet, mine, theirs in zip(given, wanted, runs) if mine != theirs]
-            right = not wrong and len(runs) == len(given) and counters == one.counters() and len({row[0] for row in wanted}) == 3
-            yield f"{source.name}: calls on {len(given)} packets", "" if right else f"{wrong[:3]} {counters} {one.counters()}"
+            yield f"{source.name}: calls on {len(given)} packets", differing(xdpbox, settings, one, given, wanted)
         yield from absent_tests(clang, xdpbox, pathlib.Path(folder))
         yield from mtu_tests(clang, xdpbox, pathlib.Path(folder))
         yield from sequence_tests(clang, xdpbox, pathlib.Path(folder))
         yield from repeated_tests(clang, xdpbox, pathlib.Path(folder))
+        yield from each_tests(clang, xdpbox, pathlib.Path(folder))
         yield from sum_tests(clang, xdpbox, pathlib.Path(folder))
         yield from frame_tests(clang, xdpbox, pathlib.Path(folder))
         path = pathlib.Path(folder, "unset.c")

@@ -40,6 +40,8 @@ WRONG_VALUES = {
     "=1": "isn't NAME=VALUE",
 }
 WRONG_PACKETS = {
+    "": "there is no packet in it",
+    "# PASS 00\n\n": "there is no packet in it",
     "KEEP 00": "isn't ACTION PACKET [PACKET], in hex",
     "PASS zz": "isn't ACTION PACKET [PACKET], in hex",
     "PASS": "isn't ACTION PACKET [PACKET], in hex",

@@ -117,10 +117,6 @@ LIMITERS = {
 }
 # C in which a store may change another number whatever is done, and what is said
 REFUSED = {
-    "nine numbers": (
-        "static volatile __u8 state[16];\n" + FUNCTION + "for (int i = 0; i < 9; i++) state[i]--; return XDP_PASS; }",
-        "numbers of state are stored below another one of their counter",
-    ),
     "two numbers at once": (
         "static volatile struct { __u32 left, passed; } state;\n" + FUNCTION
         + "state.left -= 1; return *(volatile __u64 *)&state ? XDP_PASS : XDP_DROP; }",
@@ -220,7 +216,7 @@ def limiter_tests(clang, xdpbox, path):
             relocations = [(each["slot"], each["map"]) for each in result["reloc"]]
             moved = moved_in(original, made)
             wrong, count = machine.differences(xdpbox, original, result["program"], relocations, SOME_PACKETS, moved)
-            yield f"{name} as clang made it, on {count} packets", " ".join(wrong[:3])
+            yield f"{name} as clang made it, on {count} packets", " ".join(wrong[:3]) or ("" if count else "no packet was run")
 
 
 def wrong_together(row, made):

@@ -42,7 +42,7 @@ NOT_HERE = {
         "__u32 k = 0; bpf_map_delete_elem(&m, &k); return XDP_PASS;",
         "bpf_map_delete_elem, which isn't here: a program adds no row and takes none away",
     ),
-    "nine counters": (MAP.format("ARRAY", 1, "__u32", "struct { __u64 n[9]; }", "m"), LOOKUP, "have 72 bytes: a value has 1 to 64"),
+    "nine counters": (MAP.format("HASH", 1, "__u32", "struct { __u64 n[9]; }", "m"), LOOKUP, "have 72 bytes: those of a list have 1 to 64"),
     "a map that is none": ('int m SEC(".maps");', "return m;", 'm stands in section ".maps", and is no struct'),
     "a clock": ("", "return bpf_ktime_get_ns() & 1 ? XDP_DROP : XDP_PASS;", "or --clock N answers with a time that goes on by N nanoseconds at each call"),
     "a question for a device": (
@@ -51,12 +51,16 @@ NOT_HERE = {
         "calls bpf_check_mtu, which isn't here: there is no device to ask: --mtu N answers for the packet's own device",
     ),
     "a redirect": ("", "return bpf_redirect(1, 0);", "there is no other device here: XDP_PASS gives the packet to the host, which forwards it; XDP_TX sends it back"),
-    "a global of 12 bytes": (
-        "struct { int a, b, c; } seen;",
-        "return seen.b++ ? XDP_PASS : XDP_DROP;",
-        "stores to seen: a global that changes is a map's counters here: it has 1, 2, 4 or whole eight bytes",
+    "a global that begins with a great number": (
+        "__u64 seen = 1ULL << 63;",
+        "return seen++ ? XDP_PASS : XDP_DROP;",
+        "stores to seen: a global that changes is a map's counters here: they begin with at most 2^63 - 1",
     ),
-    "a global that begins with a great number": ("__u64 seen = 1ULL << 63;", "return seen++ ? XDP_PASS : XDP_DROP;", "stores to seen"),
+    "globals that begin with a great number": (
+        "__u64 seen[9] = { [3] = 1ULL << 63 };",
+        "return seen[ctx->rx_queue_index & 7]++ ? XDP_PASS : XDP_DROP;",
+        "stores to seen, which begins with 9223372036854775808: a counter begins with at most 2^63 - 1",
+    ),
     "a table of functions": (
         "static int a(void) { return 1; } static int b(void) { return 2; } int (*const table[2])(void) = {a, b};",
         "return table[ctx->rx_queue_index & 1]();",

@@ -3,7 +3,7 @@ use Rattle.bpf_insn.specs.declared.insn.Insn.TheVariants.{Jump}
 use Rattle.bpf_note.specs.Parts.{facts}
 use Rattle.bpf_flow.specs.Step.{target}
 use Rattle.bpf_same.specs.Decided.{IsDecided}
-use Rattle.bpf_same.proofs.SimulationLemmas.{taken_if, left_if}
+use Rattle.bpf_same.proofs.SilentLemmas.{taken_if, left_if}
 use Rattle.bpf_same.proofs.simulation.silent_target.Goals as goal
 
 pub returns-in-Some-true : goal.returns-in-Some-true

@@ -1,7 +1,7 @@
 use Rattle.std.proofs.Common.{◌≡◌, ◌∙◌, ℕ, ◌+◌, refl, ap, subst, arith, Result, Ok, Err, IfOk}
 use Rattle.std.proofs.lemmas.List.FromFn.{get_or-map-range_with_len}
 use Rattle.xen_buffers.specs.Grants.{buffer}
-use Rattle.xen_buffers.specs.declared.wiring.Buffer.{Buffer}
+use Rattle.xen_buffers.specs.declared.wiring.GrantedPage.{GrantedPage}
 use Rattle.std.specs.declared.alloc.AllocError.{AllocError}
 use Rattle.xen_buffers.specs.declared.desc.FrontDesc.{FrontDesc}
 use Rattle.xen_front.specs.Fronts.{state_of}
@@ -18,7 +18,7 @@ pub make-requires : goal.make-requires
 make-requires c =
     is_wired 1 0 _ (omega arith) (omega arith) refl refl refl (c.table.ensures) c.requires.tx c.requires.rx
 
-abbrev lent : ℕ → ℕ → Buffer
+abbrev lent : ℕ → ℕ → GrantedPage
 lent g n = record { gref = g; frame = n }
 
 granted_is : (g n : ℕ) → 17 + g ≡ n → granted g ≡ lent g n

@@ -5,7 +5,7 @@ use Rattle.bpf_same.specs.Renumbered.{IsRenumbering}
 use Rattle.bpf_same.specs.Same.{IsSame}
 use Rattle.bpf_same.specs.declared.witness.Witness.{Witness}
 use Rattle.xdp_load.specs.OriginalSeen.{place_view}
-use Rattle.xdp_load.specs.declared.original.Place.{Place as Read}
+use Rattle.xdp_load.specs.declared.original.OriginalPlace.{OriginalPlace as Read}
 use Rattle.xdp_commands.specs.Comparing.{tried, tried_of}
 use Rattle.xdp_commands.proofs.comparing.compare_with.Goals as goal
 

@@ -1,14 +1,14 @@
 use Rattle.std.proofs.Common.{◌≡◌, ℕ, List, ◌∷◌, ◌++◌, [], ◌+◌, map, sym, ap, ◌∙◌, refl, arith}
 use Rattle.std.specs.List.{range_with_len}
 use Rattle.std.proofs.lemmas.List.FromFn.{map-range_with_len_more}
-use Rattle.xen_buffers.specs.declared.wiring.Buffer.{Buffer}
+use Rattle.xen_buffers.specs.declared.wiring.GrantedPage.{GrantedPage}
 use Rattle.xdp_world.specs.Buffers.{granted}
 use Rattle.xdp_world.proofs.buffers.buffers_from.Goals as goal
 
 pub loop-id-preserved : goal.loop-id-preserved
 loop-id-preserved c =
     c.in_ok-push.ensures.items
-    ∙ (ap (λ (l : List Buffer). l ++ granted (c.args.first + c.loop-id.id) ∷ []) c.loop-id.invariant ∙ sym (map-range_with_len_more granted c.args.first c.loop-id.id (c.args.first + c.loop-id.id) refl))
+    ∙ (ap (λ (l : List GrantedPage). l ++ granted (c.args.first + c.loop-id.id) ∷ []) c.loop-id.invariant ∙ sym (map-range_with_len_more granted c.args.first c.loop-id.id (c.args.first + c.loop-id.id) refl))
 
 pub returns : goal.returns
 returns c =

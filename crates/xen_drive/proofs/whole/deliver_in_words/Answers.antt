@@ -1,5 +1,5 @@
 use Rattle.std.proofs.Common.{ap, length}
-use Rattle.xdp_program.specs.declared.tallies.Words.{Words}
+use Rattle.xdp_program.specs.declared.tallies.CounterWords.{CounterWords}
 use Rattle.xen_host.specs.Queues.{wired_to}
 use Rattle.xen_drive.proofs.TraceLemmas.{words_enough}
 use Rattle.xen_drive.proofs.whole.deliver_in_words.Goals as goal
@@ -12,13 +12,13 @@ returns g c =
     let d = c.drive_delivery.ensures.delivered in
     record {
       size = c.drive_delivery.ensures.size;
-      counters = ap (λ (w : Words). length w.words.now) d.counters;
-      loan = ap (λ (w : Words). w.words.ghost_name) d.counters;
+      counters = ap (λ (w : CounterWords). length w.words.now) d.counters;
+      loan = ap (λ (w : CounterWords). w.words.ghost_name) d.counters;
       delivered = record {
         trace = d.trace;
         is_delivery = d.is_delivery;
         performed = d.performed;
-        counters = ap (λ (w : Words). w.words.now) d.counters;
+        counters = ap (λ (w : CounterWords). w.words.now) d.counters;
         copied = d.copied;
         rests = d.rests;
         wires = c.drive_delivery.ensures.wires;

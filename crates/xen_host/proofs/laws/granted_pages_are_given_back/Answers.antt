@@ -7,7 +7,7 @@ use Rattle.xen_rx_fill.specs.Places.{rx_word}
 use Rattle.xen_rx_fill.specs.Packets.{words}
 use Rattle.xen_rx_fill.specs.Sending.{IsTransmit, buffer_writes}
 use Rattle.xen_rx_fill.specs.Sending as sending
-use Rattle.xen_rx_fill.specs.declared.by_event.phase.Outcome.TheVariants as outcome
+use Rattle.xen_rx_fill.specs.declared.by_event.phase.TransmitOutcome.TheVariants as outcome
 use Rattle.xen_rx_fill.specs.declared.vif.Vif.{Vif}
 use Rattle.xen_rx_fill.specs.declared.target.Grants.TheVariants.{Passed, Refused}
 use Rattle.xen_turns.specs.Delivered.{IsDelivery}

@@ -5,7 +5,7 @@ use Rattle.xen_netif.specs.declared.offload.RxOffload.{RxOffload}
 use Rattle.xen_steps.specs.Drive.{accesses, notices_in}
 use Rattle.xen_steps.specs.Event.{Event}
 use Rattle.xen_rx_fill.specs.Touched.{AllAllowed}
-use Rattle.xen_rx_fill.specs.declared.by_event.phase.Outcome.TheVariants as outcome
+use Rattle.xen_rx_fill.specs.declared.by_event.phase.TransmitOutcome.TheVariants as outcome
 use Rattle.xen_rx_fill.proofs.Figures.{extras, most_transmit, n_any, n_none, n_transmit}
 use Rattle.xen_rx_fill.proofs.TouchedLemmas.{of_transmit}
 use Rattle.xen_turns.specs.Delivered.{IsDelivery, few, is_frame, no_frame, not_accepted, overflown, refused, sent, still_halted}

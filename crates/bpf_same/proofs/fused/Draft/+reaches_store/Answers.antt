@@ -1,7 +1,7 @@
 use Rattle.std.proofs.Common.{ℕ, subst}
 use Rattle.bpf_same.specs.Fused.{IsInside}
 use Rattle.bpf_same.specs.Plans.{plan_of}
-use Rattle.bpf_same.proofs.CountLemmas.{step_inside}
+use Rattle.bpf_same.proofs.InsideLemmas.{step_inside}
 use Rattle.bpf_same.proofs.fused.Draft.+reaches_store.Goals as goal
 
 pub returns : goal.returns

@@ -5,7 +5,7 @@ use Rattle.bpf_insn.specs.declared.insn.Insn.TheVariants.{Alu}
 use Rattle.bpf_insn.specs.declared.operand.Operand.TheVariants.{Immediate}
 use Rattle.bpf_same.specs.Fused.{IsLoaded}
 use Rattle.bpf_same.specs.Plans.{plan_of}
-use Rattle.bpf_same.proofs.CountLemmas.{load_counts}
+use Rattle.bpf_same.proofs.InsideLemmas.{load_counts}
 use Rattle.bpf_same.proofs.fused.Draft.is_count_from.Goals as goal
 
 pub returns : goal.returns

@@ -4,7 +4,7 @@ use Rattle.bpf_insn.specs.Register.{number}
 use Rattle.bpf_insn.specs.declared.insn.Insn.TheVariants.{AddCounter}
 use Rattle.bpf_same.specs.Plans.{plan_of}
 use Rattle.bpf_same.specs.LinearForms.{bit}
-use Rattle.bpf_same.proofs.CountLemmas.{store_inside}
+use Rattle.bpf_same.proofs.InsideLemmas.{store_inside}
 use Rattle.bpf_same.proofs.fused.Draft.is_store_of.Goals as goal
 
 pub returns-then-is_ahead : goal.returns-then-is_ahead

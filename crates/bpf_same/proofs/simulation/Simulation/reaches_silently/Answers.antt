@@ -1,7 +1,7 @@
 use Rattle.std.proofs.Common.{subst, arith, ℕ}
 use Rattle.bpf_note.specs.Parts.{facts}
 use Rattle.bpf_same.specs.Simulated.{ReachesSilently}
-use Rattle.bpf_same.proofs.SimulationLemmas.{silent_further, stay}
+use Rattle.bpf_same.proofs.SilentLemmas.{silent_further, stay}
 use Rattle.bpf_same.proofs.simulation.Simulation.reaches_silently.Goals as goal
 
 pub loop-jump-init : goal.loop-jump-init

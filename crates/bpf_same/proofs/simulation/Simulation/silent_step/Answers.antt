@@ -1,6 +1,6 @@
 use Rattle.std.proofs.Common.{sym, ◌∙◌}
 use Rattle.bpf_note.specs.Parts.{facts}
-use Rattle.bpf_same.proofs.SimulationLemmas.{silent_if}
+use Rattle.bpf_same.proofs.SilentLemmas.{silent_if}
 use Rattle.bpf_same.proofs.simulation.Simulation.silent_step.Goals as goal
 
 pub returns-in-Some : goal.returns-in-Some

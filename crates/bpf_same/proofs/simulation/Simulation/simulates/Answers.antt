@@ -4,7 +4,7 @@ use Rattle.bpf_flow.specs.Gives.{edges_of}
 use Rattle.bpf_flow.specs.declared.successors.Successors.{Successors}
 use Rattle.bpf_same.specs.Candidates.{candidate_of}
 use Rattle.bpf_same.specs.Simulated.{IsAccounted}
-use Rattle.bpf_same.proofs.SimulationLemmas.{plain_simulates, branch_simulates}
+use Rattle.bpf_same.proofs.BranchLemmas.{plain_simulates, branch_simulates}
 use Rattle.bpf_same.proofs.simulation.Simulation.simulates.Goals as goal
 
 pub returns-in-Some-One : goal.returns-in-Some-One

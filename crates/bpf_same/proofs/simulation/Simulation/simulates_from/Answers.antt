@@ -1,7 +1,7 @@
 use Rattle.std.proofs.Common.{sym, ◌∙◌}
 use Rattle.bpf_note.specs.Parts.{facts}
 use Rattle.bpf_same.specs.Candidates.{candidate_of}
-use Rattle.bpf_same.proofs.SimulationLemmas.{meet}
+use Rattle.bpf_same.proofs.SilentLemmas.{meet}
 use Rattle.bpf_same.proofs.simulation.Simulation.simulates_from.Goals as goal
 
 pub returns-then-reaches_silently : goal.returns-then-reaches_silently

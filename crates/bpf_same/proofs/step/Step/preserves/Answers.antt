@@ -2,7 +2,8 @@ use Rattle.std.proofs.Common.{rules, ◌≡◌, ℕ, Some, inl, inr, true, sym, 
 use Rattle.std.proofs.lemmas.Bool.{cases_lt}
 use Rattle.bpf_note.specs.Parts.{facts}
 use Rattle.bpf_same.specs.LinearForms.{old_of, new_of, room_of, bound_of, shifted_of}
-use Rattle.bpf_same.specs.Stepped.{PreservesOld, PreservesNew, PreservesBound, PreservesShifted}
+use Rattle.bpf_same.specs.Contents.{IsOldFound, IsNewFound}
+use Rattle.bpf_same.specs.Stepped.{PreservesBound, PreservesShifted}
 use Rattle.bpf_same.proofs.step.Step.preserves.Goals as goal
 
 pub loop-register-preserved : goal.loop-register-preserved
@@ -13,7 +14,7 @@ loop-register-preserved c = λ k low s e.
       | inr high ↦
           let this : c.loop-register.register ≡ k = omega (arith, low, high) in
           let holds : c.preserves_register.result ≡ true = search rules in
-          subst (λ (k : ℕ). PreservesOld t.insn t.stutters t.low (facts t.after.now) t.before.now k s) this (c.preserves_register.ensures holds s (subst (λ (k : ℕ). old_of c.args.next.now k ≡ Some s) (sym this) e))
+          subst (λ (k : ℕ). IsOldFound t.alone t.insn t.stutters t.low (facts t.after.now) t.before.now k s) this (c.preserves_register.ensures holds s (subst (λ (k : ℕ). old_of c.args.next.now k ≡ Some s) (sym this) e))
     ]
 
 pub loop-term-init : goal.loop-term-init
@@ -29,7 +30,7 @@ loop-term-preserved c = (
         | inr high ↦
             let this : c.loop-term.term ≡ n = omega (arith, low, high) in
             let holds : c.preserves_term.result ≡ true = search rules in
-            subst (λ (n : ℕ). PreservesNew t.insn t.stutters t.low (facts t.after.now) t.before.now n s) this (c.preserves_term.ensures holds s (subst (λ (n : ℕ). new_of c.args.next.now n ≡ Some s) (sym this) e))
+            subst (λ (n : ℕ). IsNewFound t.alone t.insn t.stutters t.low (facts t.after.now) t.before.now n s) this (c.preserves_term.ensures holds s (subst (λ (n : ℕ). new_of c.args.next.now n ≡ Some s) (sym this) e))
       ],
 )
 
@@ -91,9 +92,9 @@ loop-shifted-preserved c = (
 )
 
 pub returns : goal.returns
-returns c = λ r f g f' g' t h. record {
-  olds = λ k s small e. c.loop-shifted.invariant.0 k small s e f g f' g' t h;
-  news = λ n s small e. c.loop-shifted.invariant.1 n small s e f g f' g' t h;
+returns c = λ r f g f' g' k t h contain finds. record {
+  olds = λ j s small e. c.loop-shifted.invariant.0 j small s e f g f' g' k t h contain finds;
+  news = λ n s small e. c.loop-shifted.invariant.1 n small s e f g f' g' k t h contain finds;
   rooms = λ k room small e. c.loop-shifted.invariant.2 k small room e f g f' g' t h;
   bounds = λ k b small e. c.loop-shifted.invariant.3 k small b e f g f' g' t h;
   shifted = λ k s small e. c.loop-shifted.invariant.4 k (omega (arith, small, c.loop-shifted-test.false)) s e f g f' g' t h;

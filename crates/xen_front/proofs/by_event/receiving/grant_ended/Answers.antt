@@ -5,7 +5,7 @@ use Rattle.xen_steps.specs.Steps.{bind}
 use Rattle.xen_steps.proofs.CopyLemmas.{covered_count, covered_end}
 use Rattle.xen_front.specs.Rest.{part_rest}
 use Rattle.xen_front.specs.Slots.{buffer, part_of}
-use Rattle.xen_buffers.specs.declared.wiring.Buffer.{Buffer}
+use Rattle.xen_buffers.specs.declared.wiring.GrantedPage.{GrantedPage}
 use Rattle.xen_front.proofs.by_event.receiving.grant_ended.Goals as goal
 
 pub before_word-requires-clause-covers : goal.before_word-requires-clause-covers
@@ -32,7 +32,7 @@ returns-then-words-clause-rest c = λ p q.
     let f = c.part_of-fragment.result in
     let r = c.covered_words-words.result in
     let e = c.covered_words-words.ensures in
-    let same : f ≡ part_of b x.response = c.part_of-fragment.ensures ∙ ap (λ (b : Buffer). part_of b x.response) c.buffer_of-buffer.ensures in
+    let same : f ≡ part_of b x.response = c.part_of-fragment.ensures ∙ ap (λ (b : GrantedPage). part_of b x.response) c.buffer_of-buffer.ensures in
     let count = covered_count f r.start r.end e.start e.ordered e.covered in
     let zero : covered f ≡ 0 = omega (arith, count, c.if-words.true) in
     let none : covered (part_of b x.response) ≡ 0 = ap covered (sym same) ∙ zero in
@@ -49,11 +49,11 @@ returns-else-words-clause-rest c = λ p q.
     let r = c.covered_words-words.result in
     let e = c.covered_words-words.ensures in
     let k = part_rest w c.args.state.now x in
-    let same : f ≡ part_of b x.response = c.part_of-fragment.ensures ∙ ap (λ (b : Buffer). part_of b x.response) c.buffer_of-buffer.ensures in
+    let same : f ≡ part_of b x.response = c.part_of-fragment.ensures ∙ ap (λ (b : GrantedPage). part_of b x.response) c.buffer_of-buffer.ensures in
     let count = covered_count f r.start r.end e.start e.ordered e.covered in
     let all : suc (r.end - r.start - 1) ≡ covered f = omega (arith, count, e.ordered, c.if-words.false) in
     c.before_word.ensures.rest w c.args.state.now p q
     ∙ ap (λ m. bind (copy_words f frame m (suc (r.end - r.start - 1)) q) k) e.start
     ∙ ap (λ n. bind (copy_words f frame (f.offset / 4) n q) k) all
     ∙ ap (λ (g : Fragment). bind (copy_words g frame (g.offset / 4) (covered g) q) k) same
-    ∙ ap (λ (a : Buffer). bind (copy_words (part_of b x.response) a.frame (x.response.offset / 4) (covered (part_of b x.response)) q) k) c.buffer_of-buffer.ensures
+    ∙ ap (λ (a : GrantedPage). bind (copy_words (part_of b x.response) a.frame (x.response.offset / 4) (covered (part_of b x.response)) q) k) c.buffer_of-buffer.ensures

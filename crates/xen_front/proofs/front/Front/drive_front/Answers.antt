@@ -3,7 +3,7 @@ use Rattle.xen_steps.specs.Drive.{Any, IsPageWant}
 use Rattle.xen_steps.proofs.DriveLemmas.{bounded_wider, driven_append, runs_of_gone}
 use Rattle.xen_front.proofs.ShortLemmas.{page_want_of_more, short_opened}
 use Rattle.xen_front.specs.Fronts.{rest, state_of}
-use Rattle.xen_buffers.specs.declared.wiring.Wiring.{Wiring}
+use Rattle.xen_buffers.specs.declared.wiring.FrontWiring.{FrontWiring}
 use Rattle.xen_front.proofs.front.Front.drive_front.Goals as goal
 
 pub drive_events-requires : goal.drive_events-requires
@@ -12,7 +12,7 @@ drive_events-requires g c =
     let f = c.drive_pieces.new.front in
     let w = f.wiring in
     let frames = g.B.Bus.size c.drive_pieces.new.bus in
-    let fits = subst (λ (n : ℕ). n ≤ frames) (sym (ap (λ (v : Wiring). v.frames) p.same)) (subst (λ (n : ℕ). c.args.self.now.wiring.frames ≤ n) (sym p.size) c.requires) in
+    let fits = subst (λ (n : ℕ). n ≤ frames) (sym (ap (λ (v : FrontWiring). v.frames) p.same)) (subst (λ (n : ℕ). c.args.self.now.wiring.frames ≤ n) (sym p.size) c.requires) in
     bounded_wider (IsPageWant w.frames) (IsPageWant frames) (page_want_of_more w.frames frames fits) Any (rest f) 17000
     (short_opened w f.state f.sent f.received f.phase f.short)
 

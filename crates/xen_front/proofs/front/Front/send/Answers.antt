@@ -5,14 +5,14 @@ use Rattle.xen_front.specs.Fronts.{all_free, busy, send_tests}
 use Rattle.xen_front.specs.Slots.{pieces_of, send_writes}
 use Rattle.xen_front.specs.Tree.{flown, publish, send}
 use Rattle.xen_steps.specs.Places.{add32}
-use Rattle.xen_front.specs.declared.turn.Halt.{Halt}
+use Rattle.xen_front.specs.declared.turn.FrontHalt.{FrontHalt}
 use Rattle.xen_front.specs.declared.state.Ring.{Ring}
 use Rattle.xen_front.proofs.BoundLemmas.{bounded_send}
 use Rattle.xen_front.proofs.IdLemmas.{chosen_few, chosen_ids}
 use Rattle.xen_front.proofs.ShortLemmas.{short_begun}
 use Rattle.xen_front.proofs.front.Front.send.Goals as goal
 
-says : (o : Option Halt) (b s l f v : Bool) → o ≡ None → b ≡ false → s ≡ false → l ≡ false → f ≡ v → send_tests None false false false v ≡ send_tests o b s l f
+says : (o : Option FrontHalt) (b s l f v : Bool) → o ≡ None → b ≡ false → s ≡ false → l ≡ false → f ≡ v → send_tests None false false false v ≡ send_tests o b s l f
 says o b s l f v e1 e2 e3 e4 e5 = cc
 
 few : (l : List ℕ) (n : ℕ) → length (take n l) < n → length l < n

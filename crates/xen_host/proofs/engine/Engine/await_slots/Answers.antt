@@ -22,8 +22,8 @@ step_over-requires-clause-busy g c =
 pub step_over-requires-clause-counts : goal.step_over-requires-clause-counts
 step_over-requires-clause-counts g c = c.requires.serving [] c.args.counters.now refl
 
-pub go_on-requires : goal.go_on-requires
-go_on-requires g c =
+pub step_until_over-requires : goal.step_until_over-requires
+step_until_over-requires g c =
     let log = g.B.Bus.log in
     let gives = g.B.Bus.access_gives in
     let size = g.B.Bus.size in
@@ -65,9 +65,9 @@ returns-clause-stands g c =
     let after = c.step_over.new.counters in
     let d = wait_begun log gives size did old mid e pages bus before after made host sized c.new-host.ensures.over c.new-host.ensures.bus (c.begin_wait.ensures.begun w (g.R.Room.held c.args.packet.now) c.requires.rests) c.step_over.ensures.stands c.step_over.ensures.stepped in
     let task = wait pages (packet_at old) in
-    let x = c.go_on.ensures.gone in
-    let end = engine_at w (g.R.Room.held c.go_on.new.packet) c.go_on.new.self in
-    let r = gone_then log gives size did task s w bus before x.0 e end after c.go_on.new.counters host c.go_on.new.host d x.1 in
+    let x = c.step_until_over.ensures.gone in
+    let end = engine_at w (g.R.Room.held c.step_until_over.new.packet) c.step_until_over.new.self in
+    let r = gone_then log gives size did task s w bus before x.0 e end after c.step_until_over.new.counters host c.step_until_over.new.host d x.1 in
     r.stands
 
 pub returns-clause-size : goal.returns-clause-size
@@ -90,11 +90,11 @@ returns-clause-size g c =
     let after = c.step_over.new.counters in
     let d = wait_begun log gives size did old mid e pages bus before after made host sized c.new-host.ensures.over c.new-host.ensures.bus (c.begin_wait.ensures.begun w (g.R.Room.held c.args.packet.now) c.requires.rests) c.step_over.ensures.stands c.step_over.ensures.stepped in
     let task = wait pages (packet_at old) in
-    let x = c.go_on.ensures.gone in
-    let end = engine_at w (g.R.Room.held c.go_on.new.packet) c.go_on.new.self in
-    let r = gone_then log gives size did task s w bus before x.0 e end after c.go_on.new.counters host c.go_on.new.host d x.1 in
+    let x = c.step_until_over.ensures.gone in
+    let end = engine_at w (g.R.Room.held c.step_until_over.new.packet) c.step_until_over.new.self in
+    let r = gone_then log gives size did task s w bus before x.0 e end after c.step_until_over.new.counters host c.step_until_over.new.host d x.1 in
     -- the bus was lent to the host until here
-    let same = c.bus-1.given.1 (sym (c.go_on.ensures.loan ∙ c.step_over.ensures.loan ∙ c.new-host.ensures.loan)) in
+    let same = c.bus-1.given.1 (sym (c.step_until_over.ensures.loan ∙ c.step_over.ensures.loan ∙ c.new-host.ensures.loan)) in
     ap size same ∙ r.sized ∙ sym c.requires.size
 
 pub returns-clause-awaited : goal.returns-clause-awaited
@@ -117,14 +117,14 @@ returns-clause-awaited g c =
     let after = c.step_over.new.counters in
     let d = wait_begun log gives size did old mid e pages bus before after made host sized c.new-host.ensures.over c.new-host.ensures.bus (c.begin_wait.ensures.begun w (g.R.Room.held c.args.packet.now) c.requires.rests) c.step_over.ensures.stands c.step_over.ensures.stepped in
     let task = wait pages (packet_at old) in
-    let x = c.go_on.ensures.gone in
-    let end = engine_at w (g.R.Room.held c.go_on.new.packet) c.go_on.new.self in
-    let r = gone_then log gives size did task s w bus before x.0 e end after c.go_on.new.counters host c.go_on.new.host d x.1 in
-    let m = wait_over log gives size did old pages bus before x.0 end c.go_on.new.counters c.go_on.new.host c.go_on.result r x.2 in
+    let x = c.step_until_over.ensures.gone in
+    let end = engine_at w (g.R.Room.held c.step_until_over.new.packet) c.step_until_over.new.self in
+    let r = gone_then log gives size did task s w bus before x.0 e end after c.step_until_over.new.counters host c.step_until_over.new.host d x.1 in
+    let m = wait_over log gives size did old pages bus before x.0 end c.step_until_over.new.counters c.step_until_over.new.host c.step_until_over.result r x.2 in
     -- the bus was lent to the host until here
-    let same = c.bus-1.given.1 (sym (c.go_on.ensures.loan ∙ c.step_over.ensures.loan ∙ c.new-host.ensures.loan)) in
+    let same = c.bus-1.given.1 (sym (c.step_until_over.ensures.loan ∙ c.step_over.ensures.loan ∙ c.new-host.ensures.loan)) in
     let is : c.in-Wait.awaited ≡ m.0 = cc (sym (ap (λ (o : Over). ask_of o) c.in-Wait.is) ∙ m.1) in
-    subst (λ b. HasAwaitedAt log gives old end pages c.in-Wait.awaited bus b before c.go_on.new.counters) (sym same) (subst (λ k. HasAwaitedAt log gives old end pages k bus c.go_on.new.host.bus.now before c.go_on.new.counters) (sym is) m.2)
+    subst (λ b. HasAwaitedAt log gives old end pages c.in-Wait.awaited bus b before c.step_until_over.new.counters) (sym same) (subst (λ k. HasAwaitedAt log gives old end pages k bus c.step_until_over.new.host.bus.now before c.step_until_over.new.counters) (sym is) m.2)
 
 pub unreachable-requires : goal.unreachable-requires
 unreachable-requires g c =
@@ -146,10 +146,10 @@ unreachable-requires g c =
     let after = c.step_over.new.counters in
     let d = wait_begun log gives size did old mid e pages bus before after made host sized c.new-host.ensures.over c.new-host.ensures.bus (c.begin_wait.ensures.begun w (g.R.Room.held c.args.packet.now) c.requires.rests) c.step_over.ensures.stands c.step_over.ensures.stepped in
     let task = wait pages (packet_at old) in
-    let x = c.go_on.ensures.gone in
-    let end = engine_at w (g.R.Room.held c.go_on.new.packet) c.go_on.new.self in
-    let r = gone_then log gives size did task s w bus before x.0 e end after c.go_on.new.counters host c.go_on.new.host d x.1 in
-    let m = wait_over log gives size did old pages bus before x.0 end c.go_on.new.counters c.go_on.new.host c.go_on.result r x.2 in
+    let x = c.step_until_over.ensures.gone in
+    let end = engine_at w (g.R.Room.held c.step_until_over.new.packet) c.step_until_over.new.self in
+    let r = gone_then log gives size did task s w bus before x.0 e end after c.step_until_over.new.counters host c.step_until_over.new.host d x.1 in
+    let m = wait_over log gives size did old pages bus before x.0 end c.step_until_over.new.counters c.step_until_over.new.host c.step_until_over.result r x.2 in
     absurd (cc (sym (ap (λ (o : Over). ask_of o) c.in-Turn.is) ∙ m.1))
 
 pub unreachable-requires-in-Delivery : goal.unreachable-requires-in-Delivery
@@ -172,8 +172,8 @@ unreachable-requires-in-Delivery g c =
     let after = c.step_over.new.counters in
     let d = wait_begun log gives size did old mid e pages bus before after made host sized c.new-host.ensures.over c.new-host.ensures.bus (c.begin_wait.ensures.begun w (g.R.Room.held c.args.packet.now) c.requires.rests) c.step_over.ensures.stands c.step_over.ensures.stepped in
     let task = wait pages (packet_at old) in
-    let x = c.go_on.ensures.gone in
-    let end = engine_at w (g.R.Room.held c.go_on.new.packet) c.go_on.new.self in
-    let r = gone_then log gives size did task s w bus before x.0 e end after c.go_on.new.counters host c.go_on.new.host d x.1 in
-    let m = wait_over log gives size did old pages bus before x.0 end c.go_on.new.counters c.go_on.new.host c.go_on.result r x.2 in
+    let x = c.step_until_over.ensures.gone in
+    let end = engine_at w (g.R.Room.held c.step_until_over.new.packet) c.step_until_over.new.self in
+    let r = gone_then log gives size did task s w bus before x.0 e end after c.step_until_over.new.counters host c.step_until_over.new.host d x.1 in
+    let m = wait_over log gives size did old pages bus before x.0 end c.step_until_over.new.counters c.step_until_over.new.host c.step_until_over.result r x.2 in
     absurd (cc (sym (ap (λ (o : Over). ask_of o) c.in-Delivery.is) ∙ m.1))

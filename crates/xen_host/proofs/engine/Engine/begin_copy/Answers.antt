@@ -11,7 +11,7 @@ use Rattle.xen_netif.specs.declared.fragment.Fragment.{Fragment}
 use Rattle.xen_netif.specs.declared.status.Status.TheVariants.{Error}
 use Rattle.xen_turns.specs.Tree.{after_chain, after_copy, copy, respond}
 use Rattle.xen_turns.specs.Turned.{Refused}
-use Rattle.xen_turns.specs.declared.turn.Refusal.TheVariants as refusal
+use Rattle.xen_turns.specs.declared.turn.PacketRefusal.TheVariants as refusal
 use Rattle.xen_host.specs.EngineAt.{engine_at}
 use Rattle.xen_host.proofs.engine.Engine.begin_copy.Goals as goal
 

@@ -115,7 +115,7 @@ returns-in-Deliver g c =
     let q = engine_at (g.W.Wires.wiring c.args.wires.now) (g.R.Room.held c.args.packet.now) c.args.self.now in
     let n = c.args.counters.now in
     let did = g.T.Tallies.did q.wires.program.now.shapes in
-    let r = c.set_out in
+    let r = c.start_delivery in
     record {
       led = subst (λ (x : Stage). GoesOnAt g.H.Host.was_asked g.H.Host.is_full g.H.Host.has_given x q (engine_at q.wires (g.R.Room.held r.new.packet) r.new.self) (Went did n n) c.args.host.now r.new.host) (sym c.in-Deliver.is)
           (r.ensures.led, refl);

@@ -6,7 +6,7 @@ use Rattle.xen_host.specs.Asks as ask
 use Rattle.xen_host.specs.Led.{beside}
 use Rattle.xen_steps.specs.Places.{page_word}
 use Rattle.xen_rx_fill.specs.Transmit.{fill_from, rx_respond}
-use Rattle.xen_rx_fill.specs.declared.by_event.phase.Outcome.{Outcome}
+use Rattle.xen_rx_fill.specs.declared.by_event.phase.TransmitOutcome.{TransmitOutcome}
 use Rattle.xen_rx_fill.specs.declared.target.Grants.TheVariants.{Passed}
 use Rattle.xen_host.specs.declared.stage.Fill.TheVariants as fill
 use Rattle.xen_host.proofs.FillLemmas.{IsFillOn, fill_before, lift_fill}
@@ -73,5 +73,5 @@ returns g c =
     let last : words p ≤ 1024 * (i + 1) = omega (arith, most, all, c.if-to-all.false) in
     let left = rx_respond w x o p Passed ts in
     let gone = subst (λ (l : List ℕ). LedBy from (writes_at at l) left) (sym (taken_words p (1024 * i) n))
-    (subst (λ (s : Steps Outcome). LedBy from (writes_at at put) s) (fill_over w x o p ts (1024 * (i + 1)) last) (page_gone w x o p ts i to some most)) in
+    (subst (λ (s : Steps TransmitOutcome). LedBy from (writes_at at put) s) (fill_over w x o p ts (1024 * (i + 1)) last) (page_gone w x o p ts i to some most)) in
     record { led = fill_before _ _ c.args.purpose (beside q) from left _ _ _ _ (ask.Write at n) put asked refl sized gone c.reply_from-2.ensures.led }

@@ -1,10 +1,10 @@
 use Rattle.std.proofs.Common.{◌≡◌, ℕ, zero, ◌<◌, ◌+◌, suc, List, [], ◌∷◌, length, drop, refl, sym, ap, ◌∙◌, arith}
-use Rattle.xen_host.specs.declared.op.Op.{Op}
+use Rattle.xen_host.specs.declared.op.HostOp.{HostOp}
 use Rattle.std.proofs.Common.{take, ◌++◌}
 use Rattle.std.specs.Prelude.{slice_set}
 use Rattle.xen_host.proofs.host.Ops.put.Goals as goal
 
-put_at : (l : List Op) (i : ℕ) (x : Op) → i < length l → slice_set l i x ≡ take i l ++ x ∷ drop (i + 1) l
+put_at : (l : List HostOp) (i : ℕ) (x : HostOp) → i < length l → slice_set l i x ≡ take i l ++ x ∷ drop (i + 1) l
 put_at [] i x h = absurd (omega arith)
 put_at (y ∷ l) zero x h = refl
 put_at (y ∷ l) (suc i) x h =

@@ -8,8 +8,8 @@ use Rattle.xen_host.proofs.BusLemmas.{unread, zero_bytes, zero_words}
 use Rattle.xen_host.proofs.WordLemmas.{reads_run, run_below, run_bytes}
 use Rattle.xen_host.proofs.over_bus.OverBus.fill.Goals as goal
 
-pub returns-then-reaches : goal.returns-then-reaches
-returns-then-reaches g c =
+pub returns-then-are_in_bus : goal.returns-then-are_in_bus
+returns-then-are_in_bus g c =
     let run = c.read_run.ensures.read in
     let told = run.told ∙ run_bytes run.words in
     record {
@@ -26,8 +26,8 @@ returns-then-reaches g c =
       };
     }
 
-pub returns-else-reaches : goal.returns-else-reaches
-returns-else-reaches g c =
+pub returns-else-are_in_bus : goal.returns-else-are_in_bus
+returns-else-are_in_bus g c =
     let n = c.args.count in
     let many = length-replicate n 0 in
     record {
@@ -35,5 +35,5 @@ returns-else-reaches g c =
       all = many;
       told = c.fill.ensures.after (λ y h. cc h) ∙ ap (λ m. replicate m 0) c.requires.room ∙ zero_bytes n;
       read = unread g.B.Bus.log g.B.Bus.access_gives g.B.Bus.size c.args.k (replicate n 0) c.args.self.now (zero_words n)
-          (λ h. let t = c.reaches.ensures.1 (h.0, omega (arith, h.1, many)) in cc (t, c.if-reaches.false));
+          (λ h. let t = c.are_in_bus.ensures.1 (h.0, omega (arith, h.1, many)) in cc (t, c.if-are_in_bus.false));
     }

@@ -4,11 +4,11 @@ use Rattle.xen_host.proofs.BusLemmas.{has_read, run_then, unread, zero_words}
 use Rattle.xen_host.proofs.over_bus.OverBusHost.three.Goals as goal
 
 pub due-first-requires : goal.due-first-requires
-due-first-requires g c = let h = c.reaches.ensures.0 c.if-not-reaches.false in (h.0, omega (arith, h.1))
+due-first-requires g c = let h = c.are_in_bus.ensures.0 c.if-not-are_in_bus.false in (h.0, omega (arith, h.1))
 
 pub due-second-requires : goal.due-second-requires
 due-second-requires g c =
-    let h = c.reaches.ensures.0 c.if-not-reaches.false in
+    let h = c.are_in_bus.ensures.0 c.if-not-are_in_bus.false in
     let r = c.due-first.ensures in
     let frame = ap (λ (x : Place). x.frame) r.due in
     let word = ap (λ (x : Place). x.word) r.due in
@@ -16,7 +16,7 @@ due-second-requires g c =
 
 pub due-third-requires : goal.due-third-requires
 due-third-requires g c =
-    let h = c.reaches.ensures.0 c.if-not-reaches.false in
+    let h = c.are_in_bus.ensures.0 c.if-not-are_in_bus.false in
     let r = c.due-first.ensures in
     let s = c.due-second.ensures in
     let at = s.due ∙ r.due in
@@ -24,13 +24,13 @@ due-third-requires g c =
     let word = ap (λ (x : Place). x.word) at in
     (omega (arith, h.0, r.sized, s.sized, frame), omega (arith, h.1, word))
 
-pub returns-then-not-reaches-clause-given : goal.returns-then-not-reaches-clause-given
-returns-then-not-reaches-clause-given g c =
+pub returns-then-not-are_in_bus-clause-given : goal.returns-then-not-are_in_bus-clause-given
+returns-then-not-are_in_bus-clause-given g c =
     let log = g.B.Bus.log in
     let gives = g.B.Bus.access_gives in
     let size = g.B.Bus.size in
     let x = c.args.self.now in
-    has_read log gives size (0 ∷ 0 ∷ 0 ∷ []) x x (unread log gives size 0 (0 ∷ 0 ∷ 0 ∷ []) x (zero_words 3) (λ h. let t = c.reaches.ensures.1 h in cc (t, c.if-not-reaches.true)))
+    has_read log gives size (0 ∷ 0 ∷ 0 ∷ []) x x (unread log gives size 0 (0 ∷ 0 ∷ 0 ∷ []) x (zero_words 3) (λ h. let t = c.are_in_bus.ensures.1 h in cc (t, c.if-not-are_in_bus.true)))
 
 pub returns-clause-given : goal.returns-clause-given
 returns-clause-given g c =

@@ -5,8 +5,8 @@ use Rattle.xen_host.specs.Asks.{writes_at}
 use Rattle.xen_host.proofs.ChainLemmas.{taken_words, words_length}
 use Rattle.xen_host.proofs.over_bus.OverBusHost.write.Goals as goal
 
-pub returns-then-reaches-clause-asked : goal.returns-then-reaches-clause-asked
-returns-then-reaches-clause-asked g c =
+pub returns-then-are_in_bus-clause-asked : goal.returns-then-are_in_bus-clause-asked
+returns-then-are_in_bus-clause-asked g c =
     let p = c.put_packet.ensures in
     let bytes = c.args.bytes.now in
     let n = c.args.count in
@@ -19,10 +19,10 @@ returns-then-reaches-clause-asked g c =
       loan = p.beside.2;
     }
 
-pub returns-else-reaches-clause-asked : goal.returns-else-reaches-clause-asked
-returns-else-reaches-clause-asked g c =
+pub returns-else-are_in_bus-clause-asked : goal.returns-else-are_in_bus-clause-asked
+returns-else-are_in_bus-clause-asked g c =
     record {
-      performed = λ h. let t = c.reaches.ensures.1 (h.0, omega (arith, h.1)) in absurd (cc (t, c.if-reaches.false));
+      performed = λ h. let t = c.are_in_bus.ensures.1 (h.0, omega (arith, h.1)) in absurd (cc (t, c.if-are_in_bus.false));
       sized = refl;
       due = tt;
       held = words_length c.args.bytes.now c.args.from c.args.count;

@@ -1,6 +1,6 @@
 use Rattle.std.proofs.Common.{sym, subst}
 use Rattle.xen_rx_fill.specs.Sending.{IsTransmit}
-use Rattle.xen_rx_fill.specs.declared.by_event.phase.Outcome.{Outcome}
+use Rattle.xen_rx_fill.specs.declared.by_event.phase.TransmitOutcome.{TransmitOutcome}
 use Rattle.xen_turns.specs.Delivered.{IsDelivery, few, overflown, refused, sent}
 use Rattle.xen_turns.specs.declared.delivery.delivering.Delivery.TheVariants as delivery
 use Rattle.xen_turns.specs.declared.state.State.{State}
@@ -12,12 +12,12 @@ returns-in-Overflow-clause-rows c =
     let s = c.args.state.now in
     λ w g packet p frame none t.
     subst (λ (after : State). IsDelivery w s g packet p after (delivery.Halted halt.RxProducer)) (sym c.halted.ensures)
-    (overflown p frame none (subst (λ (o : Outcome). IsTransmit w.vif s.rx_index g packet p o) c.in-Overflow.is t))
+    (overflown p frame none (subst (λ (o : TransmitOutcome). IsTransmit w.vif s.rx_index g packet p o) c.in-Overflow.is t))
 
 pub returns-in-TooFew-clause-rows : goal.returns-in-TooFew-clause-rows
 returns-in-TooFew-clause-rows c =
     let s = c.args.state.now in
-    λ w g packet p frame none t. few p frame none (subst (λ (o : Outcome). IsTransmit w.vif s.rx_index g packet p o) c.in-TooFew.is t)
+    λ w g packet p frame none t. few p frame none (subst (λ (o : TransmitOutcome). IsTransmit w.vif s.rx_index g packet p o) c.in-TooFew.is t)
 
 pub returns-in-Refused-clause-rows : goal.returns-in-Refused-clause-rows
 returns-in-Refused-clause-rows c =
@@ -25,7 +25,7 @@ returns-in-Refused-clause-rows c =
     let used = c.in-Refused.slots in
     λ w g packet p frame none t.
     subst (λ (after : State). IsDelivery w s g packet p after (delivery.Refused used)) (sym c.after_slots.ensures)
-    (refused p used frame none (subst (λ (o : Outcome). IsTransmit w.vif s.rx_index g packet p o) c.in-Refused.is t))
+    (refused p used frame none (subst (λ (o : TransmitOutcome). IsTransmit w.vif s.rx_index g packet p o) c.in-Refused.is t))
 
 pub returns-in-Sent-clause-rows : goal.returns-in-Sent-clause-rows
 returns-in-Sent-clause-rows c =
@@ -33,4 +33,4 @@ returns-in-Sent-clause-rows c =
     let used = c.in-Sent.slots in
     λ w g packet p frame none t.
     subst (λ (after : State). IsDelivery w s g packet p after (delivery.Sent used)) (sym c.after_slots-in-Sent.ensures)
-    (sent p used frame none (subst (λ (o : Outcome). IsTransmit w.vif s.rx_index g packet p o) c.in-Sent.is t))
+    (sent p used frame none (subst (λ (o : TransmitOutcome). IsTransmit w.vif s.rx_index g packet p o) c.in-Sent.is t))

@@ -18,7 +18,8 @@ fn program() -> Program {
 
 fn queues(program: &Program, count: usize) -> (Vec<Bench>, SharedCounters) {
     let mut benches: Vec<_> = (0..count).map(|_| Bench::of(Way::Copy, program)).collect();
-    let shared = SharedCounters::of(program, benches.iter_mut().map(|bench| &mut bench.queue));
+    let shared = SharedCounters::of(program, count);
+    benches.iter_mut().for_each(|bench| shared.share(&mut bench.queue));
     (benches, shared)
 }
 
@@ -57,7 +58,7 @@ fn stats(program: &Program, benches: &[Bench], told: &[Option<Told>]) -> String 
 #[test]
 fn several_queues_are_told_as_their_sum() {
     let program = program();
-    let (mut benches, mut shared) = queues(&program, 3);
+    let (mut benches, shared) = queues(&program, 3);
     (1..).zip(&mut benches).for_each(|(count, bench)| bench.send_udp(count));
     // they count by what they share, and not each for itself
     assert!(benches.iter().all(|bench| bench.queue.counters().iter().all(|count| *count == 0)));
@@ -81,7 +82,7 @@ fn several_queues_are_told_as_their_sum() {
 fn queues_without_a_share_count_for_themselves() {
     let program = program();
     for count in [1, MOST_SHARES + 2] {
-        let (mut benches, mut shared) = queues(&program, count);
+        let (mut benches, shared) = queues(&program, count);
         benches.iter_mut().for_each(|bench| bench.send_udp(1));
         let alone = benches.iter().filter(|bench| bench.queue.counters().contains(&1)).count();
         assert_eq!(alone, if count == 1 { 1 } else { 2 });
@@ -91,15 +92,38 @@ fn queues_without_a_share_count_for_themselves() {
     }
 }
 
+/// The orders that the queues of a device get: another program, and what they share then.
+fn replace(benches: &mut [Bench], shared: &mut SharedCounters, program: &Program) {
+    shared.replace(program, benches.len());
+    for bench in benches {
+        bench.queue.replace(program).unwrap();
+        shared.share(&mut bench.queue);
+    }
+}
+
+fn counted(shared: &SharedCounters, benches: &[Bench]) -> Vec<Vec<u64>> {
+    let mut told: Vec<_> = benches.iter().map(|bench| Some(bench.told())).collect();
+    shared.add_to(&mut told);
+    told.into_iter().flatten().map(|told| told.counters.into_iter().filter(|count| *count > 0).collect()).collect()
+}
+
 #[test]
-fn a_program_with_other_maps_has_other_counters() {
+fn queues_share_the_counters_of_each_program_that_they_get() {
     let program = program();
     let (mut benches, mut shared) = queues(&program, 2);
     benches[1].send_udp(2);
-    let other = Program::load(&[0xb7, 0, 0, 0, 1, 0, 0, 0, 0x95, 0, 0, 0, 0, 0, 0, 0], &[]).unwrap();
-    benches.iter_mut().for_each(|bench| bench.queue.replace(&other).unwrap());
-    shared.replace(&other);
-    let mut told: Vec<_> = benches.iter().map(|bench| Some(bench.told())).collect();
-    shared.add_to(&mut told);
-    assert!(told.iter().flatten().all(|told| told.counters.is_empty()));
+    let renamed = String::from_utf8_lossy(COUNT_PROTOCOLS).replace("\"protocols\"", "\"others\"");
+    let (none, other) =
+        (Program::load(&[0xb7, 0, 0, 0, 2, 0, 0, 0, 0x95, 0, 0, 0, 0, 0, 0, 0], &[]), Program::from_settings(renamed.as_bytes()));
+    for (replaced, count) in [(&none.unwrap(), 0), (&program, 2), (&other.unwrap(), 2)] {
+        replace(&mut benches, &mut shared, replaced);
+        assert!(counted(&shared, &benches).concat().is_empty(), "they begin at 0");
+        benches.iter_mut().for_each(|bench| bench.send_udp(1));
+        assert!(benches.iter().all(|bench| bench.queue.counters().iter().all(|count| *count == 0)), "each counts for itself");
+        assert_eq!(counted(&shared, &benches).concat(), if count > 0 { vec![count] } else { vec![] });
+    }
+    // the same maps: what was counted stays, and is still shared
+    replace(&mut benches, &mut shared, &Program::from_settings(renamed.as_bytes()).unwrap());
+    benches[0].send_udp(1);
+    assert_eq!(counted(&shared, &benches), [vec![3], vec![]]);
 }

@@ -1,0 +1,59 @@
+"""Numbers of fewer than eight bytes on a program's stack that are loaded as they were stored: an index that is a key too.
+
+Of eight bytes of the stack the verifier knows what number they hold, of fewer it knows nothing. So such a number can be written out as a word
+of its own, which is stored beside it."""
+from __future__ import annotations
+
+from typing import TYPE_CHECKING, NamedTuple, Optional
+
+from .graph import predecessors
+from .instructions import FRAME_POINTER, STX
+from .kinds import stores_elsewhere
+
+if TYPE_CHECKING:
+    from .instructions import Code, Instruction
+
+DOUBLE = 8
+
+
+class Place(NamedTuple):
+    """Bytes of the stack: the first one's offset from its end, and how many."""
+
+    offset: int
+    size: int
+
+    def meets(self, other: Place) -> bool:
+        """Whether the two have a byte in common."""
+        return self.offset < other.offset + other.size and other.offset < self.offset + self.size
+
+
+def loads_of_stores(code: Code) -> dict[int, set[int]]:
+    """By the slot of each load of fewer than eight bytes from the stack the stores of what it loads."""
+    elsewhere, before = stores_elsewhere(code), predecessors(code)
+    loads = [slot for slot, insn in code.items() if insn.is_load and insn.source == FRAME_POINTER and insn.size < DOUBLE]
+    found = {load: stores_of(code, before, elsewhere, load) for load in loads}
+    return {load: stores for load, stores in found.items() if stores}
+
+
+def place_of(insn: Instruction) -> Place:
+    """Where an access by the frame pointer lies."""
+    return Place(insn.offset, insn.size)
+
+
+def stores_of(code: Code, before: dict[int, list[int]], elsewhere: set[int], load: int) -> Optional[set[int]]:
+    """The stores of a register's bytes of which one is the last to the place of a load on each way to it; None if there is another way."""
+    place, stores, seen, todo = place_of(code[load]), set(), set(), [load]
+    while todo:
+        for slot in before[todo.pop()]:
+            insn = code[slot]
+            if slot in seen:
+                continue
+            seen.add(slot)
+            on_stack = insn.is_store and insn.destination == FRAME_POINTER
+            if on_stack and insn.kind == STX and not insn.is_atomic and place_of(insn) == place:
+                stores.add(slot)
+            elif slot == 0 or on_stack and place.meets(place_of(insn)) or insn.is_store and not on_stack and slot not in elsewhere:
+                return None
+            else:
+                todo.append(slot)
+    return stores
