@@ -1,6 +1,6 @@
 //! Pairs of which nothing is shown, and where their comparison stops.
-use crate::pairs::{Pair, compared, stopped};
-use bpf_same::{Comparison, Obstacle, ObstacleKind};
+use crate::pairs::{NOT_SHOWN, Pair, compared, stopped};
+use bpf_same::{Obstacle, ObstacleKind};
 
 /// A load of the interface, and two ends.
 const CHOICE: &[&str] = &[
@@ -27,20 +27,14 @@ fn at(slot: u32, old: u32, kind: ObstacleKind) -> Option<Obstacle> {
 #[test]
 fn undecided(rt: HostRuntime) {
     let alloc = rt.alloc();
-    assert_eq!(rt; compared(alloc, &UNDECIDED), Some(Comparison::NotShown));
+    assert_eq!(rt; compared(alloc, &UNDECIDED), Some(NOT_SHOWN));
     assert_eq!(rt; stopped(alloc, &UNDECIDED), at(0, 1, ObstacleKind::Jump));
 }
 
-/// [`UNDECIDED`] with the jump: one way has no place, or leads to other instructions, or has another way's place.
+/// [`UNDECIDED`] with the jump: one way has no place, leads to other instructions, or has another way's place.
 #[test]
 fn no_place(rt: HostRuntime) {
     let alloc = rt.alloc();
-    let pair = Pair {
-        new: CHOICE,
-        witnesses: "c0 c1 c2 c3",
-        ..UNDECIDED
-    };
-    assert_eq!(rt; stopped(alloc, &pair), at(1, 4, ObstacleKind::Witness));
     let pair = Pair {
         new: &[
             "61120c0000000000",
@@ -50,7 +44,8 @@ fn no_place(rt: HostRuntime) {
             "b700000002000000",
             "9500000000000000",
         ],
-        ..pair
+        witnesses: "c0 c1 c2 c3",
+        ..UNDECIDED
     };
     assert_eq!(rt; stopped(alloc, &pair), at(1, 4, ObstacleKind::Witness));
     let pair = Pair {
