@@ -22,6 +22,7 @@ mod AcceptedLemmas
 mod RefusalLemmas
 mod UnsetLemmas
 mod UnwrittenLemmas
+mod FaultLemmas
 mod AnswerLemmas
 mod ComeLemmas
 mod JoinedLemmas

@@ -1,4 +1,6 @@
 mod ByteLemmas
+mod LookupLemmas
+mod PlaceLemmas
 mod RegionLemmas
 mod PartLemmas
 mod FindLemmas

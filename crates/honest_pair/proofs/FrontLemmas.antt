@@ -2,7 +2,6 @@
 use Rattle.std.proofs.Common.{◌≡◌, ◌≢◌, ℕ, ◌⊎◌, inl, inr, refl, sym, ◌∙◌, ap, subst, arith, Bool, true, false, List, [], ◌∷◌, ◌++◌, length, map, get_or, OnOk, OnErr, All, Option, Some, None, Result, Ok, Err}
 use Rattle.std.proofs.lemmas.List.{append-nil}
 use Rattle.std.specs.Prelude.{nat_lt}
-use Rattle.xen_steps.specs.Drive.{Any, Bounded, IsPageWant}
 use Rattle.xen_steps.specs.Steps.{Steps, done, ask, never, next, want_of}
 use Rattle.xen_steps.specs.Event.{Event, Occurs}
 use Rattle.xen_steps.specs.declared.want.Want.{Want}
@@ -13,19 +12,15 @@ use Rattle.xen_back.specs.declared.queue.Queue.{Queue}
 use Rattle.xen_buffers.specs.declared.wiring.FrontWiring.{FrontWiring}
 use Rattle.xen_front.specs.Fronts.{HasBegun, IsSame, all_free, busy, chosen, poll_answer, poll_tests, post_answer, post_tests, rest, send_answer, send_tests, state_of, wiring_of}
 use Rattle.xen_front.specs.Given.{Ending, Given}
-use Rattle.xen_front.specs.Rest.{busy_in, rest_at}
 use Rattle.xen_front.specs.Slots.{pieces_of, post_writes, send_writes}
 use Rattle.xen_front.specs.Tree.{flown, flown_post, poll, post, publish, send}
 use Rattle.xen_steps.specs.Places.{add32}
 use Rattle.xen_front.specs.declared.front.Front.{Front}
-use Rattle.xen_front.specs.declared.by_event.phase.Phase.{Phase}
-use Rattle.xen_front.specs.declared.by_event.phase.Phase.TheVariants as phase
 use Rattle.xen_front.specs.declared.state.FrontState.{FrontState}
 use Rattle.xen_front.specs.declared.turn.FrontHalt.{FrontHalt}
 use Rattle.xen_front.specs.declared.turn.PollRefusal.{PollRefusal}
 use Rattle.xen_front.specs.declared.turn.PostRefusal.{PostRefusal}
 use Rattle.xen_front.specs.declared.turn.SendRefusal.{SendRefusal}
-use Rattle.xen_front.proofs.ShortLemmas.{short_opened}
 use Rattle.xen_steps.specs.Pages.{PageWrite, write_all}
 use Rattle.honest_pair.specs.Machine.Law.{IsByte}
 use Rattle.honest_pair.specs.Machine.Acts.{FrontIsAnswered}
@@ -39,79 +34,7 @@ use Rattle.honest_pair.specs.Held.{memory_in}
 use Rattle.honest_pair.specs.Deeds.{AllKept, bytes_in, deliveries_of, waits_of}
 use Rattle.honest_pair.specs.Shows.{BackShows, Does, FrontShows, GoesOn, IsGoing, Shows, doing_at, queue_in}
 use Rattle.honest_pair.specs.declared.pair.Pair.{Pair as Held}
-
--- a front that isn't busy has nothing left, and one that has is busy
-idle_done : (w : FrontWiring) (s : FrontState) (p q : List ℕ) (x : Phase) → busy_in x ≡ false → want_of (rest_at w s p q x) ≡ want.Done
-idle_done w s p q phase.Ready h = refl
-idle_done w s p q (phase.GrantFrame a) h = absurd (cc)
-idle_done w s p q (phase.GrantFlags a) h = absurd (cc)
-idle_done w s p q (phase.Fill a) h = absurd (cc)
-idle_done w s p q (phase.Second a) h = absurd (cc)
-idle_done w s p q (phase.Third a) h = absurd (cc)
-idle_done w s p q (phase.PostFrame a b) h = absurd (cc)
-idle_done w s p q (phase.PostFlags a b) h = absurd (cc)
-idle_done w s p q (phase.PostFirst a b) h = absurd (cc)
-idle_done w s p q (phase.PostSecond a b) h = absurd (cc)
-idle_done w s p q (phase.Publish a) h = absurd (cc)
-idle_done w s p q (phase.ReadEvent a) h = absurd (cc)
-idle_done w s p q phase.Notice h = absurd (cc)
-idle_done w s p q phase.TxLook h = absurd (cc)
-idle_done w s p q phase.TxAnnounce h = absurd (cc)
-idle_done w s p q phase.TxLookAgain h = absurd (cc)
-idle_done w s p q (phase.Take a) h = absurd (cc)
-idle_done w s p q (phase.TxEnd a b) h = absurd (cc)
-idle_done w s p q phase.RxAnnounce h = absurd (cc)
-idle_done w s p q phase.RxLookAgain h = absurd (cc)
-idle_done w s p q (phase.RxFirst a) h = absurd (cc)
-idle_done w s p q (phase.RxSecond a b) h = absurd (cc)
-idle_done w s p q (phase.RxEnd a) h = absurd (cc)
-idle_done w s p q (phase.RxPage a) h = absurd (cc)
-idle_done w s p q (phase.ExtraFirst a) h = absurd (cc)
-idle_done w s p q (phase.ExtraSecond a b) h = absurd (cc)
-idle_done w s p q (phase.ExtraEnd a b) h = absurd (cc)
-idle_done w s p q (phase.Ended a) h = absurd (cc)
-
-going_busy : (w : FrontWiring) (s : FrontState) (p q : List ℕ) (x : Phase) → IsGoing (rest_at w s p q x) → busy_in x ≡ true
-going_busy w s p q phase.Ready h = absurd h
-going_busy w s p q (phase.GrantFrame a) h = refl
-going_busy w s p q (phase.GrantFlags a) h = refl
-going_busy w s p q (phase.Fill a) h = refl
-going_busy w s p q (phase.Second a) h = refl
-going_busy w s p q (phase.Third a) h = refl
-going_busy w s p q (phase.PostFrame a b) h = refl
-going_busy w s p q (phase.PostFlags a b) h = refl
-going_busy w s p q (phase.PostFirst a b) h = refl
-going_busy w s p q (phase.PostSecond a b) h = refl
-going_busy w s p q (phase.Publish a) h = refl
-going_busy w s p q (phase.ReadEvent a) h = refl
-going_busy w s p q phase.Notice h = refl
-going_busy w s p q phase.TxLook h = refl
-going_busy w s p q phase.TxAnnounce h = refl
-going_busy w s p q phase.TxLookAgain h = refl
-going_busy w s p q (phase.Take a) h = refl
-going_busy w s p q (phase.TxEnd a b) h = refl
-going_busy w s p q phase.RxAnnounce h = refl
-going_busy w s p q phase.RxLookAgain h = refl
-going_busy w s p q (phase.RxFirst a) h = refl
-going_busy w s p q (phase.RxSecond a b) h = refl
-going_busy w s p q (phase.RxEnd a) h = refl
-going_busy w s p q (phase.RxPage a) h = refl
-going_busy w s p q (phase.ExtraFirst a) h = refl
-going_busy w s p q (phase.ExtraSecond a b) h = refl
-going_busy w s p q (phase.ExtraEnd a b) h = refl
-going_busy w s p q (phase.Ended a) h = refl
-
-nothing_left : (f : Front) → busy f ≡ false → want_of (rest f) ≡ want.Done
-nothing_left f h = idle_done f.wiring f.state f.sent f.received f.phase h
-
-is_busy : (f : Front) (t : Steps Ending) → rest f ≡ t → IsGoing t → busy f ≡ true
-is_busy f t e h = going_busy f.wiring f.state f.sent f.received f.phase (subst IsGoing (sym e) h)
-
--- a front never asks for nothing
-asks_on : (f : Front) (v : Want) (c : ℕ → Steps Ending) → rest f ≡ ask v c → v ≡ want.Done → ⊥
-asks_on f v c e d =
-    let b : Bounded (IsPageWant f.wiring.frames) Any (ask v c) 17000 = subst (λ x. Bounded (IsPageWant f.wiring.frames) Any x 17000) e (short_opened f.wiring f.state f.sent f.received f.phase f.short) in
-    subst (IsPageWant f.wiring.frames) d b.1
+use Rattle.honest_pair.proofs.IdleLemmas.{asks_on, is_busy, nothing_left}
 
 -- the pair where the front alone moves
 module _ (old new : Held) (world : new.world ≡ old.world) (asleep : new.asleep ≡ old.asleep) (calls : new.calling ≡ old.calling) where
@@ -136,11 +59,6 @@ module _ (old new : Held) (world : new.world ≡ old.world) (asleep : new.asleep
 
   stays : GoesOn old.world new.world []
   stays = record { shapes = ap (λ (x : World). x.counters.shapes) world; stands = λ wirings start begin cs h. ([], subst (λ (x : World). StandsFor x wirings start begin (cs ++ [])) (sym world) (subst (StandsFor old.world wirings start begin) (sym (append-nil cs)) h), tt, refl) }
-
-pub not_done : (t : Steps Ending) → want_of t ≢ want.Done → IsGoing t
-not_done (done e) n = absurd (n refl)
-not_done (ask v c) n = tt
-not_done never n = tt
 
 -- inside a send
 going_sending : (p : Pair) (f : Front) (t : Steps Ending) → rest f ≡ t → IsGoing t →

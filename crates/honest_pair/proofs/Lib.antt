@@ -2,10 +2,12 @@ pub mod Machine
 pub mod Invariant
 pub mod BackLemmas
 pub mod WordLemmas
+pub mod IdleLemmas
 pub mod FrontLemmas
 pub mod CopyLemmas
 pub mod DeliveryLemmas
 pub mod RunLemmas
 pub mod WakeLemmas
 pub mod WaitLemmas
+pub mod PageLemmas
 pub mod OffloadLemmas

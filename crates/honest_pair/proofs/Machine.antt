@@ -2,6 +2,8 @@ pub mod SafeLemmas
 pub mod HalfLemmas
 pub mod LogLemmas
 pub mod Deeds
+pub mod EndLaws
+pub mod FrontEvents
 pub mod Pairs
 pub mod CopyLemmas
 pub mod TraceLemmas

@@ -12,5 +12,6 @@ pub mod TouchedLemmas
 pub mod EndLemmas
 pub mod ReadLemmas
 pub mod OnceLemmas
+pub mod TurnOnceLemmas
 pub mod ArriveLemmas
 pub mod WaitLemmas

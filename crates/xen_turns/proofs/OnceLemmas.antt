@@ -23,29 +23,21 @@ use Rattle.xen_ring.specs.Index.{distance, is_due}
 use Rattle.xen_steps.specs.Event.{Event, Read, Write, Instr, Load, Add, Notify}
 use Rattle.xen_steps.specs.Pages.{page_reads}
 use Rattle.xen_steps.specs.Places.{add32, available, page_word}
-use Rattle.xen_netif.specs.declared.offload.RxOffload.TheVariants.{Whole}
-use Rattle.xen_rx_fill.specs.Places.{rx_slot, rx_word, tx_slot, tx_word}
-use Rattle.xen_rx_fill.specs.Packets.{pages, words}
-use Rattle.xen_rx_fill.specs.Sending.{AreTargets, IsPosted, IsRxRespond, IsTransmit, all, buffer_writes, is_posted, for_extra, passing, refused, refusing, rx_overflow, rx_writes, sent, too_few}
-use Rattle.xen_rx_fill.specs.declared.by_event.phase.TransmitOutcome.{TransmitOutcome}
-use Rattle.xen_rx_fill.specs.declared.by_event.phase.TransmitOutcome.TheVariants as outcome
-use Rattle.xen_rx_fill.specs.declared.target.Grants.{Grants}
-use Rattle.xen_rx_fill.specs.declared.target.Grants.TheVariants.{Passed, Refused}
-use Rattle.xen_rx_fill.specs.declared.target.Target.{Target}
+use Rattle.xen_rx_fill.specs.Places.{rx_slot, tx_slot, tx_word}
+use Rattle.xen_rx_fill.specs.Packets.{words}
+use Rattle.xen_rx_fill.specs.Sending.{IsPosted, all, is_posted, for_extra, passing, refusing}
 use Rattle.xen_rx_fill.specs.Shared.{IsEntry, inside, outside, notices}
-use Rattle.xen_turns.specs.Once.{AllOther, AreDistinct, AreGranted, AreLooks, ArePosted, CoveredDistinct, FragmentsOnce, GrantReads, HaltReads, PostedDistinct, SendReads, SizeReads, SlotsOnce, SlotsRead, TargetsOnce, TurnReads, TurnsOnce, copy_places, entry_places, page_places, places_read, posted_places, sent_places, slot_places, target_places, notice_reads}
+use Rattle.xen_turns.specs.Once.{AllOther, AreDistinct, AreGranted, AreLooks, ArePosted, CoveredDistinct, FragmentsOnce, GrantReads, SizeReads, SlotsOnce, SlotsRead, TargetsOnce, TurnReads, copy_places, entry_places, page_places, places_read, slot_places, notice_reads}
 use Rattle.xen_turns.specs.Parts.{behind, AllWords, HasRead, IsCopy, IsLook, IsRespond, copied, denied, once, part, response_writes, slots_reads, twice}
 use Rattle.xen_turns.specs.Program.{event_of}
-use Rattle.xen_turns.specs.Tree.{Left, responses, status_of}
+use Rattle.xen_turns.specs.Tree.{Left, responses}
 use Rattle.xen_netif.specs.declared.status.Status.{Status}
 use Rattle.xen_netif.specs.declared.status.Status.TheVariants as status
-use Rattle.xen_turns.specs.Turns.{HasRun, still_halted, idle, overflown, short, broken, refused_sizes, refused_grant, ran, halted_rx, refused_few, refused_rx, ran_tx}
+use Rattle.xen_turns.specs.Turns.{HasRun}
 use Rattle.xen_turns.specs.declared.state.State.{State}
-use Rattle.xen_turns.specs.declared.turn.Halt.{Halt}
-use Rattle.xen_turns.specs.declared.turn.Halt.TheVariants as halt
 use Rattle.xen_turns.specs.declared.wiring.Wiring.{Wiring}
 
-places_read-append : (t u : List Event) → places_read (t ++ u) ≡ places_read t ++ places_read u
+pub places_read-append : (t u : List Event) → places_read (t ++ u) ≡ places_read t ++ places_read u
 places_read-append [] u = refl
 places_read-append (Read at v ∷ t) u = ap (λ l. at ∷ l) (places_read-append t u)
 places_read-append (Write at v ∷ t) u = places_read-append t u
@@ -54,7 +46,7 @@ places_read-append (Load m k j v ∷ t) u = places_read-append t u
 places_read-append (Add m k j d v ∷ t) u = places_read-append t u
 places_read-append (Notify p ∷ t) u = places_read-append t u
 
-abbrev word_in : Place → ℕ
+abbrev pub word_in : Place → ℕ
 word_in at = at.word
 
 -- words of two slots of one ring differ
@@ -134,7 +126,7 @@ granted_frame w rights gref _ _ frame (inside at a b e l m) f =
     let same : b ≡ frame = value_of (demands w.vif.owners.now w.vif.granter w.vif.user (entry_of a b) rights) b frame f in
     (at, e, (1, omega arith, ap (Read (frame_place at)) same))
 
-abbrev Within : List Event → List Event → Type 0
+abbrev pub Within : List Event → List Event → Type 0
 Within p q = (e : Event) → Contains p e → Contains q e
 
 granted_within : (w : Wiring) (fs : List Fragment) (frames : List ℕ) (p q : List Event) → Within p q → AreGranted w fs frames p → AreGranted w fs frames q
@@ -142,7 +134,7 @@ granted_within w fs [] p q h g = tt
 granted_within w [] (frame ∷ frames) p q h g = absurd g
 granted_within w (f ∷ fs) (frame ∷ frames) p q h g = ((g.0.0, g.0.1, h (Read (frame_place g.0.0) frame) g.0.2), granted_within w fs frames p q h g.1)
 
-posted_within : (w : Wiring) (x i : ℕ) (grefs : List ℕ) (p q : List Event) → Within p q → ArePosted w x i grefs p → ArePosted w x i grefs q
+pub posted_within : (w : Wiring) (x i : ℕ) (grefs : List ℕ) (p q : List Event) → Within p q → ArePosted w x i grefs p → ArePosted w x i grefs q
 posted_within w x i [] p q h g = tt
 posted_within w x i (gref ∷ grefs) p q h g = (h (Read (rx_slot w.vif (add32 x i) 1) gref) g.0, posted_within w x (i + 1) grefs p q h g.1)
 
@@ -196,7 +188,7 @@ no_responses : (w : Wiring) (t i : ℕ) (rs : List ℕ) → places_read (respons
 no_responses w t i [] = refl
 no_responses w t i (r ∷ rs) = no_responses w t (i + 1) rs
 
-no_notices : (w : Wiring) (b : Bool) → places_read (notices w.vif b) ≡ []
+pub no_notices : (w : Wiring) (b : Bool) → places_read (notices w.vif b) ≡ []
 no_notices w true = refl
 no_notices w false = refl
 
@@ -206,22 +198,22 @@ no_steps (None ∷ labels) = no_steps labels
 no_steps (Some (op.Load m k j v) ∷ labels) = no_steps labels
 no_steps (Some (op.Add m k j d v) ∷ labels) = no_steps labels
 
-respond_read : (w : Wiring) (t : ℕ) (slots : List Slot) (st : Status) (p : List Event) → IsRespond w t slots st p → places_read p ≡ tx_word w.vif 3 ∷ []
+pub respond_read : (w : Wiring) (t : ℕ) (slots : List Slot) (st : Status) (p : List Event) → IsRespond w t slots st p → places_read p ≡ tx_word w.vif 3 ∷ []
 respond_read w t slots st p h =
     let due = is_due t (add32 t (length slots)) h.0 in
     let last : List Event = Write (tx_word w.vif 2) (add32 t (length slots)) ∷ Read (tx_word w.vif 3) h.0 ∷ notices w.vif due in
     ap places_read h.2 ∙ places_read-append (response_writes w t 0 (responses st slots)) last ∙ ap (λ l. l ++ places_read last) (no_responses w t 0 (responses st slots)) ∙ ap (λ l. tx_word w.vif 3 ∷ l) (no_notices w due)
 
-look_read : (w : Wiring) (t : ℕ) (p : List Event) (o : Option ℕ) → IsLook w t p o → AreLooks w (places_read p)
+pub look_read : (w : Wiring) (t : ℕ) (p : List Event) (o : Option ℕ) → IsLook w t p o → AreLooks w (places_read p)
 look_read w t _ _ (once p l h) = inl refl
 look_read w t _ _ (twice p q l m h) = inr refl
 
-idle_read : (w : Wiring) (t : ℕ) (p : List Event) (o : Option ℕ) → IsLook w t p o → o ≡ Some 0 → places_read p ≡ tx_word w.vif 0 ∷ tx_word w.vif 0 ∷ []
+pub idle_read : (w : Wiring) (t : ℕ) (p : List Event) (o : Option ℕ) → IsLook w t p o → o ≡ Some 0 → places_read p ≡ tx_word w.vif 0 ∷ tx_word w.vif 0 ∷ []
 idle_read w t _ _ (once p l h) e = absurd (h e)
 idle_read w t _ _ (twice p q l m h) e = refl
 
 -- slots that were read, and the reads of what comes after them
-chain_reads : (w : Wiring) (s : State) (n : ℕ) (p1 p2 q : List Event) (slots : List Slot) (rest : List Place) → HasRead w s n p1 p2 slots → places_read q ≡ rest → SlotsRead w s (p1 ++ (p2 ++ q)) slots rest
+pub chain_reads : (w : Wiring) (s : State) (n : ℕ) (p1 p2 q : List Event) (slots : List Slot) (rest : List Place) → HasRead w s n p1 p2 slots → places_read q ≡ rest → SlotsRead w s (p1 ++ (p2 ++ q)) slots rest
 chain_reads w s n p1 p2 q slots rest h e =
     let places = slot_places w s.tx_index 0 (length slots) in
     record {
@@ -234,7 +226,7 @@ chain_reads w s n p1 p2 q slots rest h e =
     }
 
 -- a packet of wrong sizes
-size_reads : (w : Wiring) (s : State) (n : ℕ) (p1 p2 p6 : List Event) (slots : List Slot) (fault : SizeFault) → HasRead w s n p1 p2 slots → offered_fragments w.offers slots ≡ Err fault → IsRespond w s.tx_index slots status.Error p6 → SizeReads w s (p1 ++ (p2 ++ p6)) fault (length slots) (notice_reads w)
+pub size_reads : (w : Wiring) (s : State) (n : ℕ) (p1 p2 p6 : List Event) (slots : List Slot) (fault : SizeFault) → HasRead w s n p1 p2 slots → offered_fragments w.offers slots ≡ Err fault → IsRespond w s.tx_index slots status.Error p6 → SizeReads w s (p1 ++ (p2 ++ p6)) fault (length slots) (notice_reads w)
 size_reads w s n p1 p2 p6 slots fault h e g = record {
   slots = slots;
   counted = refl;
@@ -247,7 +239,7 @@ within_joined : (p1 p2 p3 p6 : List Event) → Within p3 (p1 ++ (p2 ++ (p3 ++ p6
 within_joined p1 p2 p3 p6 e h = Contains-append_right p1 (p2 ++ (p3 ++ p6)) e (Contains-append_right p2 (p3 ++ p6) e (Contains-append_left p3 p6 e h))
 
 -- a packet of which a grant fails
-grant_reads : (w : Wiring) (s : State) (n : ℕ) (p1 p2 p3 p6 : List Event) (slots : List Slot) (fs : List Fragment) → HasRead w s n p1 p2 slots → offered_fragments w.offers slots ≡ Ok fs → IsCopy w fs p3 None → IsRespond w s.tx_index slots status.Error p6 → GrantReads w s (p1 ++ (p2 ++ (p3 ++ p6))) (length slots) (notice_reads w)
+pub grant_reads : (w : Wiring) (s : State) (n : ℕ) (p1 p2 p3 p6 : List Event) (slots : List Slot) (fs : List Fragment) → HasRead w s n p1 p2 slots → offered_fragments w.offers slots ≡ Ok fs → IsCopy w fs p3 None → IsRespond w s.tx_index slots status.Error p6 → GrantReads w s (p1 ++ (p2 ++ (p3 ++ p6))) (length slots) (notice_reads w)
 grant_reads w s n p1 p2 p3 p6 slots fs h e k g =
     let copies = fragments_once w fs p3 None k in
     let later : places_read (p3 ++ p6) ≡ copy_places w fs copies.0 ++ notice_reads w =
@@ -264,7 +256,7 @@ grant_reads w s n p1 p2 p3 p6 slots fs h e k g =
     }
 
 -- the reads of a packet that was run on, and of what comes after it
-ran_reads : (w : Wiring) (s : State) (p q : List Event) (slots : List Slot) (out : Left) (last : List Place) → HasRun w s p slots out → places_read q ≡ last → TurnReads w s (p ++ q) (length slots) last
+pub ran_reads : (w : Wiring) (s : State) (p q : List Event) (slots : List Slot) (out : Left) (last : List Place) → HasRun w s p slots out → places_read q ≡ last → TurnReads w s (p ++ q) (length slots) last
 ran_reads w s p q slots out last h e =
     let copies = fragments_once w h.fragments h.copies (Some h.packet) h.copied in
     let copy = copy_places w h.fragments copies.0 in
@@ -286,128 +278,3 @@ ran_reads w s p q slots out last h e =
       whole = copies.3 (λ e. cc);
       read = subst (λ l. SlotsRead w s l slots (copy ++ last)) (sym joined) (chain_reads w s h.n h.looks h.reads (h.copies ++ (h.runs ++ q)) slots (copy ++ last) h.read tail);
     }
-
--- a transmit writes its buffers and responses, and reads none of them
-no_words : (ts : List Target) (packet : List ℕ) (n k : ℕ) → places_read (buffer_writes Whole ts packet n k) ≡ []
-no_words ts packet zero k = refl
-no_words ts packet (suc n) k = no_words ts packet n (k + 1)
-
-no_rx_responses : (w : Wiring) (x : ℕ) (packet : List ℕ) (grants : Grants) (n i : ℕ) (ts : List Target) → places_read (rx_writes w.vif x Whole packet grants n i ts) ≡ []
-no_rx_responses w x packet grants n i [] = refl
-no_rx_responses w x packet grants n i (t ∷ ts) = no_rx_responses w x packet grants n (i + 1) ts
-
-rx_respond_read : (w : Wiring) (x : ℕ) (packet : List ℕ) (grants : Grants) (ts : List Target) (p : List Event) → IsRxRespond w.vif x Whole packet grants ts p → places_read p ≡ rx_word w.vif 3 ∷ []
-rx_respond_read w x packet grants ts p h =
-    let due = is_due x (add32 x (length ts)) h.0 in
-    let writes = rx_writes w.vif x Whole packet grants (length ts) 0 ts in
-    let last : List Event = Write (rx_word w.vif 2) (add32 x (length ts)) ∷ Read (rx_word w.vif 3) h.0 ∷ notices w.vif due in
-    ap places_read h.2 ∙ places_read-append writes last ∙ ap (λ l. l ++ places_read last) (no_rx_responses w x packet grants (length ts) 0 ts) ∙ ap (λ l. rx_word w.vif 3 ∷ l) (no_notices w due)
-
--- as many slots pass as were wanted
-all_passed : (w : Wiring) (x i left : ℕ) (p : List Event) (grants : Grants) (ts : List Target) → AreTargets w.vif x Whole i left p grants ts → grants ≡ Passed → length ts ≡ left
-all_passed w x _ _ _ _ _ (all i) e = refl
-all_passed w x _ _ _ _ _ (refusing i left id p fault none o) e = let no : ⊥ = cc in absurd no
-all_passed w x _ _ _ _ _ (passing i left id frame p q grants ts none o a) e = ap suc (all_passed w x (i + 1) left q grants ts a e)
-all_passed w x _ _ _ _ _ (for_extra i left a g q grants ts some la lg f) e = absurd (let wrong : false ≡ true = some in cc)
-
-abbrev Sent : Wiring → ℕ → List ℕ → List Event → TransmitOutcome → Type 0
-Sent w x packet p outcome.Overflow = places_read p ≡ rx_word w.vif 0 ∷ []
-Sent w x packet p outcome.TooFew = places_read p ≡ rx_word w.vif 0 ∷ []
-Sent w x packet p (outcome.Refused used) = (grefs : List ℕ) × (places_read p ≡ sent_places w x grefs) × ArePosted w x 0 grefs p
-Sent w x packet p (outcome.Sent used) = (grefs : List ℕ) × (length grefs ≡ pages packet) × (places_read p ≡ sent_places w x grefs) × ArePosted w x 0 grefs p
-
--- the slots behind the producer, and before what comes after them
-behind_producer : (a : Event) (p1 p2 : List Event) → Within p1 (a ∷ (p1 ++ p2))
-behind_producer a p1 p2 e h = let c = Contains-append_left p1 p2 e h in let less = c.1 in (suc c.0, omega (arith, less), c.2)
-
-sent_reads : (w : Wiring) (x : ℕ) (packet : List ℕ) (p : List Event) (o : TransmitOutcome) → IsTransmit w.vif x Whole packet p o → Sent w x packet p o
-sent_reads w x packet _ _ (rx_overflow p l e) = refl
-sent_reads w x packet _ _ (too_few p m l e f) = refl
-sent_reads w x packet _ _ (refused p m p1 p2 ts l e f a r) =
-    let t = targets_once w x 0 (pages packet) p1 Refused ts a in (
-      t.0,
-      ap (λ l. rx_word w.vif 0 ∷ l) (places_read-append p1 p2 ∙ ap (λ l. l ++ places_read p2) t.2 ∙ ap (λ l. target_places w x 0 t.0 ++ l) (rx_respond_read w x packet Refused ts p2 r)),
-      posted_within w x 0 t.0 p1 (Read (rx_word w.vif 0) p ∷ (p1 ++ p2)) (behind_producer (Read (rx_word w.vif 0) p) p1 p2) t.3,
-    )
-sent_reads w x packet _ _ (sent p m p1 p2 ts l e f a r) =
-    let t = targets_once w x 0 (pages packet) p1 Passed ts a in
-    let writes = buffer_writes Whole ts packet (words packet) 0 in
-    let end : places_read (writes ++ p2) ≡ rx_word w.vif 3 ∷ [] =
-    places_read-append writes p2 ∙ ap (λ l. l ++ places_read p2) (no_words ts packet (words packet) 0) ∙ rx_respond_read w x packet Passed ts p2 r in (
-      t.0,
-      t.1 ∙ all_passed w x 0 (pages packet) p1 Passed ts a refl,
-      ap (λ l. rx_word w.vif 0 ∷ l) (places_read-append p1 (writes ++ p2) ∙ ap (λ l. l ++ places_read (writes ++ p2)) t.2 ∙ ap (λ l. target_places w x 0 t.0 ++ l) end),
-      posted_within w x 0 t.0 p1 (Read (rx_word w.vif 0) p ∷ (p1 ++ (writes ++ p2))) (behind_producer (Read (rx_word w.vif 0) p) p1 (writes ++ p2)) t.3,
-    )
-
--- a transmit, and the responses behind it
-then_told : (w : Wiring) (t : ℕ) (slots : List Slot) (st : Status) (p5 p6 : List Event) (l : List Place) → places_read p5 ≡ l → IsRespond w t slots st p6 → places_read (p5 ++ p6) ≡ l ++ notice_reads w
-then_told w t slots st p5 p6 l e r = places_read-append p5 p6 ∙ ap (λ k. k ++ places_read p6) e ∙ ap (λ k. l ++ k) (respond_read w t slots st p6 r)
-
--- words of two rx slots differ
-other_posted : (w : Wiring) (x i k j l : ℕ) → j < 2 → l < 2 → 0 < k → k < 256 → rx_slot w.vif (add32 x i) j ≢ rx_slot w.vif (add32 x (i + k)) l
-other_posted w x i k j l a b some few e =
-    let same : 16 + 2 * ((x + i) % 4294967296 % 256) + j ≡ 16 + 2 * ((x + (i + k)) % 4294967296 % 256) + l = ap word_in e in
-    absurd (omega (arith, same, a, b, some, few))
-
-others_posted : (w : Wiring) (x i k j n : ℕ) → j < 2 → 0 < k → k + n ≤ 256 → AllOther (rx_slot w.vif (add32 x i) j) (posted_places w x (i + k) n)
-others_posted w x i k j zero a some few = tt
-others_posted w x i k j (suc n) a some few =
-    let less : k < 256 = omega (arith, few) in
-    let later = subst (λ m. AllOther (rx_slot w.vif (add32 x i) j) (posted_places w x m n)) (let e : i + (k + 1) ≡ i + k + 1 = omega arith in e) (others_posted w x i (k + 1) j n a (omega arith) (omega (arith, few))) in
-    (other_posted w x i k j 0 a (omega arith) some less, (other_posted w x i k j 1 a (omega arith) some less, later))
-
-posted_apart : (w : Wiring) (x i n : ℕ) → n ≤ 256 → AreDistinct (posted_places w x i n)
-posted_apart w x i zero few = tt
-posted_apart w x i (suc n) few =
-    let others : (j : ℕ) → j < 2 → AllOther (rx_slot w.vif (add32 x i) j) (posted_places w x (i + 1) n) = λ j a. others_posted w x i 1 j n a (omega arith) (omega (arith, few)) in
-    let apart : rx_slot w.vif (add32 x i) 0 ≢ rx_slot w.vif (add32 x i) 1 = λ e. let same : 16 + 2 * ((x + i) % 4294967296 % 256) + 0 ≡ 16 + 2 * ((x + i) % 4294967296 % 256) + 1 = ap word_in e in absurd (omega (arith, same)) in
-    ((apart, others 0 (omega arith)), (others 1 (omega arith), posted_apart w x (i + 1) n (omega (arith, few))))
-
-pub posted_distinct : PostedDistinct
-posted_distinct w x n few = posted_apart w x 0 n few
-
--- the transmit of a turn lies within the turn
-sent_within : (p p5 p6 : List Event) → Within p5 (p ++ (p5 ++ p6))
-sent_within p p5 p6 e h = Contains-append_right p (p5 ++ p6) e (Contains-append_left p5 p6 e h)
-
--- a packet that is sent, and answered
-send_reads : (w : Wiring) (s : State) (p p5 p6 : List Event) (slots : List Slot) (out : Left) (st : Status) (grefs : List ℕ) → HasRun w s p slots out → places_read p5 ≡ sent_places w s.rx_index grefs → ArePosted w s.rx_index 0 grefs p5 → IsRespond w s.tx_index slots st p6 → SendReads w s (p ++ (p5 ++ p6)) (length slots) grefs
-send_reads w s p p5 p6 slots out st grefs a e posted g =
-    let places = sent_places w s.rx_index grefs in
-    (posted_within w s.rx_index 0 grefs p5 (p ++ (p5 ++ p6)) (sent_within p p5 p6) posted, ran_reads w s p (p5 ++ p6) slots out (places ++ notice_reads w) a (then_told w s.tx_index slots st p5 p6 places e g))
-
--- a queue that halts in its turn hadn't halted before
-halts : (w : Wiring) (s : State) (p : List Event) (cause : Halt) → s.halt ≡ None → HaltReads w s p cause → (s.halt ≡ None → HaltReads w s p cause) × (s.halt ≢ None → p ≡ [])
-halts w s p cause running reads = (λ h. reads, λ h. absurd (h running))
-
-still : (w : Wiring) (s : State) (p : List Event) (cause : Halt) → p ≡ [] → s.halt ≡ Some cause → (s.halt ≡ None → HaltReads w s p cause) × (s.halt ≢ None → p ≡ [])
-still w s p cause none e = (λ h. let no : ⊥ = cc in absurd no, λ h. none)
-
-running : (w : Wiring) (s : State) (p : List Event) (slots : List Slot) (out : Left) → HasRun w s p slots out → s.halt ≡ None
-running w s p slots out h = h.read.running
-
--- slots that were read, and nothing after them
-only_slots : (w : Wiring) (s : State) (n : ℕ) (p1 p2 : List Event) (slots : List Slot) → HasRead w s n p1 p2 slots → SlotsRead w s (p1 ++ p2) slots []
-only_slots w s n p1 p2 slots h = subst (λ l. SlotsRead w s (p1 ++ l) slots []) (append-nil p2) (chain_reads w s n p1 p2 [] slots [] h refl)
-
-pub turns_once : TurnsOnce
-turns_once w s _ _ _ (still_halted cause h) = still w s [] cause refl h
-turns_once w s _ _ _ (idle p1 h l) = idle_read w s.tx_index p1 (Some 0) l refl
-turns_once w s _ _ _ (overflown p1 h l) = halts w s p1 halt.TxProducer h (look_read w s.tx_index p1 None l)
-turns_once w s _ _ _ (short p1 p2 n slots r e b) = halts w s (p1 ++ p2) halt.ShortChain r.running (slots, only_slots w s n p1 p2 slots r)
-turns_once w s _ _ _ (broken p1 p2 n slots fault r f) = halts w s (p1 ++ p2) (halt.Chain fault) r.running (slots, only_slots w s n p1 p2 slots r)
-turns_once w s _ _ _ (refused_sizes p1 p2 p6 n slots fault r c e g) = size_reads w s n p1 p2 p6 slots fault r e g
-turns_once w s _ _ _ (refused_grant p1 p2 p3 p6 n slots fragments r c e k g) = grant_reads w s n p1 p2 p3 p6 slots fragments r e k g
-turns_once w s _ _ _ (ran p p6 slots out a e g) = (λ h. ran_reads w s p p6 slots out (notice_reads w) a (respond_read w s.tx_index slots (status_of out.number) p6 g), λ h. absurd (e h))
-turns_once w s _ _ _ (halted_rx p p5 slots out a e t) =
-    halts w s (p ++ p5) halt.RxProducer (running w s p slots out a) (length slots, ran_reads w s p p5 slots out (rx_word w.vif 0 ∷ []) a (sent_reads w s.rx_index out.packet p5 outcome.Overflow t))
-turns_once w s _ _ _ (refused_few p p5 p6 slots out a e t g) =
-    let sent = sent_reads w s.rx_index out.packet p5 outcome.TooFew t in
-    ran_reads w s p (p5 ++ p6) slots out (rx_word w.vif 0 ∷ notice_reads w) a (then_told w s.tx_index slots status.Error p5 p6 (rx_word w.vif 0 ∷ []) sent g)
-turns_once w s _ _ _ (refused_rx p p5 p6 used slots out a e t g) =
-    let sent = sent_reads w s.rx_index out.packet p5 (outcome.Refused used) t in
-    (sent.0, send_reads w s p p5 p6 slots out status.Error sent.0 a sent.1 sent.2 g)
-turns_once w s _ _ _ (ran_tx p p5 p6 used slots out a e t g) =
-    let sent = sent_reads w s.rx_index out.packet p5 (outcome.Sent used) t in
-    (λ h. absurd (h refl), λ h. (sent.0, sent.1, send_reads w s p p5 p6 slots out status.Okay sent.0 a sent.2 sent.3 g))

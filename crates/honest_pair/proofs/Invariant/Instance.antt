@@ -33,6 +33,7 @@ use Rattle.honest_pair.specs.Machine.Memory.{after, header_word, opening_memory,
 use Rattle.honest_pair.specs.declared.awaits.Awaits.TheVariants as awaits
 use Rattle.honest_pair.specs.Machine.Pair as pair
 use Rattle.honest_pair.specs.Machine.Pair.{PairEvent, opening, run}
+use Rattle.honest_pair.proofs.Machine.EndLaws as ends
 use Rattle.honest_pair.proofs.Machine.Pairs as pairs
 use Rattle.honest_pair.proofs.Machine.SafeLemmas.{safe_less}
 use Rattle.honest_pair.specs.Invariant.Ended as ended
@@ -116,10 +117,10 @@ module _ (accepted : Accepted) (bw : BackWiring) (fw : FrontWiring) (start : ℕ
   Postless f = f.posting ≡ false
 
   abbrev Ends : Type 0
-  Ends = pairs.EndLaws bw fw (Inv fw start) (Rest start) Sends Posts Polls Keeps Windowless Postless (Ready start) (Slept start) givens
+  Ends = ends.EndLaws bw fw (Inv fw start) (Rest start) Sends Posts Polls Keeps Windowless Postless (Ready start) (Slept start) givens
 
   abbrev TheEnd : List (List ℕ) → List (List ℕ) → Front → FrontEnding → Type 0
-  TheEnd w r f e = pairs.FrontEnd bw fw (Inv fw start) (Rest start) Sends Posts Polls Keeps Windowless Postless (Ready start) (Slept start) givens w r f e
+  TheEnd w r f e = ends.FrontEnd bw fw (Inv fw start) (Rest start) Sends Posts Polls Keeps Windowless Postless (Ready start) (Slept start) givens w r f e
 
   chain_of : (r : List (List ℕ)) (f : Front) (u : List (List ℕ)) → Chained r f → Chained r (began f u)
   chain_of r f u c = record { before = c.before; more = c.more; told = c.told; bytes = c.bytes }
@@ -128,7 +129,7 @@ module _ (accepted : Accepted) (bw : BackWiring) (fw : FrontWiring) (start : ℕ
   polls_now s w r f h = record { packets = ap (λ u. bytes_in f.sent ++ u) h.unsent ∙ nil_right (bytes_in f.sent) ∙ h.packets; chain = h.chain; window = h.window; posting = h.posting }
 
   turn_end : (c g : List (List ℕ)) (b : Back) (s : BackState) (u : Turned) → ended.TurnEnd start c g b s u →
-      pairs.TurnEnd bw fw (Inv fw start) (Rest start) Sends Posts Polls Keeps Windowless Postless (Ready start) (Slept start) givens c g b s u
+      ends.TurnEnd bw fw (Inv fw start) (Rest start) Sends Posts Polls Keeps Windowless Postless (Ready start) (Slept start) givens c g b s u
   turn_end c g b s Idle h = absurd h
   turn_end c g b s (Ran number packet ops k) h = h
   turn_end c g b s (Refused (refusal.Size fault) ops k) h = absurd h
@@ -138,24 +139,24 @@ module _ (accepted : Accepted) (bw : BackWiring) (fw : FrontWiring) (start : ℕ
   turn_end c g b s (Halted cause) h = absurd h
 
   over_end : (s : BackState) (c g : List (List ℕ)) (b : Back) (t : BackState) (u : Turned) → ended.OverAs start s c g b t u →
-      pairs.OverAs bw fw (Inv fw start) (Rest start) Sends Posts Polls Keeps Windowless Postless (Ready start) (Slept start) givens s c g b t u
+      ends.OverAs bw fw (Inv fw start) (Rest start) Sends Posts Polls Keeps Windowless Postless (Ready start) (Slept start) givens s c g b t u
   over_end s c g b t Idle h = h
   over_end s c g b t (Ran number packet ops k) h = absurd h
   over_end s c g b t (Refused cause ops k) h = absurd h
   over_end s c g b t (Halted cause) h = absurd h
 
   resting_as : (asleep : Bool) (s : BackState) (c g : List (List ℕ)) (b : Back) →
-      pairs.Resting bw fw (Inv fw start) (Rest start) Sends Posts Polls Keeps Windowless Postless (Ready start) (Slept start) givens asleep s c g b → ended.Resting asleep start s c g b
+      ends.Resting bw fw (Inv fw start) (Rest start) Sends Posts Polls Keeps Windowless Postless (Ready start) (Slept start) givens asleep s c g b → ended.Resting asleep start s c g b
   resting_as true s c g b h = h
   resting_as false s c g b h = h
 
   rests_as : (asleep : Bool) (s : BackState) (c g : List (List ℕ)) (b : Back) → ended.Resting asleep start s c g b →
-      pairs.Resting bw fw (Inv fw start) (Rest start) Sends Posts Polls Keeps Windowless Postless (Ready start) (Slept start) givens asleep s c g b
+      ends.Resting bw fw (Inv fw start) (Rest start) Sends Posts Polls Keeps Windowless Postless (Ready start) (Slept start) givens asleep s c g b
   rests_as true s c g b h = h
   rests_as false s c g b h = h
 
   landed_end : (asleep : Bool) (c g : List (List ℕ)) (packet : List ℕ) (b : Back) (s : BackState) (what : Delivery) → ended.Landed asleep start c g packet b s what →
-      pairs.Landed bw fw (Inv fw start) (Rest start) Sends Posts Polls Keeps Windowless Postless (Ready start) (Slept start) givens asleep c g packet b s what
+      ends.Landed bw fw (Inv fw start) (Rest start) Sends Posts Polls Keeps Windowless Postless (Ready start) (Slept start) givens asleep c g packet b s what
   landed_end asleep c g packet b s (delivery.Sent slots) h = rests_as asleep s c (g ++ packet ∷ []) b h
   landed_end asleep c g packet b s delivery.FewSlots h = rests_as asleep s c g b h
   landed_end asleep c g packet b s (delivery.Refused slots) h = absurd h
@@ -164,11 +165,11 @@ module _ (accepted : Accepted) (bw : BackWiring) (fw : FrontWiring) (start : ℕ
   landed_end asleep c g packet b s delivery.NotAccepted h = absurd h
 
   half_end : (s : BackState) (c g : List (List ℕ)) (b : Back) (x : Half) → ended.HalfEnd fw start bw s c g b x →
-      pairs.HalfEnd bw fw (Inv fw start) (Rest start) Sends Posts Polls Keeps Windowless Postless (Ready start) (Slept start) givens s c g b x
+      ends.HalfEnd bw fw (Inv fw start) (Rest start) Sends Posts Polls Keeps Windowless Postless (Ready start) (Slept start) givens s c g b x
   half_end s c g b (Over e) h = over_end s c g b e.0 e.1 h
   half_end s c g b (HasRun slots packet l) h =
       safe_less (λ m b2 f. Inv fw start m f b2) (ended.GivesLeft g l) (ended.GivesLeft g l) (ended.EndedTurn start (c ++ packet ∷ []) g)
-      (λ b2 e. pairs.TurnEnd bw fw (Inv fw start) (Rest start) Sends Posts Polls Keeps Windowless Postless (Ready start) (Slept start) givens (c ++ packet ∷ []) g b2 e.0 e.1) b (after_run bw s slots l)
+      (λ b2 e. ends.TurnEnd bw fw (Inv fw start) (Rest start) Sends Posts Polls Keeps Windowless Postless (Ready start) (Slept start) givens (c ++ packet ∷ []) g b2 e.0 e.1) b (after_run bw s slots l)
       (λ b2 k. k) (λ b2 e k. turn_end (c ++ packet ∷ []) g b2 e.0 e.1 k) h
 
   end_laws : Ends
@@ -202,11 +203,11 @@ module _ (accepted : Accepted) (bw : BackWiring) (fw : FrontWiring) (start : ℕ
         wakes = λ s c g b m f h i. (let z = wakes fw start s c g b m f h i in (woken b, z.0, z.1));
         half_safe = λ s c g b h.
             safe_less (λ m b2 f. Inv fw start m f b2) (ended.GivenAll g) (ended.GivenAll g) (ended.HalfEnd fw start bw s c g)
-            (pairs.HalfEnd bw fw (Inv fw start) (Rest start) Sends Posts Polls Keeps Windowless Postless (Ready start) (Slept start) givens s c g) b (half_turn bw s)
+            (ends.HalfEnd bw fw (Inv fw start) (Rest start) Sends Posts Polls Keeps Windowless Postless (Ready start) (Slept start) givens s c g) b (half_turn bw s)
             (λ b2 k. k) (λ b2 x k. half_end s c g b2 x k) (half_safe fw start small (laid fw isf) bw (ends_joined fw isf accepted bw ib) (programmed accepted bw cons ib) s c g b h);
         delivery_safe = λ asleep s c g b packet h bytes.
             safe_less (λ m b2 f. Inv fw start m f b2) (ended.GivesPacket g packet) (ended.GivesPacket g packet) (λ b2 e. ended.Landed asleep start c g packet b2 e.0 e.1)
-            (λ b2 e. pairs.EndedDelivery bw fw (Inv fw start) (Rest start) Sends Posts Polls Keeps Windowless Postless (Ready start) (Slept start) givens asleep c g packet b2 e) b (whole_delivery bw.vif bw.accepts s Whole packet)
+            (λ b2 e. ends.EndedDelivery bw fw (Inv fw start) (Rest start) Sends Posts Polls Keeps Windowless Postless (Ready start) (Slept start) givens asleep c g packet b2 e) b (whole_delivery bw.vif bw.accepts s Whole packet)
             (λ b2 k. k) (λ b2 e k. landed_end asleep c g packet b2 e.0 e.1 k)
             (delivery_safe fw start small (laid fw isf) bw (ends_joined fw isf accepted bw ib) asleep s c g b (resting_as asleep s c g b h) packet (bytes_small packet bytes));
         wait_asks = λ asleep s c g b pages m f h i.
@@ -231,11 +232,11 @@ module _ (accepted : Accepted) (bw : BackWiring) (fw : FrontWiring) (start : ℕ
         hears = λ s c g m f b i h closed quiet. ap (λ x. m.word (page_word x 0)) (sym isf.tx_ring) ∙ all_heard fw start m f b s c g h i quiet closed;
       }
 
-  fit_of : (es : List (PairEvent × ℕ)) → AreFit es → pairs.Fit bw fw (Inv fw start) (Rest start) Sends Posts Polls Keeps Windowless Postless (Ready start) (Slept start) givens es
+  fit_of : (es : List (PairEvent × ℕ)) → AreFit es → ends.Fit bw fw (Inv fw start) (Rest start) Sends Posts Polls Keeps Windowless Postless (Ready start) (Slept start) givens es
   fit_of [] h = tt
   fit_of (e ∷ es) h = (All-head (λ (x : PairEvent × ℕ). IsBytes x.0 × (x.1 < 2 ^ 64)) e es h, fit_of es (All-tail (λ (x : PairEvent × ℕ). IsBytes x.0 × (x.1 < 2 ^ 64)) e es h))
 
-  opening_good : (s : FrontState) → IsNewFront s start → pairs.Good bw fw (Inv fw start) (Rest start) Sends Posts Polls Keeps Windowless Postless (Ready start) (Slept start) givens (opening s start)
+  opening_good : (s : FrontState) → IsNewFront s start → ends.Good bw fw (Inv fw start) (Rest start) Sends Posts Polls Keeps Windowless Postless (Ready start) (Slept start) givens (opening s start)
   opening_good s h =
       let z : start ≡ add32 start 0 = omega (arith, small) in (
         [],

@@ -1,18 +1,14 @@
 -- The pair's events keep what stands, by the laws of its two ends.
-use Rattle.std.proofs.Common.{◌≡◌, ℕ, ◌<◌, ◌^◌, ◌⊎◌, inl, inr, refl, sym, ◌∙◌, ap, subst, arith, Bool, true, false, List, [], ◌∷◌, ◌++◌, All, Some, None, Result, Ok, Err}
+use Rattle.std.proofs.Common.{◌≡◌, ℕ, ◌<◌, ◌^◌, inl, inr, refl, sym, ◌∙◌, ap, subst, arith, Bool, true, false, List, [], ◌∷◌, ◌++◌, All, Some, None}
 use Rattle.std.specs.Prelude.{◌==◌, if◌then◌else◌, flat_map, nat_lt}
 use Rattle.std.proofs.lemmas.List.{append-nil, append_assoc}
 use Rattle.std.proofs.lemmas.Bool.Decides.{nat_tests}
 use Rattle.xen_netif.specs.declared.offload.RxOffload.TheVariants.{Whole}
-use Rattle.xen_ring.specs.Index.{distance}
-use Rattle.xen_steps.specs.Places.{add32, available, page_word}
 use Rattle.xen_steps.specs.Steps.{Steps, done, ask, never}
-use Rattle.xen_steps.specs.declared.want.Want.{Want}
-use Rattle.xen_steps.specs.declared.want.Want.TheVariants as want
 use Rattle.xen_turns.specs.Deliveries.{Arrival, whole_delivery}
 use Rattle.xen_turns.specs.Tree.{Left, after_run}
 use Rattle.xen_turns.specs.Turned.{Turned, Idle, Ran, Refused, Halted, Ending}
-use Rattle.xen_turns.specs.Waits.{Wait, check_unless, final_check, last_read, wait_end, whole_wait}
+use Rattle.xen_turns.specs.Waits.{Wait, check_unless, final_check, last_read, wait_end}
 use Rattle.xen_turns.specs.declared.delivery.wait.Awaited.{Awaited}
 use Rattle.xen_turns.specs.declared.delivery.wait.Awaited.TheVariants as awaited
 use Rattle.xen_turns.specs.declared.delivery.delivering.Delivery.{Delivery}
@@ -21,268 +17,77 @@ use Rattle.xen_turns.specs.declared.state.State.{State as BackState}
 use Rattle.xen_turns.specs.declared.turn.PacketRefusal.TheVariants as refusal
 use Rattle.xen_turns.specs.declared.wiring.Wiring.{Wiring as BackWiring}
 use Rattle.xen_buffers.specs.declared.wiring.FrontWiring.{FrontWiring}
-use Rattle.xen_front.specs.Given.{Ending as FrontEnding}
-use Rattle.xen_front.specs.Tree.{poll}
 use Rattle.xen_front.specs.declared.state.FrontState.{FrontState}
-use Rattle.xen_front.specs.declared.turn.PollRefusal.{PollRefusal}
-use Rattle.xen_front.specs.declared.turn.PostRefusal.{PostRefusal}
-use Rattle.xen_front.specs.declared.turn.SendRefusal.{SendRefusal}
 use Rattle.honest_pair.specs.Machine.Halves.{Half, Over, HasRun, half_turn}
-use Rattle.honest_pair.specs.Machine.Law.{HasArrived, HasLooked, Honest, IsByte, IsBytes, IsPosting, IsSending, delivered, given_by, given_now, left_by}
+use Rattle.honest_pair.specs.Machine.Law.{HasArrived, HasLooked, Honest, IsByte, IsBytes, delivered, given_by, given_now, left_by}
 use Rattle.honest_pair.specs.Machine.Memory.{Memory, after, answer}
-use Rattle.honest_pair.specs.Machine.Pair.{Activity, Free, Sending, Posting, Polling, BackAt, Asleep, First, Second, Delivering, Waiting, OfTurn, OfDelivery, OfWait, Pair, PairEvent, Send, Post, Poll, FrontStep, BackStep, Deliver, Await, packets_of, sending, posting, polling, send_result, post_result, poll_result, send_tree, post_tree, begin_send, begin_post, begin_poll, on_send, on_post, on_poll, on_front, turned, second, first, wake, on_back, rested, landed, delivering, begin_delivery, on_deliver, asking, waited, waiting, begin_wait, on_await, step, run}
+use Rattle.honest_pair.specs.Machine.Pair.{Activity, BackAt, Asleep, First, Second, Delivering, Waiting, OfTurn, OfDelivery, OfWait, Pair, PairEvent, Send, Post, Poll, FrontStep, BackStep, Deliver, Await, turned, second, first, wake, on_back, rested, landed, delivering, begin_delivery, on_deliver, asking, waited, waiting, begin_wait, on_await, step, run}
 use Rattle.honest_pair.specs.Machine.Safe.{Safe}
 use Rattle.honest_pair.specs.declared.awaits.Awaits.{Awaits}
 use Rattle.honest_pair.specs.declared.awaits.Awaits.TheVariants as awaits
 use Rattle.honest_pair.proofs.Machine.Deeds.{Done, Packets, copies_few, copies_idle, copies_ran, done_delivery, done_turn, done_wait, given_more, ran_given}
+use Rattle.honest_pair.proofs.Machine.EndLaws as ends
+use Rattle.honest_pair.proofs.Machine.FrontEvents as fronts
 
--- Rest: the front between activities, of which these packets were sent and received. Sendings, Posts, Polls: inside a send, a post or a
--- poll. Says: what is known of it at any time; Windowless, Postless: it has no push of requests, or of posts, whose notice is undecided.
--- Ready, Slept: the back between turns, that has made these copies and given these packets.
+-- The names are those of the ends' laws.
 module _ (bw : BackWiring) (fw : FrontWiring) {Front Back : Type 0} (Inv : Memory → Front → Back → Type 0)
     (Rest : FrontState → Packets → Packets → Front → Type 0) (Sendings Posts Polls Says : Packets → Packets → Front → Type 0) (Windowless Postless : Front → Type 0)
     (Ready Slept : BackState → Packets → Packets → Back → Type 0) (givens : Back → Packets) where
-  abbrev pub BackInv : Memory → Back → Front → Type 0
-  BackInv m b f = Inv m f b
+  abbrev BackInv : Memory → Back → Front → Type 0
+  BackInv = ends.BackInv bw fw Inv Rest Sendings Posts Polls Says Windowless Postless Ready Slept givens
 
-  abbrev pub FrontEnd : Packets → Packets → Front → FrontEnding → Type 0
-  FrontEnd w r f e = Rest e.0 w (r ++ packets_of e.1) f
+  abbrev TurnEnd : Packets → Packets → Back → BackState → Turned → Type 0
+  TurnEnd = ends.TurnEnd bw fw Inv Rest Sendings Posts Polls Says Windowless Postless Ready Slept givens
 
-  abbrev pub TurnEnd : Packets → Packets → Back → BackState → Turned → Type 0
-  TurnEnd c g b s Idle = ⊥
-  TurnEnd c g b s (Ran number packet ops k) = Ready s c (if number == 3 then g ++ packet ∷ [] else g) b
-  TurnEnd c g b s (Refused (refusal.Size fault) ops k) = ⊥
-  TurnEnd c g b s (Refused refusal.Grant ops k) = ⊥
-  TurnEnd c g b s (Refused refusal.FewSlots ops k) = Ready s c g b
-  TurnEnd c g b s (Refused refusal.RxGrant ops k) = ⊥
-  TurnEnd c g b s (Halted cause) = ⊥
+  abbrev EndedTurn : Packets → Packets → Back → Ending → Type 0
+  EndedTurn = ends.EndedTurn bw fw Inv Rest Sendings Posts Polls Says Windowless Postless Ready Slept givens
 
-  abbrev pub EndedTurn : Packets → Packets → Back → Ending → Type 0
-  EndedTurn c g b e = TurnEnd c g b e.0 e.1
+  abbrev GivenAll : Packets → Back → Type 0
+  GivenAll = ends.GivenAll bw fw Inv Rest Sendings Posts Polls Says Windowless Postless Ready Slept givens
 
-  abbrev pub GivenAll : Packets → Back → Type 0
-  GivenAll g b = givens b ≡ g
+  abbrev GivesLeft : Packets → Left → Back → Type 0
+  GivesLeft = ends.GivesLeft bw fw Inv Rest Sendings Posts Polls Says Windowless Postless Ready Slept givens
 
-  abbrev pub GivesLeft : Packets → Left → Back → Type 0
-  GivesLeft g l b = (givens b ≡ g) ⊎ ((l.number ≡ 3) × (givens b ≡ g ++ l.packet ∷ []))
+  abbrev OverAs : BackState → Packets → Packets → Back → BackState → Turned → Type 0
+  OverAs = ends.OverAs bw fw Inv Rest Sendings Posts Polls Says Windowless Postless Ready Slept givens
 
-  abbrev pub OverAs : BackState → Packets → Packets → Back → BackState → Turned → Type 0
-  OverAs s c g b t Idle = (t ≡ s) × Slept s c g b
-  OverAs s c g b t (Ran number packet ops k) = ⊥
-  OverAs s c g b t (Refused cause ops k) = ⊥
-  OverAs s c g b t (Halted cause) = ⊥
+  abbrev HalfEnd : BackState → Packets → Packets → Back → Half → Type 0
+  HalfEnd = ends.HalfEnd bw fw Inv Rest Sendings Posts Polls Says Windowless Postless Ready Slept givens
 
-  abbrev pub HalfEnd : BackState → Packets → Packets → Back → Half → Type 0
-  HalfEnd s c g b (Over e) = OverAs s c g b e.0 e.1
-  HalfEnd s c g b (HasRun slots packet l) = Safe BackInv (GivesLeft g l) (EndedTurn (c ++ packet ∷ []) g) b (after_run bw s slots l)
+  abbrev Resting : Bool → BackState → Packets → Packets → Back → Type 0
+  Resting = ends.Resting bw fw Inv Rest Sendings Posts Polls Says Windowless Postless Ready Slept givens
 
-  -- between turns, asleep or awake
-  abbrev pub Resting : Bool → BackState → Packets → Packets → Back → Type 0
-  Resting true = Slept
-  Resting false = Ready
+  abbrev GivesPacket : Packets → List ℕ → Back → Type 0
+  GivesPacket = ends.GivesPacket bw fw Inv Rest Sendings Posts Polls Says Windowless Postless Ready Slept givens
 
-  abbrev pub GivesPacket : Packets → List ℕ → Back → Type 0
-  GivesPacket g packet b = (givens b ≡ g) ⊎ (givens b ≡ g ++ packet ∷ [])
+  abbrev Landed : Bool → Packets → Packets → List ℕ → Back → BackState → Delivery → Type 0
+  Landed = ends.Landed bw fw Inv Rest Sendings Posts Polls Says Windowless Postless Ready Slept givens
 
-  abbrev pub Landed : Bool → Packets → Packets → List ℕ → Back → BackState → Delivery → Type 0
-  Landed asleep c g packet b s (delivery.Sent slots) = Resting asleep s c (g ++ packet ∷ []) b
-  Landed asleep c g packet b s delivery.FewSlots = Resting asleep s c g b
-  Landed asleep c g packet b s (delivery.Refused slots) = ⊥
-  Landed asleep c g packet b s (delivery.Halted cause) = ⊥
-  Landed asleep c g packet b s delivery.NoFrame = Resting asleep s c g b
-  Landed asleep c g packet b s delivery.NotAccepted = ⊥
-
-  abbrev pub EndedDelivery : Bool → Packets → Packets → List ℕ → Back → Arrival → Type 0
-  EndedDelivery asleep c g packet b a = Landed asleep c g packet b a.0 a.1
-
-  -- what the two ends keep to
-  pub record EndLaws : Type 0 where
-    pub begin_send : (s : FrontState) (w r : Packets) (p : List ℕ) (f : Front) → Rest s w r f → send_result s p ≡ Ok tt → All IsByte p → (m : Memory) (b : Back) → Inv m f b →
-        (f' : Front) × Inv m f' b × Sendings (w ++ p ∷ []) r f' × Safe Inv (Sendings (w ++ p ∷ []) r) (FrontEnd (w ++ p ∷ []) r) f' (send_tree fw s p)
-    pub begin_post : (s : FrontState) (w r : Packets) (f : Front) → Rest s w r f → post_result s ≡ Ok tt → Posts w r f × Safe Inv (Posts w r) (FrontEnd w r) f (post_tree fw s)
-    pub begin_poll : (s : FrontState) (w r : Packets) (f : Front) → Rest s w r f → poll_result s ≡ Ok tt → Polls w r f × Safe Inv (Polls w r) (FrontEnd w r) f (poll fw s)
-    pub running : (s : FrontState) (w r : Packets) (f : Front) → Rest s w r f → s.halt ≡ None
-    pub rest_says : (s : FrontState) (w r : Packets) (f : Front) → Rest s w r f → Says w r f × Windowless f × Postless f
-    pub sending_says : (w r : Packets) (f : Front) → Sendings w r f → Says w r f × Postless f
-    pub post_says : (w r : Packets) (f : Front) → Posts w r f → Says w r f × Windowless f
-    pub poll_says : (w r : Packets) (f : Front) → Polls w r f → Says w r f × Windowless f × Postless f
-    pub wakes : (s : BackState) (c g : Packets) (b : Back) (m : Memory) (f : Front) → Slept s c g b → Inv m f b → (b' : Back) × Inv (record m { pending = false; awaits = awaits.Nothing }) f b' × Ready s c g b'
-    pub half_safe : (s : BackState) (c g : Packets) (b : Back) → Ready s c g b → Safe BackInv (GivenAll g) (HalfEnd s c g) b (half_turn bw s)
-    pub delivery_safe : (asleep : Bool) (s : BackState) (c g : Packets) (b : Back) (packet : List ℕ) → Resting asleep s c g b → All IsByte packet →
-        Safe BackInv (GivesPacket g packet) (EndedDelivery asleep c g packet) b (whole_delivery bw.vif bw.accepts s Whole packet)
-    pub wait_asks : (asleep : Bool) (s : BackState) (c g : Packets) (b : Back) (pages : ℕ) (m : Memory) (f : Front) → Resting asleep s c g b → Inv m f b →
-        Inv (record (after (want.Write (page_word bw.vif.rx 1) (add32 s.rx_index pages)) m) { awaits = awaits.Asked s.rx_index pages }) f b
-    pub wait_looks : (asleep : Bool) (s : BackState) (c g : Packets) (b : Back) (pages : ℕ) (m : Memory) (f : Front) → Resting asleep s c g b → Inv m f b →
-        m.awaits ≡ awaits.Asked s.rx_index pages → (k : ℕ) × (available s.rx_index (m.word (page_word bw.vif.rx 0)) ≡ Some k) ×
-        (nat_lt k pages ≡ true → Inv (record m { awaits = awaits.Fewer s.rx_index pages }) f b)
-    pub forgets : (m : Memory) (f : Front) (b : Back) → Inv m f b → Inv (record m { awaits = awaits.Nothing }) f b
-    pub ready_runs : (s : BackState) (c g : Packets) (b : Back) → Ready s c g b → (givens b ≡ g) × (s.halt ≡ None)
-    pub slept_runs : (s : BackState) (c g : Packets) (b : Back) → Slept s c g b → (givens b ≡ g) × (s.halt ≡ None)
-    pub copied : (s : BackState) (w r c g : Packets) (m : Memory) (f : Front) (b : Back) → Says w r f → Inv m f b → Ready s c g b → (more : Packets) × (w ≡ c ++ more)
-    pub got : (w r : Packets) (m : Memory) (f : Front) (b : Back) → Says w r f → Inv m f b → (more : Packets) × (givens b ≡ r ++ more)
-    pub tells : (m : Memory) (f : Front) (b : Back) (index pages : ℕ) → Inv m f b → Postless f → m.awaits ≡ awaits.Fewer index pages → m.pending ≡ false → distance index (m.word (page_word 18 0)) < pages
-    pub hears : (s : BackState) (c g : Packets) (m : Memory) (f : Front) (b : Back) → Inv m f b → Slept s c g b → Windowless f → m.pending ≡ false → m.word (page_word 17 0) ≡ s.tx_index
+  abbrev EndedDelivery : Bool → Packets → Packets → List ℕ → Back → Arrival → Type 0
+  EndedDelivery = ends.EndedDelivery bw fw Inv Rest Sendings Posts Polls Says Windowless Postless Ready Slept givens
 
   abbrev FrontStands : Activity → FrontState → Packets → Packets → Front → Type 0
-  FrontStands Free s w r f = Rest s w r f
-  FrontStands (Sending t) s w r f = Sendings w r f × Safe Inv (Sendings w r) (FrontEnd w r) f t × (s.halt ≡ None)
-  FrontStands (Posting t) s w r f = Posts w r f × Safe Inv (Posts w r) (FrontEnd w r) f t × (s.halt ≡ None)
-  FrontStands (Polling t) s w r f = Polls w r f × Safe Inv (Polls w r) (FrontEnd w r) f t × (s.halt ≡ None)
+  FrontStands = ends.FrontStands bw fw Inv Rest Sendings Posts Polls Says Windowless Postless Ready Slept givens
 
-  -- where a wait is: before the store of the event index, or behind it
   abbrev Looks : BackState → ℕ → Steps Wait → Awaits → Type 0
-  Looks s pages t a = (t ≡ final_check bw.vif.rx s pages) ⊎ ((t ≡ last_read bw.vif.rx s pages) × (a ≡ awaits.Asked s.rx_index pages))
+  Looks = ends.Looks bw fw Inv Rest Sendings Posts Polls Says Windowless Postless Ready Slept givens
 
   abbrev BackStands : BackAt → BackState → Packets → Packets → Back → Awaits → Type 0
-  BackStands Asleep s c g b a = Slept s c g b
-  BackStands (First false t) s c g b a = (t ≡ half_turn bw s) × Ready s c g b
-  BackStands (First true t) s c g b a = GivenAll g b × Safe BackInv (GivenAll g) (HalfEnd s c g) b t
-  BackStands (Second packet l t) s c g b a = GivesLeft g l b × Safe BackInv (GivesLeft g l) (EndedTurn (c ++ packet ∷ []) g) b t
-  BackStands (Delivering asleep packet t) s c g b a = GivesPacket g packet b × Safe BackInv (GivesPacket g packet) (EndedDelivery asleep c g packet) b t
-  BackStands (Waiting asleep pages t) s c g b a = Resting asleep s c g b × Looks s pages t a
+  BackStands = ends.BackStands bw fw Inv Rest Sendings Posts Polls Says Windowless Postless Ready Slept givens
 
-  -- an event of the front asks for nothing
-  after_awaits : (v : Want) (m : Memory) → (after v m).awaits ≡ m.awaits
-  after_awaits (want.Read at) m = refl
-  after_awaits (want.Write at x) m = refl
-  after_awaits want.Instr m = refl
-  after_awaits (want.Load i k j) m = refl
-  after_awaits (want.Add i k j delta) m = refl
-  after_awaits (want.Notify port) m = refl
-  after_awaits want.Done m = refl
+  abbrev Fit : List (PairEvent × ℕ) → Type 0
+  Fit = ends.Fit bw fw Inv Rest Sendings Posts Polls Says Windowless Postless Ready Slept givens
 
-  -- c are the copies of the turns that are over
-  pub record Stands (p : Pair) (c : Packets) (f : Front) (b : Back) : Type 0 where
-    pub inv : Inv p.memory f b
-    pub front : FrontStands p.activity p.front p.sent p.received f
-    pub back : BackStands p.at p.back c (flat_map given_by p.deeds) b p.memory.awaits
-    pub running : p.back.halt ≡ None
-    pub copies : Done p.deeds c
-    pub sent : (more : Packets) × (p.sent ≡ c ++ more)
+  abbrev Good : Pair → Type 0
+  Good = ends.Good bw fw Inv Rest Sendings Posts Polls Says Windowless Postless Ready Slept givens
 
-  abbrev pub Fit : List (PairEvent × ℕ) → Type 0
-  Fit [] = Unit {0}
-  Fit (e ∷ es) = (IsBytes e.0 × (e.1 < 2 ^ 64)) × Fit es
+  abbrev EndLaws : Type 0
+  EndLaws = ends.EndLaws bw fw Inv Rest Sendings Posts Polls Says Windowless Postless Ready Slept givens
 
-  abbrev pub Good : Pair → Type 0
-  Good p = (c : Packets) × (f : Front) × (b : Back) × Stands p c f b
+  abbrev Stands : Pair → Packets → Front → Back → Type 0
+  Stands = ends.Stands bw fw Inv Rest Sendings Posts Polls Says Windowless Postless Ready Slept givens
 
   module _ (l : EndLaws) where
-    says : (a : Activity) (s : FrontState) (w r : Packets) (f : Front) → FrontStands a s w r f → Says w r f
-    says Free s w r f h = (l.rest_says s w r f h).0
-    says (Sending t) s w r f h = (l.sending_says w r f h.0).0
-    says (Posting t) s w r f h = (l.post_says w r f h.0).0
-    says (Polling t) s w r f h = (l.poll_says w r f h.0).0
-
-    no_window : (a : Activity) (s : FrontState) (w r : Packets) (f : Front) → (IsSending a → ⊥) → FrontStands a s w r f → Windowless f
-    no_window Free s w r f n h = (l.rest_says s w r f h).1
-    no_window (Sending t) s w r f n h = absurd (n (t, refl))
-    no_window (Posting t) s w r f n h = (l.post_says w r f h.0).1
-    no_window (Polling t) s w r f n h = (l.poll_says w r f h.0).1
-
-    no_post : (a : Activity) (s : FrontState) (w r : Packets) (f : Front) → (IsPosting a → ⊥) → FrontStands a s w r f → Postless f
-    no_post Free s w r f n h = (l.rest_says s w r f h).2
-    no_post (Sending t) s w r f n h = (l.sending_says w r f h.0).1
-    no_post (Posting t) s w r f n h = absurd (n (t, refl))
-    no_post (Polling t) s w r f n h = (l.poll_says w r f h.0).2
-
-    no_halt : (a : Activity) (s : FrontState) (w r : Packets) (f : Front) → FrontStands a s w r f → s.halt ≡ None
-    no_halt Free s w r f h = l.running s w r f h
-    no_halt (Sending t) s w r f h = h.2
-    no_halt (Posting t) s w r f h = h.2
-    no_halt (Polling t) s w r f h = h.2
-
-    -- the front's activities
-    sent_stands : (p : Pair) (c : Packets) (f : Front) (b : Back) (t : Steps FrontEnding) → Inv p.memory f b → Sendings p.sent p.received f →
-        Safe Inv (Sendings p.sent p.received) (FrontEnd p.sent p.received) f t → p.front.halt ≡ None → BackStands p.at p.back c (flat_map given_by p.deeds) b p.memory.awaits → p.back.halt ≡ None →
-        Done p.deeds c → ((more : Packets) × (p.sent ≡ c ++ more)) → Good (sending p t)
-    sent_stands p c f b (done e) i k h n r q v u = (c, f, b, record { inv = i; front = h; back = r; running = q; copies = v; sent = u })
-    sent_stands p c f b (ask w g) i k h n r q v u = (c, f, b, record { inv = i; front = (k, h, n); back = r; running = q; copies = v; sent = u })
-    sent_stands p c f b never i k h n r q v u = absurd h
-
-    posted_stands : (p : Pair) (c : Packets) (f : Front) (b : Back) (t : Steps FrontEnding) → Inv p.memory f b → Posts p.sent p.received f →
-        Safe Inv (Posts p.sent p.received) (FrontEnd p.sent p.received) f t → p.front.halt ≡ None → BackStands p.at p.back c (flat_map given_by p.deeds) b p.memory.awaits → p.back.halt ≡ None →
-        Done p.deeds c → ((more : Packets) × (p.sent ≡ c ++ more)) → Good (posting p t)
-    posted_stands p c f b (done e) i k h n r q v u = (c, f, b, record { inv = i; front = h; back = r; running = q; copies = v; sent = u })
-    posted_stands p c f b (ask w g) i k h n r q v u = (c, f, b, record { inv = i; front = (k, h, n); back = r; running = q; copies = v; sent = u })
-    posted_stands p c f b never i k h n r q v u = absurd h
-
-    polled_stands : (p : Pair) (c : Packets) (f : Front) (b : Back) (t : Steps FrontEnding) → Inv p.memory f b → Polls p.sent p.received f →
-        Safe Inv (Polls p.sent p.received) (FrontEnd p.sent p.received) f t → p.front.halt ≡ None → BackStands p.at p.back c (flat_map given_by p.deeds) b p.memory.awaits → p.back.halt ≡ None →
-        Done p.deeds c → ((more : Packets) × (p.sent ≡ c ++ more)) → Good (polling p t)
-    polled_stands p c f b (done e) i k h n r q v u = (c, f, b, record { inv = i; front = h; back = r; running = q; copies = v; sent = u })
-    polled_stands p c f b (ask w g) i k h n r q v u = (c, f, b, record { inv = i; front = (k, h, n); back = r; running = q; copies = v; sent = u })
-    polled_stands p c f b never i k h n r q v u = absurd h
-
-    free : (p : Pair) (f : Front) → p.activity ≡ Free → FrontStands p.activity p.front p.sent p.received f → Rest p.front p.sent p.received f
-    free p f a h = subst (λ x. FrontStands x p.front p.sent p.received f) a h
-
-    begun_send : (p : Pair) (bytes : List ℕ) (c : Packets) (f : Front) (b : Back) (r : Result (Unit {0}) SendRefusal) → send_result p.front bytes ≡ r → All IsByte bytes → p.activity ≡ Free →
-        Stands p c f b → Good (begin_send fw r p bytes)
-    begun_send p bytes c f b (Ok u) e q a g =
-        let rest = free p f a g.front in
-        let z = l.begin_send p.front p.sent p.received bytes f rest e q p.memory b g.inv in
-        sent_stands (record p { sent = p.sent ++ bytes ∷ [] }) c z.0 b (send_tree fw p.front bytes) z.1 z.2 z.3 (l.running p.front p.sent p.received f rest) g.back g.running g.copies
-        (g.sent.0 ++ bytes ∷ [], ap (λ x. x ++ bytes ∷ []) g.sent.1 ∙ append_assoc c g.sent.0 (bytes ∷ []))
-    begun_send p bytes c f b (Err x) e q a g = (c, f, b, g)
-
-    begun_post : (p : Pair) (c : Packets) (f : Front) (b : Back) (r : Result (Unit {0}) PostRefusal) → post_result p.front ≡ r → p.activity ≡ Free → Stands p c f b → Good (begin_post fw r p)
-    begun_post p c f b (Ok u) e a g =
-        let rest = free p f a g.front in
-        let z = l.begin_post p.front p.sent p.received f rest e in
-        posted_stands p c f b (post_tree fw p.front) g.inv z.0 z.1 (l.running p.front p.sent p.received f rest) g.back g.running g.copies g.sent
-    begun_post p c f b (Err x) e a g = (c, f, b, g)
-
-    begun_poll : (p : Pair) (c : Packets) (f : Front) (b : Back) (r : Result (Unit {0}) PollRefusal) → poll_result p.front ≡ r → p.activity ≡ Free → Stands p c f b → Good (begin_poll fw r p)
-    begun_poll p c f b (Ok u) e a g =
-        let rest = free p f a g.front in
-        let z = l.begin_poll p.front p.sent p.received f rest e in
-        polled_stands p c f b (poll fw p.front) g.inv z.0 z.1 (l.running p.front p.sent p.received f rest) g.back g.running g.copies g.sent
-    begun_poll p c f b (Err x) e a g = (c, f, b, g)
-
-    send_stands : (p : Pair) (bytes : List ℕ) (c : Packets) (f : Front) (b : Back) (a : Activity) → p.activity ≡ a → All IsByte bytes → Stands p c f b → Good (on_send fw a p bytes)
-    send_stands p bytes c f b Free a q g = begun_send p bytes c f b (send_result p.front bytes) refl q a g
-    send_stands p bytes c f b (Sending t) a q g = (c, f, b, g)
-    send_stands p bytes c f b (Posting t) a q g = (c, f, b, g)
-    send_stands p bytes c f b (Polling t) a q g = (c, f, b, g)
-
-    post_stands : (p : Pair) (c : Packets) (f : Front) (b : Back) (a : Activity) → p.activity ≡ a → Stands p c f b → Good (on_post fw a p)
-    post_stands p c f b Free a g = begun_post p c f b (post_result p.front) refl a g
-    post_stands p c f b (Sending t) a g = (c, f, b, g)
-    post_stands p c f b (Posting t) a g = (c, f, b, g)
-    post_stands p c f b (Polling t) a g = (c, f, b, g)
-
-    poll_stands : (p : Pair) (c : Packets) (f : Front) (b : Back) (a : Activity) → p.activity ≡ a → Stands p c f b → Good (on_poll fw a p)
-    poll_stands p c f b Free a g = begun_poll p c f b (poll_result p.front) refl a g
-    poll_stands p c f b (Sending t) a g = (c, f, b, g)
-    poll_stands p c f b (Posting t) a g = (c, f, b, g)
-    poll_stands p c f b (Polling t) a g = (c, f, b, g)
-
-    back_kept : (p : Pair) (c : Packets) (b : Back) (v : Want) → BackStands p.at p.back c (flat_map given_by p.deeds) b p.memory.awaits →
-        BackStands p.at p.back c (flat_map given_by p.deeds) b (after v p.memory).awaits
-    back_kept p c b v h = subst (BackStands p.at p.back c (flat_map given_by p.deeds) b) (sym (after_awaits v p.memory)) h
-
-    front_stands : (p : Pair) (n : ℕ) (c : Packets) (f : Front) (b : Back) (a : Activity) → p.activity ≡ a → n < 2 ^ 64 → Stands p c f b → Good (on_front a p n)
-    front_stands p n c f b Free a s g = (c, f, b, g)
-    front_stands p n c f b (Sending (done e)) a s g = (c, f, b, g)
-    front_stands p n c f b (Sending never) a s g = (c, f, b, g)
-    front_stands p n c f b (Sending (ask w k)) a s g =
-        let h : FrontStands (Sending (ask w k)) p.front p.sent p.received f = subst (λ x. FrontStands x p.front p.sent p.received f) a g.front in
-        let r = h.1 p.memory b g.inv in
-        sent_stands (record p { memory = after w p.memory }) c r.0 b (k (answer w p.memory n)) r.1 r.2 (r.3 n s) h.2 (back_kept p c b w g.back) g.running g.copies g.sent
-    front_stands p n c f b (Posting (done e)) a s g = (c, f, b, g)
-    front_stands p n c f b (Posting never) a s g = (c, f, b, g)
-    front_stands p n c f b (Posting (ask w k)) a s g =
-        let h : FrontStands (Posting (ask w k)) p.front p.sent p.received f = subst (λ x. FrontStands x p.front p.sent p.received f) a g.front in
-        let r = h.1 p.memory b g.inv in
-        posted_stands (record p { memory = after w p.memory }) c r.0 b (k (answer w p.memory n)) r.1 r.2 (r.3 n s) h.2 (back_kept p c b w g.back) g.running g.copies g.sent
-    front_stands p n c f b (Polling (done e)) a s g = (c, f, b, g)
-    front_stands p n c f b (Polling never) a s g = (c, f, b, g)
-    front_stands p n c f b (Polling (ask w k)) a s g =
-        let h : FrontStands (Polling (ask w k)) p.front p.sent p.received f = subst (λ x. FrontStands x p.front p.sent p.received f) a g.front in
-        let r = h.1 p.memory b g.inv in
-        polled_stands (record p { memory = after w p.memory }) c r.0 b (k (answer w p.memory n)) r.1 r.2 (r.3 n s) h.2 (back_kept p c b w g.back) g.running g.copies g.sent
-
     -- the back's turns and deliveries
     -- a turn that isn't idle is over
     ready_stands : (p : Pair) (c : Packets) (f : Front) (b : Back) (s : BackState) (g : Packets) → Inv p.memory f b → FrontStands p.activity p.front p.sent p.received f → Ready s c g b →
@@ -297,7 +102,7 @@ module _ (bw : BackWiring) (fw : FrontWiring) {Front Back : Type 0} (Inv : Memor
         back = subst (λ x. BackStands p.at p.back c x b p.memory.awaits) (sym v) (subst (λ x. BackStands x p.back c g b p.memory.awaits) (sym a) (subst (λ x. BackStands (First false (half_turn bw s)) x c g b p.memory.awaits) (sym e) (refl, r)));
         running = subst (λ x. x.halt ≡ None) (sym e) (l.ready_runs s c g b r).1;
         copies = q;
-        sent = l.copied s p.sent p.received c g p.memory f b (says p.activity p.front p.sent p.received f h) i r;
+        sent = l.copied s p.sent p.received c g p.memory f b (fronts.says bw fw Inv Rest Sendings Posts Polls Says Windowless Postless Ready Slept givens l p.activity p.front p.sent p.received f h) i r;
       },
     )
 
@@ -543,10 +348,10 @@ module _ (bw : BackWiring) (fw : FrontWiring) {Front Back : Type 0} (Inv : Memor
     deliver_stands p packet c f b (Waiting asleep pages t) a q g = (c, f, b, g)
 
     step_stands : (p : Pair) (e : PairEvent) (n : ℕ) (c : Packets) (f : Front) (b : Back) → IsBytes e → n < 2 ^ 64 → Stands p c f b → Good (step bw fw p e n)
-    step_stands p (Send packet) n c f b q s g = send_stands p packet c f b p.activity refl q g
-    step_stands p Post n c f b q s g = post_stands p c f b p.activity refl g
-    step_stands p Poll n c f b q s g = poll_stands p c f b p.activity refl g
-    step_stands p FrontStep n c f b q s g = front_stands p n c f b p.activity refl s g
+    step_stands p (Send packet) n c f b q s g = fronts.send_stands bw fw Inv Rest Sendings Posts Polls Says Windowless Postless Ready Slept givens l p packet c f b p.activity refl q g
+    step_stands p Post n c f b q s g = fronts.post_stands bw fw Inv Rest Sendings Posts Polls Says Windowless Postless Ready Slept givens l p c f b p.activity refl g
+    step_stands p Poll n c f b q s g = fronts.poll_stands bw fw Inv Rest Sendings Posts Polls Says Windowless Postless Ready Slept givens l p c f b p.activity refl g
+    step_stands p FrontStep n c f b q s g = fronts.front_stands bw fw Inv Rest Sendings Posts Polls Says Windowless Postless Ready Slept givens l p n c f b p.activity refl s g
     step_stands p BackStep n c f b q s g = back_stands p n c f b p.at refl s g
     step_stands p (Deliver packet) n c f b q s g = deliver_stands p packet c f b p.at refl q g
     step_stands p (Await pages) n c f b q s g = await_stands p pages c f b p.at refl g
@@ -580,14 +385,14 @@ module _ (bw : BackWiring) (fw : FrontWiring) {Front Back : Type 0} (Inv : Memor
         let b = g.2 in
         let s = g.3 in
         record {
-          front = no_halt p.activity p.front p.sent p.received f s.front;
+          front = fronts.no_halt bw fw Inv Rest Sendings Posts Polls Says Windowless Postless Ready Slept givens l p.activity p.front p.sent p.received f s.front;
           back = s.running;
           copies = (c, s.copies.0, s.sent);
           arrived = s.copies.1;
-          received = given_end p.at p.back c (flat_map given_by p.deeds) p.received b p.memory.awaits s.back (l.got p.sent p.received p.memory f b (says p.activity p.front p.sent p.received f s.front) s.inv);
+          received = given_end p.at p.back c (flat_map given_by p.deeds) p.received b p.memory.awaits s.back (l.got p.sent p.received p.memory f b (fronts.says bw fw Inv Rest Sendings Posts Polls Says Windowless Postless Ready Slept givens l p.activity p.front p.sent p.received f s.front) s.inv);
           told = λ index pages a n k.
-              l.tells p.memory f b index pages s.inv (no_post p.activity p.front p.sent p.received f k s.front) a n;
+              l.tells p.memory f b index pages s.inv (fronts.no_post bw fw Inv Rest Sendings Posts Polls Says Windowless Postless Ready Slept givens l p.activity p.front p.sent p.received f k s.front) a n;
           heard = λ a n k.
               let z : Slept p.back c (flat_map given_by p.deeds) b = subst (λ x. BackStands x p.back c (flat_map given_by p.deeds) b p.memory.awaits) a s.back in
-              l.hears p.back c (flat_map given_by p.deeds) p.memory f b s.inv z (no_window p.activity p.front p.sent p.received f k s.front) n;
+              l.hears p.back c (flat_map given_by p.deeds) p.memory f b s.inv z (fronts.no_window bw fw Inv Rest Sendings Posts Polls Says Windowless Postless Ready Slept givens l p.activity p.front p.sent p.received f k s.front) n;
         }

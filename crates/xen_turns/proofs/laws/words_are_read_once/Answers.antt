@@ -1,4 +1,5 @@
-use Rattle.xen_turns.proofs.OnceLemmas.{covered_distinct, fragments_once, posted_distinct, slots_once, targets_once, turns_once}
+use Rattle.xen_turns.proofs.TurnOnceLemmas.{posted_distinct, turns_once}
+use Rattle.xen_turns.proofs.OnceLemmas.{covered_distinct, fragments_once, slots_once, targets_once}
 use Rattle.xen_turns.proofs.laws.words_are_read_once.Goals as goal
 
 pub returns : goal.returns

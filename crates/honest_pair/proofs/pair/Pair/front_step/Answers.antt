@@ -6,7 +6,8 @@ use Rattle.xen_steps.specs.declared.want.Want.{Want}
 use Rattle.honest_pair.specs.Machine.Memory.{Memory, answer}
 use Rattle.honest_pair.specs.Held.{memory_in}
 use Rattle.honest_pair.specs.Shows.{IsGoing}
-use Rattle.honest_pair.proofs.FrontLemmas.{goes_front, not_done, on_ok_map, rests_front}
+use Rattle.honest_pair.proofs.IdleLemmas.{not_done}
+use Rattle.honest_pair.proofs.FrontLemmas.{goes_front, on_ok_map, rests_front}
 use Rattle.honest_pair.proofs.pair.Pair.front_step.Goals as goal
 
 -- the event of what was answered
