@@ -8,6 +8,8 @@ import shlex
 import shutil
 import subprocess
 import sys
+import tempfile
+from typing import Optional
 
 from laxonje_tools.output import fail
 
@@ -44,6 +46,8 @@ MEMCMP = "#define memcmp inlined_memcmp\n"
 # what clang isn't to do: compare distances where C compares addresses, and store once through one of two addresses
 # where C stores twice. Other versions may not know these words
 KEPT_AS_IN_C = ["-indvars-predicate-loops=false", "-sink-common-insts=false"]
+# and store two numbers of a struct at once; and join two conditions to one
+STORED_APART, TESTED_APART = "-combiner-store-merging=false", "-simplifycfg-branch-fold-threshold=0"
 # of what clang says of stacks, a line for each function: where it stands, its name, and how many bytes it uses
 FRAME = re.compile(r":(?P<name>[^:\t\n]+)\t(?P<bytes>[0-9]+)\t", re.M)
 # a function `memcmp` of a file's own, as there is no library: behind a type or an attribute, and not in the condition of an `if`
@@ -73,9 +77,9 @@ def check_source(source: str) -> None:
         fail(f"{source}: this isn't called .c: give a file of C, or an object file for BPF")
 
 
-def compile_with(words: list[str]) -> int:
+def compile_with(words: list[str], ours: list[str]) -> int:
     """clang's status. What it says goes to standard error, but for words of ours that it doesn't know."""
-    ours = [word for word in KEPT_AS_IN_C if not any(word.partition("=")[0] in given for given in words)]
+    ours = [word for word in ours if not any(word.partition("=")[0] in given for given in words)]
     while True:
         more = [part for word in ours for part in ("-mllvm", word)]
         run = subprocess.run([*words, *more], stderr=subprocess.PIPE, check=False)
@@ -89,19 +93,24 @@ def compile_with(words: list[str]) -> int:
 
 
 class Compiler:
-    """clang and its words for one file, with a folder for what it makes."""
+    """clang and its words for one file, with a folder for what it makes. `ours`: words that it may not know."""
 
-    def __init__(self, source: str, folder: str) -> None:
-        self.source, self.folder, self.clang = source, folder, os.environ.get("CLANG", "clang")
+    def __init__(self, source: str, ours: list[str] = KEPT_AS_IN_C) -> None:
+        self.source, self.ours, self.clang = source, ours, os.environ.get("CLANG", "clang")
         if shutil.which(self.clang) is None:
             fail(f"{self.clang} isn't on the PATH: install it (Debian: apt install clang), or name one, as CLANG=clang-19")
         check_source(source)
         self.words = [*flags(), "-x", "c", os.path.join(".", source) if source.startswith("-") else source]
-        self.header = os.path.join(folder, "inlined.h")
+        self.room = tempfile.TemporaryDirectory()  # it is there as long as this is
+        self.header = os.path.join(self.room.name, "inlined.h")
         with open(self.header, "w", encoding="utf-8") as file:
             file.write(INLINED if self.defines_memcmp() else INLINED + MEMCMP)
         # a loop that clang keeps is unwound later, and which ones it keeps is nobody's concern
         self.words = ["-Wno-pass-failed", "-Wno-macro-redefined", "-include", self.header, *self.words]
+
+    def with_word(self, word: str) -> Optional[Compiler]:
+        """The same with one more of these words; None if this has it."""
+        return None if word in self.ours else Compiler(self.source, [*self.ours, word])
 
     def target(self) -> list[str]:
         """For which machine it compiles, and how well."""
@@ -120,15 +129,16 @@ class Compiler:
 
     def compiled(self) -> bytes:
         """The bytes of the object file that clang makes. What clang says goes to standard error."""
-        target = os.path.join(self.folder, "program.o")
-        if compile_with([self.clang, *self.target(), *self.words, "-fstack-usage", "-c", "-o", target]) or not os.path.exists(target):
+        target = os.path.join(self.room.name, "program.o")
+        words = [self.clang, *self.target(), *self.words, "-fstack-usage", "-c", "-o", target]
+        if compile_with(words, self.ours) or not os.path.exists(target):
             fail(f"{self.source}: {self.clang} made no program of it")
         with open(target, "rb") as file:
             return file.read()
 
     def frames(self) -> dict[str, int]:
         """How many bytes of the stack each function of the object uses, by its symbol's name."""
-        with open(os.path.join(self.folder, "program.su"), encoding="utf-8", errors="backslashreplace") as file:
+        with open(os.path.join(self.room.name, "program.su"), encoding="utf-8", errors="backslashreplace") as file:
             return {row["name"]: int(row["bytes"]) for row in FRAME.finditer(file.read())}
 
     def declared(self) -> dict[str, int]:

@@ -69,7 +69,8 @@ def memory_of(sections: dict[str, Part], relocations: list[Relocation], changed:
                 memory.maps.append((variable.name, *size))
             continue
         if (row.section, variable) in places and row.section.startswith(VARIABLES):
-            memory.faults.append((row.slot, f"stores to {row.name or variable.name}: {CHANGES}"))
+            stored = row.section if variable is None else variable.name
+            memory.faults.append((row.slot, f"stores to {row.name or stored}: {CHANGES}"))
         first, end = extent_of(symbols, part, variable, row.place)
         memory.constants[row.section] = part.data
         place = {"section": row.section, "place": row.place, "first": first, "end": end}

@@ -2,7 +2,6 @@
 from __future__ import annotations
 
 import struct
-import tempfile
 from typing import TYPE_CHECKING, Callable, Iterable, Iterator, NamedTuple, Optional
 
 from laxonje_tools.output import fail, stop_on
@@ -36,7 +35,7 @@ class Filter(NamedTuple):
     own say so, which `xdpbox` doesn't know; `form` has constants as maps, if they can be. `place`: of a slot its line of C,
     or None. `per_cpu`: the maps that are per CPU in Linux. `narrow`: those whose values have numbers of fewer than eight bytes.
     `notes`: what its author should know. `values`: its constants that can be set. `again`: the same with more values in rows, None if
-    there are none."""
+    there are none. `made_with`: the same as clang makes it with one more word, None if it isn't another one."""
 
     settings: dict
     place: Callable
@@ -45,6 +44,7 @@ class Filter(NamedTuple):
     notes: list
     values: list[Constant]
     again: Callable[[], Optional[Filter]] = lambda: None
+    made_with: Callable[[str], Optional[Filter]] = lambda word: None
 
     @property
     def form(self) -> dict:
@@ -82,22 +82,24 @@ class Asked(NamedTuple):
 
 def read(asked: Asked) -> Filter:
     """The filter in a file. Ends if settings can't have it."""
-    with tempfile.TemporaryDirectory() as folder:
-        compiler = None if is_object(asked.source) else Compiler(asked.source, folder)
-        data = bytes_of(asked.source) if compiler is None else compiler.compiled()
-        try:
-            return filter_of(asked, elf.sections_of(data), compiler)
-        except elf.NoObject as fault:
-            by = "" if compiler is None else f"{compiler.clang} made no object for BPF: look at CFLAGS: "
-            fail(f"{asked.source}: {by}{fault}")
-        except BROKEN as fault:
-            fail(f"{asked.source}: its object file isn't as it should be: {fault}")
+    return read_by(asked, None if is_object(asked.source) else Compiler(asked.source))
+
+
+def read_by(asked: Asked, compiler: Optional[Compiler]) -> Filter:
+    """The same as a compiler makes it; None: of an object."""
+    data = bytes_of(asked.source) if compiler is None else compiler.compiled()
+    try:
+        return filter_of(asked, elf.sections_of(data), compiler)
+    except elf.NoObject as fault:
+        by = "" if compiler is None else f"{compiler.clang} made no object for BPF: look at CFLAGS: "
+        fail(f"{asked.source}: {by}{fault}")
+    except BROKEN as fault:
+        fail(f"{asked.source}: its object file isn't as it should be: {fault}")
 
 
 def object_and_function(asked: Asked) -> tuple[bytes, str]:
     """The object file of a filter, as a loader reads it, and the name of the function."""
-    with tempfile.TemporaryDirectory() as folder:
-        data = bytes_of(asked.source) if is_object(asked.source) else Compiler(asked.source, folder).compiled()
+    data = bytes_of(asked.source) if is_object(asked.source) else Compiler(asked.source).compiled()
     return data, chosen(asked, elf.sections_of(data)).name
 
 
@@ -154,6 +156,12 @@ class Given(NamedTuple):
         except Fault:
             return None
 
+    def made_with(self, word: str, settings: dict) -> Optional[Filter]:
+        """The filter as clang makes it with one more word; None if that has these settings too, or of an object."""
+        compiler = None if self.compiler is None else self.compiler.with_word(word)
+        found = None if compiler is None else read_by(self.asked, compiler)
+        return None if found is None or found.settings == settings else found
+
 
 def with_rows(given: Given, is_again: bool) -> Optional[Filter]:
     """The filter with values in rows that need it. `is_again`: whether more are; None if there are no more."""
@@ -192,7 +200,8 @@ def with_rows(given: Given, is_again: bool) -> Optional[Filter]:
     per_cpu = {row.name for row in declared if row.type in faults.PER_CPU}
     narrow = {row.name for row in declared if row.has_parts} | (set() if large is None else large.narrow)
     kept = [row for row in values_of(sections) if row.name not in begun]
-    return Filter(settings, place, per_cpu, narrow, notes, kept, lambda: None if is_again else given.again())
+    others = () if is_again else (given.again, lambda word: given.made_with(word, settings))
+    return Filter(settings, place, per_cpu, narrow, notes, kept, *others)
 
 
 def without_calls(

@@ -14,6 +14,7 @@ verifier judges the result, and `xdpbox same`, which is proved, shows that it is
     copies        a slot together with its constants: loops become chains of copies
     addresses     what registers stand for, and where ways with different addresses meet
     keys          keys of lookups that aren't on the stack
+    joined        whether clang joined two conditions to one
     counts        a load, an addition and a store of a counter as one atomic addition
     lowered       which stores to counters may take them below 0
     emit          the copies, and what is put between them, as a program
@@ -21,7 +22,8 @@ verifier judges the result, and `xdpbox same`, which is proved, shows that it is
     marks         what a search has found out
     search        from refusal to refusal until the verifier accepts
     ways          the ways in which that is searched
-    written_out   a program with numbers of fewer than eight bytes, and keys outside of the stack, written out
+    written_out   a program with numbers of fewer than eight bytes, keys outside of the stack, and masks of indices written out
+    split         a program with one store for each number where one stores several
     lines         a program with other lines in the place of some
     seen          whether a program shows the number of an address of a map's value
     guarded       a program with tests in front of accesses to the packet

@@ -13,13 +13,14 @@ from laxonje_tools.output import fail, in_one_line
 from .graph import INDEX, SIZE, Fail
 from .guarded import GUARDED, MOST_GUARDS, with_guards
 from .lowered import may_lower
-from .parts import check_values, places_of, with_counters
+from .parts import SharedCounter, check_values, places_of, with_counters
 from .search import OF_THE_BYTES
 from .settings import as_text, instructions_of, relocations_of, without_rows
 from .shown import ALONE, BY_COUNTS, PROVED, UNALIKE, UNDECIDED, NoComparison, Rewriting, question, shown
+from .split import with_split
 from .verifier import StillRefused, Verdict, verdict
 from .ways import by_copies, by_place, in_rows, reread, searched_again, searches, uncounted, without_counts
-from .written_out import written_out
+from .written_out import More, written_out
 
 if TYPE_CHECKING:
     from .marks import Result
@@ -150,13 +151,14 @@ def xdpbox_program() -> Optional[str]:
 
 class Wanted(NamedTuple):
     """`guard`: an access that nothing shows to lie in the packet may get a test in front of it that ends the program. `per_cpu`: whether
-    a store's slot is to a per-CPU map. `at_once`: whether the first searches alone are made, since another form is shown. `asked`: how
-    many slots the results had that weren't shown to be the same."""
+    a store's slot is to a per-CPU map. `at_once`: whether the first searches alone are made, since another form is shown, or may be.
+    `asked`: how many slots the results had that weren't shown to be the same. `splits`: whether stores of several numbers are split."""
 
     guard: bool = False
     per_cpu: Callable = lambda slot: False
     at_once: bool = False
     asked: Optional[list[int]] = None
+    splits: bool = False
 
     @property
     def is_enough(self) -> bool:
@@ -178,7 +180,8 @@ def better_of(forms: list[dict], xdpbox: str, wanted: Wanted = Wanted()) -> tupl
     found, refusals = [], []
     for settings in forms:
         try:
-            found.append((settings, straightened(settings, xdpbox, wanted._replace(at_once=any(row.how == ALONE for _, row in found)))))
+            at_once = wanted.at_once or any(row.how == ALONE for _, row in found)
+            found.append((settings, straightened(settings, xdpbox, wanted._replace(at_once=at_once))))
         except Refused as refused:
             refusals.append(refused)
         if found and found[-1][1].how in ENOUGH:
@@ -194,9 +197,24 @@ def straightened(settings: dict, xdpbox: str, wanted: Wanted = Wanted()) -> Opti
         return rewritten(settings, xdpbox, wanted)
     except Refused as refused:
         found = guarded(settings, xdpbox, wanted, refused.why) if wanted.guard else None
+        found = split(settings, xdpbox, wanted, refused.why) if wanted.splits and found is None else found
         if found is None:
             raise
         return found
+
+
+def split(settings: dict, xdpbox: str, wanted: Wanted, why: Fail) -> Optional[Straight]:
+    """A program with one store for each number where one stores several; None if there is none. `why`: it was refused without."""
+    stores = why.stores if isinstance(why, SharedCounter) else {}
+    given = with_split(settings, instructions_of(settings), stores) if stores else None
+    try:
+        found = None if given is None else rewritten(given.settings, xdpbox, wanted)
+    except Refused:
+        return None
+    if found is None:
+        return None
+    notes = [(given.origins[slot], note) for slot, note in found.notes]
+    return replace(found, notes=notes, written_out=found.written_out or with_counters(given.settings, found.moved))
 
 
 def guarded(settings: dict, xdpbox: str, wanted: Wanted, why: Fail) -> Optional[Straight]:
@@ -287,7 +305,9 @@ def taken_best(xdpbox: str, settings: dict, result: Result, wanted: Wanted) -> t
         return None
 
     program = first_shown(in_rows, by_copies, uncounted)
-    program = program or taken_written_out(xdpbox, settings, result, wanted, with_words=True) or first_shown(reread)
+    for more in (More(words=True), More(*(True for _ in More._fields))):
+        program = program or taken_written_out(xdpbox, settings, result, wanted, more)
+    program = program or first_shown(reread)
     return (None, plainest_of(faults)) if program is None else (program, None)
 
 
@@ -296,11 +316,11 @@ def plainest_of(faults: list[Fail]) -> Fail:
     return next((fault for fault in faults if fault.cause in ("V10", INDEX)), faults[0])
 
 
-def taken_written_out(xdpbox: str, settings: dict, result: Result, wanted: Wanted, with_words: bool = False) -> Optional[Straight]:
+def taken_written_out(xdpbox: str, settings: dict, result: Result, wanted: Wanted, more: More = More()) -> Optional[Straight]:
     """A result of the program written out that is proved to be the same as that; None if there is none. A number that is stored is
     read first: so nothing is said of several queues then. What a count adds is the difference from what was loaded, so that no count
-    of another queue is lost. `with_words`: whether numbers on the stack are written out too."""
-    other = written_out(settings, instructions_of(settings), result, with_words)
+    of another queue is lost. `more`: what is written out beside."""
+    other = written_out(settings, instructions_of(settings), result, more)
     if other is None or any(row.get("values") and result.moved.get(row["name"]) for row in settings["map"]):
         return None
     for found in searched_again(other.settings, xdpbox, result):

@@ -26,13 +26,13 @@ from .instructions import (
 if TYPE_CHECKING:
     from .instructions import Code, Instruction
 
-SIZE, INDEX = "size", "index"
+SIZE, INDEX, SHARED = "size", "index", "shared"
 MOST_SHIFT, LSH_CONSTANT, RSH_CONSTANT = 16, ALU64 | LSH, ALU64 | RSH
 
 
 class Fail(Exception):
     """Why a program can't be straightened, in words for its author. `slot`: where, in the program as it was. `cause`:
-    of the verifier's, or SIZE or INDEX, which say what to write instead."""
+    of the verifier's, or SIZE or INDEX, which say what to write instead, or SHARED: of numbers that lie in one counter."""
 
     def __init__(self, words: str, slot: Optional[int] = None, cause: Optional[str] = None) -> None:
         super().__init__(words)

@@ -2,7 +2,7 @@
 from __future__ import annotations
 
 from dataclasses import dataclass, field
-from typing import TYPE_CHECKING, NamedTuple, Optional
+from typing import TYPE_CHECKING, AbstractSet, NamedTuple, Optional
 
 if TYPE_CHECKING:
     from .instructions import Code
@@ -88,7 +88,7 @@ class Result:
     """A program that the verifier accepts. `labels`: of its slots. `code`, `counts`, `differences`: of the original.
     `moved`: by map the parts of values that have a counter of their own. `way`: of the search, which numbers it tells apart and
     what it marks. `has_rows`: whether a masked number can be told apart where it is one of a row. `found`: where its
-    accesses in values lie."""
+    accesses in values lie. `masks`: the slots of masks whose numbers would be one of a row between two shifts."""
 
     words: list
     relocations: list
@@ -100,6 +100,7 @@ class Result:
     way: tuple
     has_rows: bool = False
     found: Optional[Found] = None
+    masks: AbstractSet[int] = frozenset()
 
     @property
     def text(self) -> tuple:

@@ -22,10 +22,11 @@ class Row(NamedTuple):
 
 class Masked(NamedTuple):
     """What a number can be before a slot, behind its mask and the shifts that follow. `row`: where it can be told apart in a row
-    in front of them, or None."""
+    in front of them, or None. `mask`: the mask's slot."""
 
     numbers: Sequence[int]
     row: Optional[Row]
+    mask: int
 
 
 def masked(code: Code, slot: int, register: int) -> Optional[Masked]:
@@ -41,7 +42,7 @@ def masked(code: Code, slot: int, register: int) -> Optional[Masked]:
             return None
         elif instruction.operation == AND and instruction.immediate > 0:
             numbers = parts_of(instruction.immediate)
-            return Masked([after_shifts(number, later) for number in numbers], row_of(code, slot, numbers, bool(later)))
+            return Masked([after_shifts(number, later) for number in numbers], row_of(code, slot, numbers, bool(later)), slot)
         else:
             later.append(instruction)
     return None
@@ -97,6 +98,18 @@ def parts_of(mask: int) -> Sequence[int]:
     for bit in range(mask.bit_length()):
         numbers += [number | 1 << bit for number in numbers] if mask >> bit & 1 else []
     return numbers
+
+
+def in_shifts(mask: Instruction) -> Iterator[tuple]:
+    """The instructions that do what a mask of bits beside each other does, of which the lowest is left out: so the number is one of a
+    row between two shifts. None of another mask."""
+    low = (mask.immediate & -mask.immediate).bit_length() - 1
+    row = mask.immediate >> low
+    if mask.opcode == AND_CONSTANT and mask.immediate > 0 and low and not row & row + 1:
+        register = mask.destination
+        yield RSH_CONSTANT, register, 0, 0, low
+        yield AND_CONSTANT, register, 0, 0, row
+        yield LSH_CONSTANT, register, 0, 0, low
 
 
 class Bounded(NamedTuple):

@@ -7,7 +7,7 @@ from __future__ import annotations
 
 from typing import Iterable, Iterator, NamedTuple, Optional
 
-from .graph import Fail
+from .graph import SHARED, Fail
 
 COUNTER_BYTES, MOST_COUNTERS = 8, 8
 EACH_WHOLE = "make each of them a __u64"
@@ -58,6 +58,15 @@ class NeedsCounters(Fail):
     def __init__(self, name: str, parts: Iterable[Part], slot: int) -> None:
         super().__init__("a number shares its counter", slot)
         self.name, self.parts = name, list(parts)
+
+
+class SharedCounter(Fail):
+    """A store that may change another number of its counter. `stores`: by the slots of stores to several numbers at once these, from
+    where each store begins, if nothing loads several at once."""
+
+    def __init__(self, fault: Fail, stores: dict[int, list[Part]]) -> None:
+        super().__init__(f"{fault}", fault.slot, fault.cause)
+        self.stores = stores
 
 
 class Access(NamedTuple):
@@ -112,11 +121,14 @@ def check_parts(settings: dict, moved: Moved, reached: dict[Optional[str], set[A
         accesses = reached[name] | reached.get(None, set())
         own, wanted = moved.get(name, {}), {}
         for row in sorted(row for row in accesses if row.is_set):
-            whole = stored_below(declared(settings, name), row, [other.part for other in accesses])
+            try:
+                whole = stored_below(declared(settings, name), row, [other.part for other in accesses])
+            except Fail as fault:
+                raise SharedCounter(fault, stores_of_several(declared(settings, name), accesses)) from fault
             if whole is not None and whole not in own:
                 wanted.setdefault(whole, row.slot)
         if any(part.meets(other) for part in own for other in wanted):
-            raise Fail(f"{name} has numbers that are reached in several ways: {EACH_WHOLE}", min(wanted.values()))
+            raise Fail(f"{name} has numbers that are reached in several ways: {EACH_WHOLE}", min(wanted.values()), SHARED)
         if wanted and name is None:
             raise Fail("a store may change another number of its counter, of which the map isn't known", min(wanted.values()))
         if wanted:
@@ -153,14 +165,30 @@ def number_of(rows: list[dict], store: Access, whole: Part, reached: list[Part])
         raise shared(inside, store)
     if not inside and whole != store.part:
         words = f"a store of {store.part.size} bytes may change others of the {whole.size} that are reached at once"
-        raise Fail(f"{words}: {EACH_WHOLE}", store.slot)
+        raise Fail(f"{words}: {EACH_WHOLE}", store.slot, SHARED)
     return whole
+
+
+def stores_of_several(rows: list[dict], accesses: Iterable[Access]) -> dict[int, list[Part]]:
+    """By the slots of stores to several numbers these, from where each store begins; none if something loads several, or reaches bytes
+    of no number, or if a number isn't whole in such a store."""
+    numbers, found = [part_of(row) for row in rows], {}
+    for access in accesses:
+        inside = [part for part in numbers if access.part.meets(part)]
+        is_of_several = len(inside) > 1 and access.is_set and all(access.part.holds(part) for part in inside)
+        if is_of_several:
+            parts = [Part(part.place - access.part.place, part.size) for part in inside]
+            if found.setdefault(access.slot, parts) != parts:
+                return {}
+        elif len(inside) != 1 or not inside[0].holds(access.part):
+            return {}
+    return {} if any(row["bits"] for row in rows) else found
 
 
 def shared(rows: list[dict], store: Access) -> Fail:
     """Of a store to one of numbers that can't be told apart."""
     names = ", ".join(dict.fromkeys(row["name"] for row in rows))
-    return Fail(f"a store may change another one of {names}, which lie in one counter: {EACH_WHOLE}", store.slot)
+    return Fail(f"a store may change another one of {names}, which lie in one counter: {EACH_WHOLE}", store.slot, SHARED)
 
 
 def part_of(row: dict) -> Part:
@@ -190,7 +218,7 @@ def moved_with(settings: dict, moved: Moved, needs: NeedsCounters) -> Moved:
             needs.slot,
         )
     if any(part.counter != (part.end - 1) // COUNTER_BYTES for part in parts):
-        raise Fail(f"a number of {needs.name} lies in two counters: don't pack the struct", needs.slot)
+        raise Fail(f"a number of {needs.name} lies in two counters: don't pack the struct", needs.slot, SHARED)
     return {**moved, needs.name: {part: counters + number for number, part in enumerate(parts)}}
 
 

@@ -37,7 +37,7 @@ from .graph import SIZE, Fail, NoBound, TooMany
 from .indices import bound_index, places_in_value
 from .instructions import MASK_32
 from .marks import Anew, Form, Found, Marks, Result
-from .masks import bounded_copies, cuts, masked, row_before
+from .masks import bounded_copies, cuts, in_shifts, masked, row_before
 from .keys import KEY_ARGUMENT
 from .parts import COUNTER_BYTES, NeedsCounters, check_parts, has_parts, moved_with, with_counters
 from .settings import instructions_of, key_sizes, text_of, without_rows
@@ -71,7 +71,7 @@ class Search:
 
     def __init__(self, settings: dict, xdpbox: str, numbers: str, way: str, form: Form = Form()) -> None:
         self.settings, self.xdpbox, self.numbers, self.way = without_rows(settings), xdpbox, numbers, way
-        self.form, self.has_rows = form, False
+        self.form, self.has_rows, self.masks = form, False, set()
         self.code = instructions_of(settings)
         self.marks = Marks()
         if form.by_copies:
@@ -178,7 +178,7 @@ class Search:
         marks = self.marks
         way = self.numbers, self.way
         rows = words, relocations, self.labels, self.code, sorted(marks.counts), marks.differences, marks.moved, way, self.has_rows
-        return Result(*rows, self.found)
+        return Result(*rows, self.found, self.masks)
 
     # --- what a refusal asks for; each answers whether there is a new mark
 
@@ -379,6 +379,7 @@ class Search:
         places = places_in_value(*index, self.addresses, self.settings) if lost.was == "map_value" else ()
         row = row_before(self.code, label.slot, lost.register, places or lost.multiples_of(stride)) if found is None else found.row
         self.has_rows |= row is not None
+        self.masks |= {found.mask} if found is not None and row is None and [*in_shifts(self.code[found.mask])] else set()
         if self.form.in_rows and row is not None and row.slot not in self.marks.cases:
             self.marks.cases[row.slot] = Cases(lost.register, tuple(row.numbers), label.slot)
             return True

@@ -44,7 +44,7 @@ def uncounted(settings: dict, xdpbox: str, result: Result) -> Iterator[Result]:
 def searched_again(settings: dict, xdpbox: str, result: Result) -> Iterator[Result]:
     """What the same search finds of the program written out: with counts, and with each count as a difference; then the same with masked
     numbers told apart where they are of a row."""
-    for in_rows in (False, True) if result.has_rows else (False,):
+    for in_rows in (False, True) if result.has_rows or result.masks else (False,):
         for fuses in (True, False):
             with contextlib.suppress(Fail):
                 yield Search(settings, xdpbox, *result.way, Form(fuses, in_rows=in_rows)).run()

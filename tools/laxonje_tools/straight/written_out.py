@@ -1,5 +1,5 @@
 """A program with what `xdpbox same` doesn't know written out: numbers of fewer than eight bytes in maps' values as loads and stores of
-their whole counters, and keys outside of the stack as copies on it.
+their whole counters, keys outside of the stack as copies on it, and masks of indices without their lowest bits as shifts and a mask.
 
 It is done before all else: the result is made of the program so written out. Each instruction is written out for itself, by
 where a value's numbers lie and which map a lookup is in. A lookup of which ways with several maps meet is copied behind each map.
@@ -14,6 +14,7 @@ from typing import TYPE_CHECKING, AbstractSet, Iterator, NamedTuple, Optional
 from .accesses import COUNTER_BYTES, LSH_CONSTANT, cut_of
 from .graph import live_registers
 from .instructions import (
+    ADD_CONSTANT,
     ATOMIC_DOUBLE,
     CALL,
     EXIT,
@@ -28,8 +29,9 @@ from .instructions import (
     Instruction,
 )
 from .lines import Line, in_place_of, jump_target
-from .lowered import is_computed
 from .keys import copied_key
+from .lowered import is_computed
+from .masks import in_shifts
 from .own_stack import STACK_BYTES
 from .parts import with_counters
 from .seen import shows_addresses
@@ -37,10 +39,9 @@ from .stack_words import loads_of_stores, place_of
 
 if TYPE_CHECKING:
     from .instructions import Code
-    from .marks import Found, Result
     from .keys import Key
-    from .seen import shows_addresses
-from .stack_words import Place
+    from .marks import Found, Result
+    from .stack_words import Place
 
 MOST_SLOTS, MOST_BETWEEN = 4096, 16  # of a program; between the load of a map and a lookup that is copied
 MOST_WORDS = 10  # of the stack that are written to, for a key and two registers; the words of its numbers are behind these
@@ -53,32 +54,65 @@ class WrittenOut(NamedTuple):
     has_stores: bool
 
 
+class More(NamedTuple):
+    """What is written out beside numbers and keys. `words`: numbers on the stack; `masks`: masks of indices; `sums`: addresses that are
+    moved to a register after something was added to them; `sets`: numbers that are counted on some ways alone are set, and what another
+    queue counts in between is lost, as in Linux."""
+
+    words: bool = False
+    masks: bool = False
+    sums: bool = False
+    sets: bool = False
+
+
 class Unclear(Exception):
     """An instruction isn't the same on all ways to it, or accesses two counters."""
 
 
-def written_out(settings: dict, code: Code, result: Result, with_words: bool = False) -> Optional[WrittenOut]:
+def written_out(settings: dict, code: Code, result: Result, more: More = More()) -> Optional[WrittenOut]:
     """Settings with their program written out; None if there is nothing to write, or no room, or it isn't the same on all ways.
-    `code`: the program; `result`: what was found of it. `with_words`: whether numbers on the stack are written out too."""
-    found, loads = result.found, loads_of_stores(code) if with_words else {}
+    `code`: the program; `result`: what was found of it."""
+    found, loads, masks = result.found, loads_of_stores(code) if more.words else {}, result.masks if more.masks else set()
     words = {place: at for at, place in enumerate(sorted({place_of(code[load]) for load in loads}))}
-    if not (result.moved or found.keys or found.parts or loads):
-        return None
-    if any(result.moved.values()) and shows_addresses(code):
-        return None
-    if with_words and not loads or found.top - COUNTER_BYTES * (MOST_WORDS + len(words)) < -STACK_BYTES:
-        return None
     counted = {slot: row.known for slot, row in result.differences.items() if slot in found.parts and is_computed(code, slot, row)}
-    if any(result.differences[slot].told for slot in counted):
+    told = {slot for slot in counted if result.differences[slot].told}
+    sums = set(moved_sums(code)) if more.sums and found.parts else set()
+    others = loads or masks or sums
+    if not (result.moved or found.keys or found.parts or others) or any(more) and not (others or more.sets and told):
         return None
+    if any(result.moved.values()) and shows_addresses(code) or told and not more.sets:
+        return None
+    if found.top - COUNTER_BYTES * (MOST_WORDS + len(words)) < -STACK_BYTES:
+        return None
+    counted = {slot: loads for slot, loads in counted.items() if slot not in told}
     try:
-        writing = Writing(code, found, words, loads)
+        writing = Writing(code, found, words, loads, masks)
         rows = {slot: list(writing.lines(slot)) for slot in sorted(code)}
+        rows.update(row for slot in sums for row in moved_first(code, slot))
     except Unclear:
         return None
     total = sum(line.insn.slots for lines in rows.values() for line in lines)
     has_stores = any(code[slot].is_store and not code[slot].is_atomic for slot in found.parts)
     return None if total > MOST_SLOTS else WrittenOut(settings_with(settings, result, rows, counted), has_stores)
+
+
+def moved_sums(code: Code) -> Iterator[int]:
+    """The slots at which a constant is added to a register that is moved to another one next, and isn't read later."""
+    live = live_registers(code)
+    led_to = {jump_target(slot, insn) for slot, insn in code.items()}
+    for slot, insn in code.items():
+        move = code.get(slot + 1)
+        is_move = move is not None and move.opcode == MOVE_REGISTER and move.source == insn.destination
+        if is_move and insn.opcode == ADD_CONSTANT and slot + 1 not in led_to:
+            if insn.destination not in live[slot + 2] | {move.destination}:
+                yield slot
+
+
+def moved_first(code: Code, slot: int) -> Iterator[tuple[int, list[Line]]]:
+    """The move, and the addition behind it."""
+    move = code[slot + 1]
+    yield slot, [Line(move)]
+    yield slot + 1, [Line(replace(code[slot], destination=move.destination))]
 
 
 def settings_with(settings: dict, result: Result, rows: dict[int, list[Line]], counted: dict[int, frozenset]) -> dict:
@@ -98,10 +132,12 @@ def first_load(lines: list[Line]) -> int:
 class Writing:
     """What stands in the place of a program's instructions. `copied`: by the slot that loads a map the lookup that is copied behind it,
     and its key. `words`: of places of the stack that are written out which word of our own each has; `loads`: by the slots of loads from
-    there the stores of what they load."""
+    there the stores of what they load. `masks`: the slots of masks that are written out."""
 
-    def __init__(self, code: Code, found: Found, words: dict[Place, int], loads: dict[int, set[int]]) -> None:
-        self.code, self.found, self.live, self.copied = code, found, live_registers(code), {}
+    def __init__(
+        self, code: Code, found: Found, words: dict[Place, int], loads: dict[int, set[int]], masks: AbstractSet[int]
+    ) -> None:
+        self.code, self.found, self.live, self.copied, self.masks = code, found, live_registers(code), {}, masks
         self.words, self.loads, self.stores = words, loads, {store for stores in loads.values() for store in stores}
         for slot, keys in found.keys.items():
             if len({key.of_map for key in keys}) != len(keys):
@@ -137,6 +173,8 @@ class Writing:
             yield from (Line(other) for other in self.access(slot, insn))
         elif slot in self.loads or slot in self.stores:
             yield from (Line(other) for other in self.by_word(slot, insn))
+        elif slot in self.masks:
+            yield from (Line(Instruction(*fields)) for fields in in_shifts(insn))
         else:
             yield Line(insn, jump_target(slot, insn))
 

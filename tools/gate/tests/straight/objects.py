@@ -207,6 +207,10 @@ def frame_tests(clang, xdpbox, folder):
         made, said, status = settings_from_c(clang, xdpbox, path)
         right = made if place == 0 else status == 1 and not made and "doesn't fit its slot" in said
         yield f"an address of a global at byte {place}", "" if right else made + said
+    body = "r1 = .Lnumber ll; r2 = 1; *(u64 *)(r1 + 0) = r2; r0 = 2".replace("; ", "\n\t")
+    (folder / "hand.s").write_text(BY_HAND.format(body, "r1 = 0") + "\t.bss\n.Lnumber:\t.quad 0\n")
+    made, said, status = settings_from_c(clang, xdpbox, object_of(clang, folder / "hand.s", folder / "hand.o"))
+    yield "a store to a global without a symbol", "" if status == 1 and not made and "stores to .bss: " in said else made + said
     (folder / "hand.s").write_text(TWO_SECTIONS)
     made, said, status = settings_from_c(clang, xdpbox, "--program", "g", object_of(clang, folder / "hand.s", folder / "hand.o"), "one=1")
     yield "two sections of one name", "" if status == 1 and not made and "two sections xdp" in said else made + said

@@ -133,11 +133,6 @@ REFUSED = {
         "static volatile __u16 state[4];\n" + of_names(LIMITER % "left == 0", "state[p[1] & 1]", "state[2 + (p[1] & 1)]"),
         "can't be written out as accesses of whole counters",
     ),
-    "a struct that is set whole": (
-        "static volatile struct { __u32 left, passed; } state;\n" + FUNCTION
-        + "if (p[0]) state.left--; else *(volatile __u64 *)&state = 0; return state.passed & 1; }",
-        "a store may change another one of left, passed",
-    ),
 }
 
 
