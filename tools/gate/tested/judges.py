@@ -5,19 +5,26 @@ import shutil
 import subprocess
 import tempfile
 
-from laxonje_tools.statements import headlines, lost, rows, statement
+from laxonje_tools.statements import headlines, lost, pages, rows, statement
 from laxonje_tools.statements import tests as made_up
 from laxonje_tools.statements.tree import Node, Tree
 from tested.common import ROOT, script
 
 
+# How many words README, SECURITY and docs/*.md may have, as `wc -w` counts them.
+MOST_WORDS = 37_000
+
+
 def sentence_tests():
-    """Sentences with too many words."""
+    """Sentences with too many words, and pages."""
     found = script("dev/long-sentences").long_sentences
     words = "word " * 36
     yield "a sentence that is too long", len(list(found(f"Short. {words.strip()}.\n\n- An item.\n"))) == 1
     yield "two sentences, a list and code", not list(found(f"{'word ' * 20}. {'Word ' * 20}.\n- {'word ' * 20}\n- {'word ' * 20}\n\n```text\n{words}\n```\n"))
     yield "a table, and a link's address", not list(found(f"| {words} |\n\nA [page]({words.strip()}) is short.\n"))
+    texts = [it.read_text() for it in (ROOT / "README.md", ROOT / "SECURITY.md", *(ROOT / "docs").glob("*.md"))]
+    yield "the sentences of the pages: tools/dev/long-sentences prints long ones", not any(list(found(it)) for it in texts)
+    yield f"the words of the pages, of {MOST_WORDS:,}", sum(len(it.split()) for it in texts) <= MOST_WORDS
 
 
 def outside_tests():
@@ -38,6 +45,17 @@ def guide_tests():
             crate = name
         elif name.endswith(".rt"):
             yield f"{name} of {crate}, which crates/README names", any((ROOT / "crates" / crate / "src").glob(f"**/{name}"))
+
+
+def counted_tests():
+    """How many definitions README says that all claims have."""
+    said = "(1 definitions of 2 lines\nfor all eight)"
+    yield "another number of definitions", pages.with_count(f"All {said}.", 1234, 5678) == "All (1,234 definitions of 5,678 lines\nfor all eight)."
+    for what, text in [("no number of definitions", "All claims."), ("two of them", said + said)]:
+        try:
+            yield what, not pages.with_count(text, 3, 4)
+        except statement.Unknown as why:
+            yield what, "README.md says" in str(why)
 
 
 def missing_tests():
@@ -102,6 +120,9 @@ def lost_tests():
         yield "a string of two lines", not list(lost.findings(read)) and any(it.path == "low::inner::make" for it in read.contracts("low"))
         half = tree(room, **{INNER: files[INNER] + "fn outer() {\n    fn inner() {}\n}\n"})
         yield "a function that isn't read", [it for it in lost.findings(half) if "1 of its functions aren't read" in it] != []
+        hidden = files[made_up.ROWS].replace("refused: `make`", "refused: `make`, and of another `made_up`")
+        found = [it for it in rows.findings(tree(room, **{made_up.ROWS: hidden})) if "names made_up behind" in it]
+        yield "a wrong body behind other words", len(found) == 1
         for what, words, count in [("a row of a function without a wrong body", "no wrong body", 1), ("one that says why", "no wrong body of its own: it follows", 0)]:
             page = files[made_up.ROWS].replace("refused: `make`", words)
             yield what, len([it for it in rows.findings(tree(room, **{made_up.ROWS: page})) if "which is no law" in it]) == count

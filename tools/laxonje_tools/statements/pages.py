@@ -15,7 +15,7 @@ FOLDER = pathlib.PurePath("docs/statements")
 THEOREM = pathlib.PurePath("docs/THEOREM.md")
 README = pathlib.PurePath("README.md")
 # How much README says that there is to read of all claims.
-ALL_CLAIMS = re.compile(r"[\d,]+ definitions of [\d,]+ lines for all")
+ALL_CLAIMS = re.compile(r"[\d,]+(\s+definitions\s+of\s+)[\d,]+(\s+lines\s+for\s+all)")
 LONGEST = 600
 WIDTH = 130
 # A clause of what holds once a loan has ended, as the kit writes it: its name, what was lent, and the name that it has then.
@@ -281,6 +281,14 @@ def size_below(tree: Tree, node: Node) -> str:
     return str(lines)
 
 
+def with_count(readme: str, definitions: int, lines: int) -> str:
+    """README with how much there is to read of all claims, which it has to say once."""
+    found, times = ALL_CLAIMS.subn(rf"{definitions:,}\g<1>{lines:,}\g<2>", readme)
+    if times != 1:
+        raise Unknown(f"{README} says `N definitions of N lines for all` {times} times: once is right")
+    return found
+
+
 def pages(tree: Tree, claims: list[Claim], theorem: Theorem) -> dict[pathlib.PurePath, str]:
     """Each page that is made, by its path."""
     before = {it.name: of_claim(tree, it) for it in claims}
@@ -289,8 +297,7 @@ def pages(tree: Tree, claims: list[Claim], theorem: Theorem) -> dict[pathlib.Pur
     text = (tree.root / CLAIMS).read_text(encoding="utf-8")
     found[CLAIMS] = linked(tree, text)
     every = counts(tree, statement(tree, [part(tree, text) for claim in claims for text in claim.contracts]))
-    said = f"{every.definitions:,} definitions of {every.lines:,} lines for all"
-    found[README] = ALL_CLAIMS.sub(said, (tree.root / README).read_text(encoding="utf-8"))
+    found[README] = with_count((tree.root / README).read_text(encoding="utf-8"), every.definitions, every.lines)
     rows = (tree.root / ROWS).read_text(encoding="utf-8")
     found[ROWS] = linked(tree, with_claims(rows, text), ROWS)
     return found

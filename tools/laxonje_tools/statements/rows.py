@@ -42,6 +42,12 @@ class Row:
             found = re.findall(r"(?<!of )`(\w+)`", names)
             yield from ((FOLDERS[bool(also)], name) for name in found)
 
+    @property
+    def unread(self) -> list[str]:
+        """The names after `refused:` that stand behind other words, so that they aren't read."""
+        names = re.search(r"(?i)refused: .*", self.refused)
+        return re.findall(r"`([a-z]\w*)`", EDITS.sub("", names[0])) if names else []
+
 
 def rows(tree: Tree) -> Iterator[Row]:
     """The rows of both pages."""
@@ -75,6 +81,7 @@ def edit_findings(tree: Tree) -> Iterator[str]:
     there = {folder: edits_of(tree.root, folder) for folder in FOLDERS}
     named = set()
     for row in rows(tree):
+        yield from (f"{row.page}: a row names {it} behind other words than `refused:`" for it in row.unread)
         for folder, name in row.edits:
             crates = [it for it in row.crates if (it, name) in there[folder]]
             named |= {(it, name) for it in crates}
