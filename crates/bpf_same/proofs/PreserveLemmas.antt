@@ -1,7 +1,9 @@
 -- What is shown of linear forms after a step.
-use Rattle.std.proofs.Common.{ℕ, suc, ◌+◌, ◌-◌, ◌*◌, ◌%◌, ◌^◌, ◌≡◌, ◌<◌, ◌≤◌, refl, sym, ap, ◌∙◌, subst, arith, ℤ, negsuc, Option, None, Some, Bool, true, false}
+use Rattle.std.proofs.Common.{ℕ, zero, suc, ◌+◌, ◌-◌, ◌*◌, ◌/◌, ◌%◌, ◌^◌, ◌≡◌, ◌<◌, ◌≤◌, refl, sym, ap, ◌∙◌, subst, arith, ℤ, negsuc, Option, None, Some, Bool, true, false}
 use Rattle.std.specs.Prelude.{IfSome, ◌==◌}
 use Rattle.std.proofs.lemmas.Bool.Decides.{nat_tests}
+use Rattle.std.proofs.lemmas.Nat.{pow-add}
+use Rattle.std.proofs.Math.Nat.{div-div-eq-div-mul, zero-div}
 use Rattle.bpf_insn.specs.Register.{number}
 use Rattle.bpf_insn.specs.declared.alu_op.AluOp.{AluOp}
 use Rattle.bpf_insn.specs.declared.alu_op.AluOp.TheVariants as op
@@ -115,6 +117,24 @@ more_if i stutters low m e there n all part (Some s) b p h = λ before f g f' g'
 pub none_more : (i : Insn) (stutters : Bool) (low : ℕ) (m : Facts) (e : Relation) (there : LinearForm) (n : ℕ) (all : LinearForm) → bit there.terms n ≡ 0 → IsWithTerm i stutters low m e there n all all
 none_more i stutters low m e there n all b = λ before f g f' g' t holds.
     ap (λ (n : ℕ). plus (Some there.constant) (gathered f' there.terms n)) (next_suc n) ∙ no_more f' there.constant there.terms n (total f all) b (before f g f' g' t holds)
+
+-- past the last bit of a mask nothing is gathered
+bit_past : (mask n k : ℕ) → mask / 2 ^ n ≡ 0 → bit mask (n + k) ≡ 0
+bit_past mask n k h =
+    ap (λ (x : ℕ). x % 2) (ap (λ (x : ℕ). mask / x) (pow-add 2 n k) ∙ (sym (div-div-eq-div-mul mask (2 ^ n) (2 ^ k)) ∙ (ap (λ (x : ℕ). x / 2 ^ k) h ∙ zero-div (2 ^ k))))
+
+gathered_past : (f : ℕ → Option ℕ) (mask n k : ℕ) → mask / 2 ^ n ≡ 0 → gathered f mask (n + k) ≡ gathered f mask n
+gathered_past f mask n zero h =
+    let same : n + zero ≡ n = omega arith in
+    ap (gathered f mask) same
+gathered_past f mask n (suc k) h =
+    let next : n + suc k ≡ suc (n + k) = omega arith in
+    ap (gathered f mask) next ∙ (ap (λ (b : ℕ). with_bit b (gathered f mask (n + k)) (f (n + k))) (bit_past mask n k h) ∙ gathered_past f mask n k h)
+
+pub all_gathered : (f : ℕ → Option ℕ) (mask n : ℕ) → n ≤ 64 → mask / 2 ^ n ≡ 0 → gathered f mask 64 ≡ gathered f mask n
+all_gathered f mask n l h =
+    let all : 64 ≡ n + (64 - n) = omega (arith, l) in
+    ap (gathered f mask) all ∙ gathered_past f mask n (64 - n) h
 
 pub none_before : (i : Insn) (stutters : Bool) (low : ℕ) (m : Facts) (e : Relation) (there all : LinearForm) → there.constant < 2 ^ 64 → ((f : ℕ → Option ℕ) → total f all ≡ Some there.constant) → IsPart i stutters low m e there 0 all
 none_before i stutters low m e there all l h = λ f g f' g' t holds. none_yet there.constant (total f all) l (h f)

@@ -14,6 +14,9 @@ use bpf_note::Val;
 pub(crate) fn moved(step: &Step, form: LinearForm) -> Option<LinearForm> {
     let mut total = LinearForm::constant(form.constant);
     for part in 0..TERMS {
+        if form.terms >> part == 0 {
+            break;
+        }
         if form.has(part) {
             match term_of(step, part) {
                 Some(term) => total.terms |= LinearForm::held(term).terms,
@@ -64,6 +67,9 @@ fn form_after(step: &Step, found: &Relation, term: u8) -> Option<LinearForm>
     requires { term < 64 }
 {
     let here = step.new_after(term)?;
+    if here == LinearForm::held(term) {
+        return None;
+    }
     match moved(step, here) {
         Some(form) => (form != LinearForm::held(term)).then_some(form),
         None => form_beside(step, found, here, term).or(sum_after(step, here)),

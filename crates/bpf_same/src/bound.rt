@@ -55,6 +55,9 @@ impl Step<'_> {
         let Some(there) = self.new_after(register) else {
             return None;
         };
+        if there.terms != form.terms {
+            return None;
+        }
         match range_of(self.after, self.after.register(register)) {
             Some(range) => range_by(form, there, range),
             None => None,
@@ -72,7 +75,7 @@ impl Step<'_> {
         found
     }
 
-    /// The same of a sum, by the bound of a register and what the note says of the rest.
+    /// The same of a sum, by the bound of a register and what the note says of the rest. Of a rest that is a constant the bounds say as much.
     fn range_by_sum(&self, form: LinearForm, register: u8) -> Option<Range>
         requires { register < 11 }
         ensures { IfSome result (λ r. LiesBefore self.now.insn self.now.stutters self.now.low (facts self.now.after.now) self.now.before.now form r.low r.high) }
@@ -83,6 +86,9 @@ impl Step<'_> {
         let Some(rest) = form.minus(self.before.new_form(register)) else {
             return None;
         };
+        if rest.terms == 0 || rest.terms == form.terms {
+            return None;
+        }
         match self.range_by_note(rest) {
             Some(range) => added(range, bound),
             None => None,

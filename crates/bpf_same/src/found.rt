@@ -1,5 +1,4 @@
-//! What is found at the slots behind an instruction: the relations there, or what of them isn't preserved. Nothing is promised of it:
-//! `simulation` judges.
+//! The relations that are found at the slots behind an instruction. Nothing is promised of them: `simulation` judges.
 ghost use Rattle.std.specs.Prelude.{◌<◌, ◌≤◌, vec_len, IsTrue};
 
 use crate::at_slot::{insn_at, witness_at};
@@ -16,15 +15,6 @@ use bpf_insn::Insn;
 use bpf_note::Note;
 use std::alloc::{AllocError, Global};
 
-/// What a pass over the slots does. The first finds.
-#[derive(Clone, Copy, Drop)]
-pub(crate) enum Pass {
-    /// Finds a relation for each slot.
-    Find,
-    /// Takes out of the relations what isn't preserved.
-    Prune,
-}
-
 /// The relations that are found so far.
 #[derive(Drop)]
 pub(crate) struct Found {
@@ -34,8 +24,8 @@ pub(crate) struct Found {
 }
 
 impl Found {
-    /// No slot is reached.
-    pub(crate) fn nothing(alloc: Global, slots: usize) -> Result<Found, AllocError>
+    /// The first slot alone is reached, where both programs hold the same.
+    pub(crate) fn at_start(alloc: Global, slots: usize) -> Result<Found, AllocError>
         requires { slots ≤ 4096 }
     {
         let mut relations = Vec::with_capacity(alloc, slots)?;
@@ -44,7 +34,9 @@ impl Found {
             relations.push(Relation::none())?;
             reached.push(false)?;
         }
-        Ok(Found { relations, reached })
+        let mut found = Found { relations, reached };
+        found.add(0, Relation::alike());
+        Ok(found)
     }
 
     pub(crate) fn is_reached(&self, slot: usize) -> bool
@@ -81,40 +73,17 @@ impl Found {
         self.add(way.there.pc, caught.unwrap_or(relation));
     }
 
-    /// Takes out of the relation behind a way what isn't preserved on it.
-    fn prune_after(&mut self, source: &Source, way: &Way) {
-        let slot = way.there.pc as usize;
-        if self.is_reached(slot) {
-            let next = self.relations[slot];
-            self.relations[slot] = source.preserved_on(way, &next);
-        }
-    }
-
-    /// Does on a way what a pass does.
-    fn pass_way(&mut self, pass: Pass, source: &Source, way: &Way) {
-        match pass {
-            Pass::Find => self.add_after(source, way),
-            Pass::Prune => self.prune_after(source, way),
-        }
-    }
-
-    /// Does what a pass does on each way that may be taken.
-    pub(crate) fn pass_ways(
-        &mut self,
-        pass: Pass,
-        source: &Source,
-        is_taken: Option<bool>,
-        there: &Successors,
-    ) {
+    /// Adds the relations on the ways that may be taken.
+    pub(crate) fn add_ways(&mut self, source: &Source, is_taken: Option<bool>, there: &Successors) {
         match there {
             Successors::None => {}
-            Successors::One(one) => self.pass_way(pass, source, &Way::of(source.insn, false, one)),
+            Successors::One(one) => self.add_after(source, &Way::of(source.insn, false, one)),
             Successors::Two(next, taken) => {
                 if is_taken != Some(true) {
-                    self.pass_way(pass, source, &Way::of(source.insn, false, next));
+                    self.add_after(source, &Way::of(source.insn, false, next));
                 }
                 if is_taken != Some(false) {
-                    self.pass_way(pass, source, &Way::of(source.insn, true, taken));
+                    self.add_after(source, &Way::of(source.insn, true, taken));
                 }
             }
         }
@@ -156,37 +125,22 @@ impl Source<'_> {
             insn: way.insn,
             stutters: self.witness.stutters
                 || matches!(way.insn, Insn::Ja { .. } | Insn::Jump { .. }),
-            alone: self.known.alone,
+            alone: self.known.pair.alone,
             low: self.known.low,
             before: self.before,
             after: &way.there.note,
         }
     }
 
-    /// Returns what is preserved of a relation on a way: by its step, or by what the old program then does alone.
-    fn preserved_on<'b>(&'b self, way: &'b Way<'_>, next: &Relation) -> Relation {
-        let step = self.step(way);
-        let relation = step.preserved_of(&found_after(&step));
-        let Some(caught) = self.caught_up(way, relation) else {
-            return step.preserved_of(next);
-        };
-        let (before, after) = (relation.old, caught.old);
-        if after == before {
-            step.preserved_of(next)
-        } else {
-            self.known.entailed_of(&caught, &way.there.note, next)
-        }
-    }
-
     /// The relation where the old program, alone, comes from a way on to the witness of its slot.
     fn caught_up(&self, way: &Way, relation: Relation) -> Option<Relation> {
         let at = self.old_after(way.is_taken)?;
-        let witness = witness_at(self.known.witnesses, way.there.pc)?;
-        if self.known.old.len() > 4096 {
+        let witness = witness_at(self.known.pair.witnesses, way.there.pc)?;
+        if self.known.pair.old.len() > 4096 {
             return None;
         }
         caught_up(
-            self.known.old,
+            self.known.pair.old,
             &Place { at, relation },
             &way.there.note,
             witness.at,
@@ -202,7 +156,7 @@ impl Source<'_> {
         if self.witness.stutters || matches!(self.insn, Insn::Ja { .. }) {
             return Some(at);
         }
-        match insn_at(self.known.old, at)? {
+        match insn_at(self.known.pair.old, at)? {
             Insn::Jump { off, .. } if is_taken => jump_target(at, i32::from(off)),
             _ => Some(next_slot(self.insn, at)),
         }

@@ -2,13 +2,13 @@
 //!
 //! - `same`: the comparison
 //! - `witness`: the slot of the old program that is claimed to match a slot of the new one
-//! - `find`, `found`: notes and a relation for each slot, as instructions leave them (`sharper`, `shift`, `signed`), or what is preserved
-//!   of it (`prune`); `simulation`: whether the old program
-//!   simulates an instruction (`at_slot`, `jump`); `induction`: whether the relations hold at the start and each instruction is simulated
+//! - `findings`: notes and a relation for each slot (`find`, `found`), as instructions leave them (`sharper`, `shift`, `signed`);
+//!   `simulation`: whether the old program simulates an instruction (`at_slot`, `jump`); `induction`: whether the relations hold at the start
+//!   and each instruction is simulated
 //! - `relation`: the old program's registers, as a `linear_form` of the new one's terms: at the `start`, `after` a `step`, where ways
 //!   `meet`; `room`: forms that are addresses in the packet; `bound`: the ranges of registers; `shifted`: what they hold in their upper
 //!   halves; `mask`: what a mask leaves; `preserve`: whether a step preserves the relations, `address`: of rooms
-//! - `caught`: what the old program does alone
+//! - `caught`: what the old program does alone, after what a step preserves (`prune`)
 //! - `copied`: whether both programs do the same; `access`: what a copied access may touch
 //! - `fuse`: the old program with its counts (a load, additions and a store of one counter) made additions; `fused`: whether it is the
 //!   same by counts: what is known inside a `count`, and which registers are `live` after it
@@ -31,6 +31,7 @@ mod count;
 mod decide;
 mod equal;
 mod find;
+mod findings;
 mod found;
 mod found_content;
 mod fuse;
@@ -62,5 +63,5 @@ mod witness;
 
 pub use laws::{same_alone, same_both_ways, same_by_counts_both_ways};
 pub use obstacle::{Obstacle, ObstacleKind};
-pub use same::{Comparison, compare, first_obstacle};
+pub use same::{Comparison, compare};
 pub use witness::Witness;

@@ -35,6 +35,9 @@ impl Step<'_> {
     {
         let mut all = LinearForm::constant(form.constant);
         for term in 0..TERMS {
+            if form.terms >> term == 0 {
+                return Some(all);
+            }
             match self.with_term(all, form, term) {
                 Some(with_term) => all = with_term,
                 None => return None,

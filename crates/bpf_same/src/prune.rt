@@ -1,34 +1,11 @@
-//! Relations without what isn't preserved on each way. Nothing is promised of them: `simulation` judges.
+//! A relation without what a step doesn't preserve. Nothing is promised of it: `preserve` judges.
 ghost use Rattle.std.specs.Prelude.{◌<◌};
 
 use crate::content::CONTENTS;
-use crate::find::Known;
 use crate::linear_form::{REGISTERS, TERMS};
 use crate::relation::Relation;
 use crate::room::ROOMS;
 use crate::step::Step;
-use crate::way::UNKNOWN;
-use bpf_note::Note;
-
-impl Known<'_> {
-    /// Returns what holds of a relation where another one holds.
-    pub(crate) fn entailed_of(
-        &self,
-        relation: &Relation,
-        note: &Note,
-        next: &Relation,
-    ) -> Relation {
-        let nothing = Step {
-            insn: UNKNOWN,
-            stutters: true,
-            alone: self.alone,
-            low: self.low,
-            before: relation,
-            after: note,
-        };
-        nothing.preserved_of(next)
-    }
-}
 
 impl Step<'_> {
     /// Takes out of a relation what the step doesn't preserve of a register.

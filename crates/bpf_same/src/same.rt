@@ -1,15 +1,16 @@
 //! Whether an accepted program has the runs of another one.
-ghost use Rattle.std.specs.Prelude.{◌≡◌, ◌≢◌, ◌⊎◌, ◌<◌, ◌≤◌, ℕ, length, IfOk, IfSome, IsTrue};
+ghost use Rattle.std.specs.Prelude.{◌≡◌, ◌≢◌, ◌<◌, ◌≤◌, ℕ, length, IfOk, IfSome, IsTrue};
 ghost use Rattle.bpf_verify.specs.Consistent.{IsConsistent};
 ghost use Rattle.bpf_note.specs.Regions.{HaveNoParts};
 ghost use Rattle.bpf_same.specs.Alone.{IsSameAlone};
 ghost use Rattle.bpf_same.specs.Counts.{IsSameByCounts, IsWholeByCounts};
 ghost use Rattle.bpf_same.specs.Renumbered.{IsRenumbering};
 ghost use Rattle.bpf_same.specs.Same.{IsSame};
+ghost use Rattle.bpf_same.specs.Stops.{obstacle_of, stop_of};
 
 use crate::equal::is_same_code;
-use crate::find::{Known, lowest_of, notes_of};
-use crate::found::{Found, Pass};
+use crate::find::Pair;
+use crate::findings::Findings;
 use crate::fuse::{Fusion, fusion_of};
 use crate::fused::{Draft, same_by_counts};
 use crate::laws::{same_alone, same_both_ways, same_by_counts_both_ways};
@@ -19,7 +20,7 @@ use crate::renumbered::is_same_renumbered;
 use crate::simulation::Simulation;
 use crate::witness::Witness;
 use bpf_insn::{Code, Insn};
-use bpf_note::{MapShape, Note, the_entry_describes_every_start};
+use bpf_note::{MapShape, the_entry_describes_every_start};
 use bpf_verify::Verified;
 use bpf_vm::accepted_programs_end;
 use std::alloc::{AllocError, Global};
@@ -35,67 +36,39 @@ pub enum Comparison {
     /// From all contents of the counters, where nobody else writes them: each program ends with the same number and bytes as the other,
     /// and leaves the same in the counters.
     SameAlone,
-    /// Nothing: they may have the same runs or not.
-    NotShown,
+    /// Nothing: they may have the same runs or not; and where the comparison stops, if that is known.
+    NotShown { obstacle: Option<Obstacle> },
 }
 
-/// The passes that find all, though not all of it may hold.
-const FOUND: [Pass; 1] = [Pass::Find];
-
-/// Those that find what is preserved on each way.
-const PRESERVED: [Pass; 2] = [Pass::Find, Pass::Prune];
-
-/// The findings about the new program.
-#[derive(Drop)]
-struct Findings {
-    notes: Vec<Vec<Box<Note>>>,
-    found: Found,
-    /// below which byte of the stack the new program's own words lie
-    low: u32,
+/// What comes of a search for a simulation: it is found, or it stops here, if that is known.
+#[derive(Clone, Copy, Drop)]
+pub(crate) enum Attempt {
+    Shown,
+    Stopped(Option<Obstacle>),
 }
 
-fn findings_of(
+/// Searches for a simulation by the witnesses, which shows that the new program has the old one's runs.
+fn tried(
     alloc: Global,
     new: &[Insn],
     shapes: &[MapShape],
     old: &[Insn],
     witnesses: &[Witness],
-    alone: bool,
-    passes: &[Pass],
-) -> Result<Findings, AllocError>
-    requires { length new.now ≤ 4096 }
-{
-    let mut notes = notes_of(alloc, new, shapes)?;
-    let low = lowest_of(new, witnesses, notes.as_slice());
-    let known = Known {
-        old,
-        new,
-        witnesses,
-        notes: notes.as_slice(),
-        shapes,
-        low,
-        alone,
-    };
-    let found = known.found(alloc, passes)?;
-    found.forget(alloc, &mut notes);
-    Ok(Findings { notes, found, low })
-}
-
-/// Returns whether a simulation by the witnesses is found, which shows that the new program has the old one's runs.
-fn is_shown_with(
-    alloc: Global,
-    new: &[Insn],
-    shapes: &[MapShape],
-    old: &[Insn],
-    witnesses: &[Witness],
-    passes: &[Pass],
-) -> Result<bool, AllocError>
+) -> Result<Attempt, AllocError>
     requires short { length old.now ≤ 4096 }
     requires few { length new.now ≤ 4096 }
-    ensures { IfOk result (λ yes. IsTrue yes → IsSame shapes.now old.now new.now) }
+    ensures shown { IfOk result (λ a. a ≡ Attempt.Shown → IsSame shapes.now old.now new.now) }
+    ensures stops { IfOk result (λ a. IfSome (stop_of a) (λ b. b.slot < length new.now)) }
 {
     the_entry_describes_every_start();
-    let findings = findings_of(alloc, new, shapes, old, witnesses, false, passes)?;
+    let pair = Pair {
+        new,
+        shapes,
+        old,
+        witnesses,
+        alone: false,
+    };
+    let findings = Findings::of(alloc, &pair)?;
     let simulation = Simulation {
         old,
         witnesses,
@@ -104,24 +77,35 @@ fn is_shown_with(
         low: findings.low,
         alone: false,
     };
-    simulation.is_simulation(alloc, new, shapes)
+    if simulation.is_simulation(alloc, new, shapes)? {
+        return Ok(Attempt::Shown);
+    }
+    let obstacle = simulation.first_obstacle(alloc, new, shapes)?;
+    Ok(Attempt::Stopped(obstacle))
 }
 
-/// Returns whether a simulation by the witnesses is found of programs that alone have the counters.
-fn is_shown_alone_with(
+/// The same of programs that alone have the counters.
+fn tried_alone(
     alloc: Global,
     new: &Verified,
     old: &[Insn],
     witnesses: &[Witness],
-    passes: &[Pass],
-) -> Result<bool, AllocError>
+) -> Result<Attempt, AllocError>
     requires short { length old.now ≤ 4096 }
-    ensures { IfOk result (λ yes. IsTrue yes → IsSameAlone new.now.shapes old.now new.now.code) }
+    ensures shown { IfOk result (λ a. a ≡ Attempt.Shown → IsSameAlone new.now.shapes old.now new.now.code) }
+    ensures stops { IfOk result (λ a. IfSome (stop_of a) (λ b. b.slot < length new.now.code)) }
 {
     the_entry_describes_every_start();
     accepted_programs_end();
     let (insns, shapes) = (new.insns(), new.shapes());
-    let findings = findings_of(alloc, insns, shapes, old, witnesses, true, passes)?;
+    let pair = Pair {
+        new: insns,
+        shapes,
+        old,
+        witnesses,
+        alone: true,
+    };
+    let findings = Findings::of(alloc, &pair)?;
     let simulation = Simulation {
         old,
         witnesses,
@@ -130,66 +114,11 @@ fn is_shown_alone_with(
         low: findings.low,
         alone: true,
     };
-    simulation.is_simulation(alloc, insns, shapes)
-}
-
-/// Returns whether a simulation is found, by all that is found of the slots or by what is preserved of it.
-fn is_shown(
-    alloc: Global,
-    new: &[Insn],
-    shapes: &[MapShape],
-    old: &[Insn],
-    witnesses: &[Witness],
-) -> Result<bool, AllocError>
-    requires short { length old.now ≤ 4096 }
-    requires few { length new.now ≤ 4096 }
-    ensures { IfOk result (λ yes. IsTrue yes → IsSame shapes.now old.now new.now) }
-{
-    if is_shown_with(alloc, new, shapes, old, witnesses, &FOUND)? {
-        return Ok(true);
+    if simulation.is_simulation(alloc, insns, shapes)? {
+        return Ok(Attempt::Shown);
     }
-    is_shown_with(alloc, new, shapes, old, witnesses, &PRESERVED)
-}
-
-/// The same of programs that alone have the counters.
-fn is_shown_alone(
-    alloc: Global,
-    new: &Verified,
-    old: &[Insn],
-    witnesses: &[Witness],
-) -> Result<bool, AllocError>
-    requires short { length old.now ≤ 4096 }
-    ensures { IfOk result (λ yes. IsTrue yes → IsSameAlone new.now.shapes old.now new.now.code) }
-{
-    if is_shown_alone_with(alloc, new, old, witnesses, &FOUND)? {
-        return Ok(true);
-    }
-    is_shown_alone_with(alloc, new, old, witnesses, &PRESERVED)
-}
-
-/// Returns where no simulation by the witnesses is found.
-fn obstacle_to(
-    alloc: Global,
-    new: &[Insn],
-    shapes: &[MapShape],
-    old: &[Insn],
-    witnesses: &[Witness],
-    alone: bool,
-) -> Result<Option<Obstacle>, AllocError>
-    requires short { length old.now ≤ 4096 }
-    requires few { length new.now ≤ 4096 }
-    ensures { IfOk result (λ o. IfSome o (λ b. b.slot < length new.now)) }
-{
-    let findings = findings_of(alloc, new, shapes, old, witnesses, alone, &PRESERVED)?;
-    let simulation = Simulation {
-        old,
-        witnesses,
-        notes: findings.notes.as_slice(),
-        relations: findings.found.relations.as_slice(),
-        low: findings.low,
-        alone,
-    };
-    simulation.first_obstacle(alloc, new, shapes)
+    let obstacle = simulation.first_obstacle(alloc, insns, shapes)?;
+    Ok(Attempt::Stopped(obstacle))
 }
 
 /// Returns whether all counters are loaded whole.
@@ -204,26 +133,27 @@ fn have_no_parts(shapes: &[MapShape]) -> bool
     true
 }
 
-/// Returns whether the old program's runs are the new one's by counts.
-fn is_shown_by_counts(
+/// Searches for a simulation by the old program with its counts made additions.
+fn tried_by_counts(
     alloc: Global,
     new: &[Insn],
     shapes: &[MapShape],
     old: &[Insn],
     witnesses: &[Witness],
     fusion: &Fusion,
-) -> Result<bool, AllocError>
+) -> Result<Attempt, AllocError>
     requires short { length old.now ≤ 4096 }
     requires few { length new.now ≤ 4096 }
-    ensures { IfOk result (λ yes. IsTrue yes → IsSameByCounts shapes.now old.now new.now) }
+    ensures shown { IfOk result (λ a. a ≡ Attempt.Shown → IsSameByCounts shapes.now old.now new.now) }
+    ensures stops { IfOk result (λ a. IfSome (stop_of a) (λ b. b.slot < length new.now)) }
 {
     same_by_counts();
     let code = fusion.code.as_slice();
     if code.len() > old.len() {
-        return Ok(false);
+        return Ok(Attempt::Stopped(None));
     }
     if !have_no_parts(shapes) {
-        return Ok(false);
+        return Ok(Attempt::Stopped(None));
     }
     let live = live_registers(alloc, code)?;
     let draft = Draft {
@@ -233,12 +163,13 @@ fn is_shown_by_counts(
         roles: fusion.roles.as_slice(),
     };
     if !draft.holds() {
-        return Ok(false);
+        return Ok(Attempt::Stopped(None));
     }
-    is_shown(alloc, new, shapes, code, witnesses)
+    tried(alloc, new, shapes, code, witnesses)
 }
 
-/// Returns what is shown of the two programs: by counts first, since a program with a count in it is simulated as an addition.
+/// Returns what is shown of the two programs: by counts first, since a program with a count in it is simulated as an addition. Where nothing
+/// is, that one stops here.
 fn compared(
     alloc: Global,
     new: &[Insn],
@@ -251,6 +182,7 @@ fn compared(
     ensures same { IfOk result (λ c. c ≡ Comparison.Same → IsSame shapes.now old.now new.now) }
     ensures counts { IfOk result (λ c. c ≡ Comparison.SameByCounts → IsSameByCounts shapes.now old.now new.now) }
     ensures never_alone { IfOk result (λ c. c ≢ Comparison.SameAlone) }
+    ensures stops { IfOk result (λ c. IfSome (obstacle_of c) (λ b. b.slot < length new.now)) }
     ensures itself { IfOk result (λ c. new.now ≡ old.now → c ≡ Comparison.Same) }
     ensures renumbered { IfOk result (λ c. IsRenumbering witnesses.now old.now new.now → c ≡ Comparison.Same) }
 {
@@ -260,33 +192,26 @@ fn compared(
     if is_same_renumbered(witnesses, old, new) {
         return Ok(Comparison::Same);
     }
+    let mut obstacle = None;
     if let Some(fusion) = fusion_of(alloc, old, new, witnesses)? {
-        if is_shown_by_counts(alloc, new, shapes, old, witnesses, &fusion)? {
-            return Ok(Comparison::SameByCounts);
+        match tried_by_counts(alloc, new, shapes, old, witnesses, &fusion)? {
+            Attempt::Shown => return Ok(Comparison::SameByCounts),
+            Attempt::Stopped(counted) => obstacle = counted,
         }
     }
-    if is_shown(alloc, new, shapes, old, witnesses)? {
-        Ok(Comparison::Same)
-    } else {
-        Ok(Comparison::NotShown)
+    match tried(alloc, new, shapes, old, witnesses)? {
+        Attempt::Shown => Ok(Comparison::Same),
+        Attempt::Stopped(_) => Ok(Comparison::NotShown { obstacle }),
     }
 }
 
-/// Returns what is shown of two programs that alone have the counters.
-fn compared_alone(
-    alloc: Global,
-    new: &Verified,
-    old: &[Insn],
-    witnesses: &[Witness],
-) -> Result<Comparison, AllocError>
-    requires short { length old.now ≤ 4096 }
-    ensures alone { IfOk result (λ c. c ≡ Comparison.SameAlone → IsSameAlone new.now.shapes old.now new.now.code) }
-    ensures no_more { IfOk result (λ c. (c ≡ Comparison.SameAlone) ⊎ (c ≡ Comparison.NotShown)) }
+/// The obstacle at the later slot.
+fn later_of(one: Option<Obstacle>, other: Option<Obstacle>) -> Option<Obstacle>
+    ensures { (bound : ℕ) → IfSome one (λ b. b.slot < bound) → IfSome other (λ b. b.slot < bound) → IfSome result (λ b. b.slot < bound) }
 {
-    if is_shown_alone(alloc, new, old, witnesses)? {
-        Ok(Comparison::SameAlone)
-    } else {
-        Ok(Comparison::NotShown)
+    match (one, other) {
+        (Some(here), Some(there)) => Some(if there.slot < here.slot { here } else { there }),
+        (found, None) | (None, found) => found,
     }
 }
 
@@ -314,6 +239,8 @@ pub fn compare(
     ensures itself { IfOk result (λ c. new.now.code ≡ old.now → c ≡ Comparison.Same) }
     // A program is the same as one of which it is a renumbering by the witnesses.
     ensures renumbered { IfOk result (λ c. IsRenumbering witnesses.now old.now new.now.code → c ≡ Comparison.Same) }
+    // The comparison stops at a slot of the new program.
+    ensures stops { IfOk result (λ c. IfSome (obstacle_of c) (λ b. b.slot < length new.now.code)) }
     ensures accepted { IsConsistent new.now }
 {
     same_both_ways();
@@ -321,39 +248,13 @@ pub fn compare(
     same_alone();
     let originals = old.insns();
     let shown = compared(alloc, new.insns(), new.shapes(), originals, witnesses)?;
-    match shown {
-        Comparison::NotShown => compared_alone(alloc, new, originals, witnesses),
-        _ => Ok(shown),
-    }
-}
-
-/// The obstacle at the later slot.
-fn later_of(one: Option<Obstacle>, other: Option<Obstacle>) -> Option<Obstacle>
-    ensures { (bound : ℕ) → IfSome one (λ b. b.slot < bound) → IfSome other (λ b. b.slot < bound) → IfSome result (λ b. b.slot < bound) }
-{
-    match (one, other) {
-        (Some(here), Some(there)) => Some(if there.slot < here.slot { here } else { there }),
-        (found, None) | (None, found) => found,
-    }
-}
-
-/// The first slot of the new program that [`compare`] doesn't find to be simulated, if there is one: where `NotShown` comes from.
-pub fn first_obstacle(
-    alloc: Global,
-    new: &Verified,
-    old: &Code,
-    witnesses: &[Witness],
-) -> Result<Option<Obstacle>, AllocError>
-    ensures { IfOk result (λ o. IfSome o (λ b. b.slot < length new.now.code)) }
-{
-    let (insns, shapes, originals) = (new.insns(), new.shapes(), old.insns());
-    let alone = obstacle_to(alloc, insns, shapes, originals, witnesses, true)?;
-    match fusion_of(alloc, originals, insns, witnesses)? {
-        Some(fusion) if fusion.code.as_slice().len() <= originals.len() => {
-            let code = fusion.code.as_slice();
-            let counted = obstacle_to(alloc, insns, shapes, code, witnesses, false)?;
-            Ok(later_of(alone, counted))
-        }
-        _ => Ok(alone),
+    let Comparison::NotShown { obstacle } = shown else {
+        return Ok(shown);
+    };
+    match tried_alone(alloc, new, originals, witnesses)? {
+        Attempt::Shown => Ok(Comparison::SameAlone),
+        Attempt::Stopped(alone) => Ok(Comparison::NotShown {
+            obstacle: later_of(alone, obstacle),
+        }),
     }
 }

@@ -3,7 +3,7 @@ ghost use Rattle.std.specs.Prelude.{◌≤◌, length};
 
 use bpf_insn::{Code, decode};
 use bpf_note::{MapKey, MapShape};
-use bpf_same::{Comparison, Obstacle, Witness, compare, first_obstacle};
+use bpf_same::{Comparison, Obstacle, Witness, compare};
 use bpf_verify::{Verified, verify};
 use std::alloc::Global;
 
@@ -31,6 +31,9 @@ fn witness(word: &str) -> Option<Witness> {
     let at = word.get(1..)?.parse().ok()?;
     Some(Witness { stutters, at })
 }
+
+/// The answer where nothing is shown, wherever the comparison stops.
+pub const NOT_SHOWN: Comparison = Comparison::NotShown { obstacle: None };
 
 /// A pair, decoded; its new program is accepted.
 #[derive(Drop)]
@@ -67,16 +70,28 @@ fn read_pair(alloc: Global, pair: &Pair) -> Option<Decoded> {
     read_pair_over(alloc, pair, shapes)
 }
 
+impl Decoded {
+    fn answer(&self, alloc: Global) -> Option<Comparison> {
+        compare(alloc, &self.new, &self.old, self.witnesses.as_slice()).ok()
+    }
+
+    /// The answer, without where the comparison stops.
+    fn compared(&self, alloc: Global) -> Option<Comparison> {
+        match self.answer(alloc)? {
+            Comparison::NotShown { .. } => Some(NOT_SHOWN),
+            shown => Some(shown),
+        }
+    }
+}
+
 /// Returns what [`compare`] answers for a pair. None if the new program isn't accepted, or if memory runs out.
 pub fn compared(alloc: Global, pair: &Pair) -> Option<Comparison> {
-    let pair = read_pair(alloc, pair)?;
-    compare(alloc, &pair.new, &pair.old, pair.witnesses.as_slice()).ok()
+    read_pair(alloc, pair)?.compared(alloc)
 }
 
 /// Returns what [`compare`] answers for a pair whose one map has this shape.
 fn compared_over(alloc: Global, pair: &Pair, shape: MapShape) -> Option<Comparison> {
-    let pair = read_pair_over(alloc, pair, &[shape])?;
-    compare(alloc, &pair.new, &pair.old, pair.witnesses.as_slice()).ok()
+    read_pair_over(alloc, pair, &[shape])?.compared(alloc)
 }
 
 /// Returns what [`compare`] answers for a pair whose one map has this many bytes of constants.
@@ -93,8 +108,10 @@ pub fn compared_with_counters(alloc: Global, pair: &Pair, counters: u32) -> Opti
     compared_over(alloc, pair, MapShape::of(4, counters)?)
 }
 
-/// Returns what [`first_obstacle`] answers for a pair. None also if there is no obstacle.
+/// Returns where the comparison of a pair stops. None also if it is shown.
 pub fn stopped(alloc: Global, pair: &Pair) -> Option<Obstacle> {
-    let pair = read_pair(alloc, pair)?;
-    first_obstacle(alloc, &pair.new, &pair.old, pair.witnesses.as_slice()).ok()?
+    match read_pair(alloc, pair)?.answer(alloc)? {
+        Comparison::NotShown { obstacle } => obstacle,
+        _ => None,
+    }
 }

@@ -1,12 +1,13 @@
 //! What the program answers.
 ghost use Rattle.std.specs.Prelude.{◌≡◌, ◌≤◌, IfOk, IfErr, Some, length, option_map};
 ghost use Rattle.bpf_note.specs.Shape.{most_maps};
+ghost use Rattle.xdp_load.specs.FunctionSeen.{beside_listed, beside_view, function_view};
 ghost use Rattle.xdp_load.specs.ListedGiven.{listed_view};
 ghost use Rattle.xdp_load.specs.ListedSound.{IsListedSound};
 ghost use Rattle.xdp_load.specs.OriginalSeen.{rewritten_view};
 ghost use Rattle.xdp_load.specs.SetupSeen.{setup_view};
 ghost use Rattle.xdp_load.specs.SpotSeen.{refused_seen};
-ghost use Rattle.xdp_commands.specs.Answer.{AnswerTo, ExecAnswer, ExplainAnswer, FilterAnswer, InputAnswer, IsAnswer, PacketAnswer};
+ghost use Rattle.xdp_commands.specs.Answer.{AnswerTo, BesideAnswer, ExecAnswer, FunctionAnswer, ExplainAnswer, FilterAnswer, InputAnswer, IsAnswer, PacketAnswer};
 ghost use Rattle.xdp_commands.specs.Answer.{MayFailToRead, PairAnswer, PlacedAnswer, RefusedAnswer, RefusedTo, RewrittenAnswer};
 ghost use Rattle.xdp_commands.specs.Answer.{RunAnswer, SameAnswer, SettingsAnswer, SetupAnswer, TakesAtMost, TakesInput, words_refused};
 ghost use Rattle.xdp_commands.specs.Answer.{checked_answer, executed_answer, hex_bytes, program_status, settings_refused};
@@ -15,6 +16,7 @@ ghost use Rattle.xdp_commands.specs.Words as wanted;
 ghost use Rattle.xdp_commands.specs.Seen.{said_of, wanted_of};
 
 use crate::comparing::{compare, compared_status, compared_text};
+use crate::comparing_functions::{compare_function, function_status, function_text};
 use crate::executing::{Accepted, check, execute, run};
 use crate::explaining::{outcome_of, outcome_status, outcome_text};
 use crate::filtering::filter;
@@ -34,7 +36,8 @@ use std::sync::Wait;
 use std::thread::Threads;
 use thread_pair::OnPass;
 use xdp_load::{
-    Listed, LoadError, Refused, Rewritten, Setup, TextFault, fault_text, load_rewritten,
+    Beside, Listed, LoadError, OfFunction, Refused, Rewritten, Setup, TextFault, fault_text,
+    load_beside,
 };
 
 /// A text that is printed, and the exit status.
@@ -226,6 +229,19 @@ fn same_answer(alloc: Global, rewritten: &Rewritten) -> Result<Answer, AllocErro
     })
 }
 
+/// The answer to a setup whose program is compared with the function that it was made of.
+fn function_answer(alloc: Global, of_function: OfFunction) -> Result<Answer, AllocError>
+    requires { IsListedSound (listed_view of_function.listed) }
+    ensures { IfOk result (λ a. FunctionAnswer (function_view of_function) (said_of a)) }
+{
+    let compared = compare_function(alloc, of_function)?;
+    let text = function_text(alloc, &compared)?;
+    Ok(Answer {
+        text,
+        status: function_status(&compared),
+    })
+}
+
 /// The answer to a setup whose queues are run on threads.
 fn pair_answer<T: Threads + Wait + Sync>(
     rt: &T,
@@ -291,12 +307,23 @@ fn settings_answer(alloc: Global, question: Question, settings: &[u8]) -> Result
     }
 }
 
+/// The answer to settings beside a program or a function.
+fn beside_answer(alloc: Global, beside: Beside) -> Result<Answer, AllocError>
+    requires { IsListedSound (beside_listed beside) }
+    ensures { IfOk result (λ a. BesideAnswer (beside_view beside) (said_of a)) }
+{
+    match beside {
+        Beside::Program(rewritten) => same_answer(alloc, &rewritten),
+        Beside::Function(of_function) => function_answer(alloc, of_function),
+    }
+}
+
 /// The answer of `same`.
 fn rewritten_answer(alloc: Global, settings: &[u8]) -> Result<Answer, AllocError>
     ensures { IfOk result (λ a. RewrittenAnswer settings.now (said_of a)) }
 {
-    match load_rewritten(alloc, settings) {
-        Ok(rewritten) => same_answer(alloc, &rewritten),
+    match load_beside(alloc, settings) {
+        Ok(beside) => beside_answer(alloc, beside),
         Err(LoadError::Memory) => settings_refused(alloc, TextFault::Memory),
         Err(LoadError::Refused(refused)) => {
             settings_refused(alloc, TextFault::Refused(refused.fault))

@@ -74,15 +74,7 @@ fn compare_with(
             slots: program.slots(),
             originals: original.insns().len(),
         }),
-        Comparison::NotShown => {
-            let obstacle = bpf_same::first_obstacle(
-                alloc,
-                program,
-                original,
-                witnesses.as_slice(),
-            )?;
-            Ok(Compared::NotShown { obstacle })
-        }
+        Comparison::NotShown { obstacle } => Ok(Compared::NotShown { obstacle }),
     }
 }
 

@@ -35,7 +35,10 @@ pub struct Unsorted {
 
 /// Returns what a document says beside its original.
 #[tactic(auto, unfolding(crate::specs::Original::listed_beside))]
-fn listed_beside<'a>(alloc: Global, table: &'a Table) -> Result<ListedWritten<'a>, LoadError>
+pub(crate) fn listed_beside<'a>(
+    alloc: Global,
+    table: &'a Table,
+) -> Result<ListedWritten<'a>, LoadError>
     ensures { Gives listed_written_seen result (listed_beside (table_view table.now)) }
 {
     listed_by(alloc, table, &REWRITTEN_KEYS)
@@ -43,7 +46,7 @@ fn listed_beside<'a>(alloc: Global, table: &'a Table) -> Result<ListedWritten<'a
 
 /// Returns what a document says.
 #[tactic(auto, unfolding(crate::specs::Original::rewritten_of_table))]
-fn rewritten_of_table(alloc: Global, table: &Table) -> Result<Unsorted, LoadError>
+pub(crate) fn rewritten_of_table(alloc: Global, table: &Table) -> Result<Unsorted, LoadError>
     ensures { Gives rewritten_seen result (rewritten_of_table (table_view table.now)) }
 {
     let original = original_of(alloc, table)?;

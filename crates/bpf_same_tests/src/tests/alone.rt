@@ -1,6 +1,6 @@
 //! Pairs that do the same alone: a counter that the old program sets, or reads and then adds to, is added a difference to in the new
 //! program. Each new program is accepted.
-use crate::pairs::{Pair, compared};
+use crate::pairs::{NOT_SHOWN, Pair, compared};
 use crate::tests::counts::{BOTH, LOOKUP, PASS};
 use bpf_same::Comparison;
 
@@ -49,10 +49,7 @@ const SET_BY_ITS_NUMBER: Pair = Pair {
 
 #[test]
 fn set_by_its_number(rt: HostRuntime) {
-    assert_eq!(rt;
-        compared(rt.alloc(), &SET_BY_ITS_NUMBER),
-        Some(Comparison::NotShown)
-    );
+    assert_eq!(rt; compared(rt.alloc(), &SET_BY_ITS_NUMBER), Some(NOT_SHOWN));
 }
 
 /// `if (*value) *value -= 1`.
@@ -106,8 +103,5 @@ const ANOTHER_COUNTER: Pair = Pair {
 
 #[test]
 fn another_counter(rt: HostRuntime) {
-    assert_eq!(rt;
-        compared(rt.alloc(), &ANOTHER_COUNTER),
-        Some(Comparison::NotShown)
-    );
+    assert_eq!(rt; compared(rt.alloc(), &ANOTHER_COUNTER), Some(NOT_SHOWN));
 }

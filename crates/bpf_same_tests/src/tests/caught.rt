@@ -1,5 +1,5 @@
 //! Pairs of which the old program alone adds to the address of a map's value, where the new one has the sum in its offsets.
-use crate::pairs::{Pair, compared};
+use crate::pairs::{NOT_SHOWN, Pair, compared};
 use crate::tests::counts::{LOOKUP, PASS};
 use bpf_same::Comparison;
 
@@ -42,33 +42,18 @@ fn counted(rt: HostRuntime) {
     );
     assert_eq!(rt;
         accessed(&rt, sum, "db10f0ff00000000", new),
-        Some(Comparison::NotShown)
+        Some(NOT_SHOWN)
     );
 }
 
 /// Another constant, a number that isn't known, a sum of 32 bits, a difference, and a register without a number.
 #[test]
 fn not_added(rt: HostRuntime) {
-    assert_eq!(rt;
-        computed(&rt, "0700000010000000"),
-        Some(Comparison::NotShown)
-    );
-    assert_eq!(rt;
-        computed(&rt, "0fa0000000000000"),
-        Some(Comparison::NotShown)
-    );
-    assert_eq!(rt;
-        computed(&rt, "0400000008000000"),
-        Some(Comparison::NotShown)
-    );
-    assert_eq!(rt;
-        computed(&rt, "1700000008000000"),
-        Some(Comparison::NotShown)
-    );
-    assert_eq!(rt;
-        computed(&rt, "0f30000000000000"),
-        Some(Comparison::NotShown)
-    );
+    assert_eq!(rt; computed(&rt, "0700000010000000"), Some(NOT_SHOWN));
+    assert_eq!(rt; computed(&rt, "0fa0000000000000"), Some(NOT_SHOWN));
+    assert_eq!(rt; computed(&rt, "0400000008000000"), Some(NOT_SHOWN));
+    assert_eq!(rt; computed(&rt, "1700000008000000"), Some(NOT_SHOWN));
+    assert_eq!(rt; computed(&rt, "0f30000000000000"), Some(NOT_SHOWN));
 }
 
 /// Alone, the old program reads a register that nothing has written: it has no run.
@@ -80,5 +65,5 @@ fn without_a_number(rt: HostRuntime) {
         maps: 0,
         witnesses: "c1 c2",
     };
-    assert_eq!(rt; compared(rt.alloc(), &pair), Some(Comparison::NotShown));
+    assert_eq!(rt; compared(rt.alloc(), &pair), Some(NOT_SHOWN));
 }

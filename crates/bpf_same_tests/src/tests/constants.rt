@@ -1,5 +1,5 @@
 //! Loads of constants.
-use crate::pairs::{Pair, compared_with_constants};
+use crate::pairs::{NOT_SHOWN, Pair, compared_with_constants};
 use bpf_same::Comparison;
 
 /// `r5` is a byte of the packet, below 32.
@@ -35,12 +35,12 @@ fn by_another_register(rt: HostRuntime) {
 
 #[test]
 fn at_another_address(rt: HostRuntime) {
-    assert_eq!(rt; beside(&rt, "7170fdff00000000"), Some(Comparison::NotShown));
+    assert_eq!(rt; beside(&rt, "7170fdff00000000"), Some(NOT_SHOWN));
 }
 
 #[test]
 fn of_more_bytes(rt: HostRuntime) {
-    assert_eq!(rt; beside(&rt, "6970fcff00000000"), Some(Comparison::NotShown));
+    assert_eq!(rt; beside(&rt, "6970fcff00000000"), Some(NOT_SHOWN));
 }
 
 /// The new program reads a constant of its own between, and forgets it.

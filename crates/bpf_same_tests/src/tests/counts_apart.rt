@@ -1,7 +1,6 @@
 //! Pairs whose counts aren't additions: the load and the store are of two counters, or something is between them.
-use crate::pairs::{Pair, compared};
+use crate::pairs::{NOT_SHOWN, Pair, compared};
 use crate::tests::counts::{AS_THEY_STAND, BOTH, LOOKUP, PASS};
-use bpf_same::Comparison;
 
 /// Another counter was loaded.
 const ANOTHER_COUNTER: Pair = Pair {
@@ -25,10 +24,7 @@ const ANOTHER_COUNTER: Pair = Pair {
 
 #[test]
 fn another_counter(rt: HostRuntime) {
-    assert_eq!(rt;
-        compared(rt.alloc(), &ANOTHER_COUNTER),
-        Some(Comparison::NotShown)
-    );
+    assert_eq!(rt; compared(rt.alloc(), &ANOTHER_COUNTER), Some(NOT_SHOWN));
 }
 
 /// A jump leads between the load and the store.
@@ -59,10 +55,7 @@ const JUMP_BETWEEN: Pair = Pair {
 
 #[test]
 fn jump_between(rt: HostRuntime) {
-    assert_eq!(rt;
-        compared(rt.alloc(), &JUMP_BETWEEN),
-        Some(Comparison::NotShown)
-    );
+    assert_eq!(rt; compared(rt.alloc(), &JUMP_BETWEEN), Some(NOT_SHOWN));
 }
 
 /// The address is another one at the store.
@@ -91,10 +84,7 @@ const ADDRESS_OVERWRITTEN: Pair = Pair {
 
 #[test]
 fn address_overwritten(rt: HostRuntime) {
-    assert_eq!(rt;
-        compared(rt.alloc(), &ADDRESS_OVERWRITTEN),
-        Some(Comparison::NotShown)
-    );
+    assert_eq!(rt; compared(rt.alloc(), &ADDRESS_OVERWRITTEN), Some(NOT_SHOWN));
 }
 
 /// The store is of another register than the sum.
@@ -123,7 +113,7 @@ const ANOTHER_REGISTER_STORED: Pair = Pair {
 fn another_register_stored(rt: HostRuntime) {
     assert_eq!(rt;
         compared(rt.alloc(), &ANOTHER_REGISTER_STORED),
-        Some(Comparison::NotShown)
+        Some(NOT_SHOWN)
     );
 }
 
@@ -151,10 +141,7 @@ const LOADED_BETWEEN: Pair = Pair {
 
 #[test]
 fn loaded_between(rt: HostRuntime) {
-    assert_eq!(rt;
-        compared(rt.alloc(), &LOADED_BETWEEN),
-        Some(Comparison::NotShown)
-    );
+    assert_eq!(rt; compared(rt.alloc(), &LOADED_BETWEEN), Some(NOT_SHOWN));
 }
 
 /// Another counter is added to between the load and the store.
@@ -183,10 +170,7 @@ const ADDED_BETWEEN: Pair = Pair {
 
 #[test]
 fn added_between(rt: HostRuntime) {
-    assert_eq!(rt;
-        compared(rt.alloc(), &ADDED_BETWEEN),
-        Some(Comparison::NotShown)
-    );
+    assert_eq!(rt; compared(rt.alloc(), &ADDED_BETWEEN), Some(NOT_SHOWN));
 }
 
 /// The sum is stored to the stack between the load and the store.
@@ -213,10 +197,7 @@ const STORED_BETWEEN: Pair = Pair {
 
 #[test]
 fn stored_between(rt: HostRuntime) {
-    assert_eq!(rt;
-        compared(rt.alloc(), &STORED_BETWEEN),
-        Some(Comparison::NotShown)
-    );
+    assert_eq!(rt; compared(rt.alloc(), &STORED_BETWEEN), Some(NOT_SHOWN));
 }
 
 /// A store without a load.
@@ -229,5 +210,5 @@ const NO_LOAD: Pair = Pair {
 
 #[test]
 fn no_load(rt: HostRuntime) {
-    assert_eq!(rt; compared(rt.alloc(), &NO_LOAD), Some(Comparison::NotShown));
+    assert_eq!(rt; compared(rt.alloc(), &NO_LOAD), Some(NOT_SHOWN));
 }

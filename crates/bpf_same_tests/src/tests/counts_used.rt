@@ -1,7 +1,6 @@
 //! Pairs whose counts aren't additions: what was loaded, or the sum, is used otherwise.
-use crate::pairs::{Pair, compared};
+use crate::pairs::{NOT_SHOWN, Pair, compared};
 use crate::tests::counts::{AS_THEY_STAND, LOOKUP, PASS};
-use bpf_same::Comparison;
 
 /// `++*value > 9`, as clang 19 makes it: the sum is read after the store.
 const SUM_READ_BEGINS: &str =
@@ -35,7 +34,7 @@ const SUM_READ: Pair = Pair {
 
 #[test]
 fn sum_read(rt: HostRuntime) {
-    assert_eq!(rt; compared(rt.alloc(), &SUM_READ), Some(Comparison::NotShown));
+    assert_eq!(rt; compared(rt.alloc(), &SUM_READ), Some(NOT_SHOWN));
 }
 
 /// Another number is added.
@@ -60,10 +59,7 @@ const ANOTHER_NUMBER: Pair = Pair {
 
 #[test]
 fn another_number(rt: HostRuntime) {
-    assert_eq!(rt;
-        compared(rt.alloc(), &ANOTHER_NUMBER),
-        Some(Comparison::NotShown)
-    );
+    assert_eq!(rt; compared(rt.alloc(), &ANOTHER_NUMBER), Some(NOT_SHOWN));
 }
 
 /// What was loaded is compared.
@@ -90,10 +86,7 @@ const COMPARED_INSIDE: Pair = Pair {
 
 #[test]
 fn compared_inside(rt: HostRuntime) {
-    assert_eq!(rt;
-        compared(rt.alloc(), &COMPARED_INSIDE),
-        Some(Comparison::NotShown)
-    );
+    assert_eq!(rt; compared(rt.alloc(), &COMPARED_INSIDE), Some(NOT_SHOWN));
 }
 
 /// What was loaded is shifted, and read after the store.
@@ -124,7 +117,7 @@ const SHIFTED: Pair = Pair {
 
 #[test]
 fn shifted(rt: HostRuntime) {
-    assert_eq!(rt; compared(rt.alloc(), &SHIFTED), Some(Comparison::NotShown));
+    assert_eq!(rt; compared(rt.alloc(), &SHIFTED), Some(NOT_SHOWN));
 }
 
 /// What was loaded is added to itself.
@@ -149,7 +142,7 @@ const DOUBLED: Pair = Pair {
 
 #[test]
 fn doubled(rt: HostRuntime) {
-    assert_eq!(rt; compared(rt.alloc(), &DOUBLED), Some(Comparison::NotShown));
+    assert_eq!(rt; compared(rt.alloc(), &DOUBLED), Some(NOT_SHOWN));
 }
 
 /// An addition of 32 bits.
@@ -174,10 +167,7 @@ const SUM_OF_32_BITS: Pair = Pair {
 
 #[test]
 fn sum_of_32_bits(rt: HostRuntime) {
-    assert_eq!(rt;
-        compared(rt.alloc(), &SUM_OF_32_BITS),
-        Some(Comparison::NotShown)
-    );
+    assert_eq!(rt; compared(rt.alloc(), &SUM_OF_32_BITS), Some(NOT_SHOWN));
 }
 
 /// A number to which what was loaded is added is read after the store.
@@ -206,10 +196,7 @@ const NUMBER_READ: Pair = Pair {
 
 #[test]
 fn number_read(rt: HostRuntime) {
-    assert_eq!(rt;
-        compared(rt.alloc(), &NUMBER_READ),
-        Some(Comparison::NotShown)
-    );
+    assert_eq!(rt; compared(rt.alloc(), &NUMBER_READ), Some(NOT_SHOWN));
 }
 
 /// The register of the sum has another number at the store.
@@ -234,8 +221,5 @@ const SUM_OVERWRITTEN: Pair = Pair {
 
 #[test]
 fn sum_overwritten(rt: HostRuntime) {
-    assert_eq!(rt;
-        compared(rt.alloc(), &SUM_OVERWRITTEN),
-        Some(Comparison::NotShown)
-    );
+    assert_eq!(rt; compared(rt.alloc(), &SUM_OVERWRITTEN), Some(NOT_SHOWN));
 }

@@ -1,6 +1,5 @@
 //! Pairs that look alike and have different runs, by a guard or a counter. Each new program is accepted.
-use crate::pairs::{Pair, compared};
-use bpf_same::Comparison;
+use crate::pairs::{NOT_SHOWN, Pair, compared};
 
 /// A guard in front of an access to the stack.
 const GUARDED_STACK: Pair = Pair {
@@ -28,10 +27,7 @@ const GUARDED_STACK: Pair = Pair {
 
 #[test]
 fn guarded_stack(rt: HostRuntime) {
-    assert_eq!(rt;
-        compared(rt.alloc(), &GUARDED_STACK),
-        Some(Comparison::NotShown)
-    );
+    assert_eq!(rt; compared(rt.alloc(), &GUARDED_STACK), Some(NOT_SHOWN));
 }
 
 /// A guard in front of a counter.
@@ -81,10 +77,7 @@ const GUARDED_COUNTER: Pair = Pair {
 
 #[test]
 fn guarded_counter(rt: HostRuntime) {
-    assert_eq!(rt;
-        compared(rt.alloc(), &GUARDED_COUNTER),
-        Some(Comparison::NotShown)
-    );
+    assert_eq!(rt; compared(rt.alloc(), &GUARDED_COUNTER), Some(NOT_SHOWN));
 }
 
 /// A counter that is read twice in a loop that is left out.
@@ -134,10 +127,7 @@ const COUNTER_READ_TWICE: Pair = Pair {
 
 #[test]
 fn counter_read_twice(rt: HostRuntime) {
-    assert_eq!(rt;
-        compared(rt.alloc(), &COUNTER_READ_TWICE),
-        Some(Comparison::NotShown)
-    );
+    assert_eq!(rt; compared(rt.alloc(), &COUNTER_READ_TWICE), Some(NOT_SHOWN));
 }
 
 /// A guard that ends with PASS.
@@ -178,8 +168,5 @@ const GUARD_THAT_PASSES: Pair = Pair {
 
 #[test]
 fn guard_that_passes(rt: HostRuntime) {
-    assert_eq!(rt;
-        compared(rt.alloc(), &GUARD_THAT_PASSES),
-        Some(Comparison::NotShown)
-    );
+    assert_eq!(rt; compared(rt.alloc(), &GUARD_THAT_PASSES), Some(NOT_SHOWN));
 }

@@ -1,6 +1,5 @@
 //! Pairs that look alike and have different runs, by a jump. Each new program is accepted.
-use crate::pairs::{Pair, compared};
-use bpf_same::Comparison;
+use crate::pairs::{NOT_SHOWN, Pair, compared};
 
 /// A copied jump into an end of the new program's own.
 const COPIED_JUMP_TO_AN_END: Pair = Pair {
@@ -44,7 +43,7 @@ const COPIED_JUMP_TO_AN_END: Pair = Pair {
 fn copied_jump_to_an_end(rt: HostRuntime) {
     assert_eq!(rt;
         compared(rt.alloc(), &COPIED_JUMP_TO_AN_END),
-        Some(Comparison::NotShown)
+        Some(NOT_SHOWN)
     );
 }
 
@@ -79,10 +78,7 @@ const FALLS_INTO_AN_END: Pair = Pair {
 
 #[test]
 fn falls_into_an_end(rt: HostRuntime) {
-    assert_eq!(rt;
-        compared(rt.alloc(), &FALLS_INTO_AN_END),
-        Some(Comparison::NotShown)
-    );
+    assert_eq!(rt; compared(rt.alloc(), &FALLS_INTO_AN_END), Some(NOT_SHOWN));
 }
 
 /// An own comparison of 32 bits in place of one of 64.
@@ -124,10 +120,7 @@ const COMPARED_32_BITS: Pair = Pair {
 
 #[test]
 fn compared_32_bits(rt: HostRuntime) {
-    assert_eq!(rt;
-        compared(rt.alloc(), &COMPARED_32_BITS),
-        Some(Comparison::NotShown)
-    );
+    assert_eq!(rt; compared(rt.alloc(), &COMPARED_32_BITS), Some(NOT_SHOWN));
 }
 
 /// A load with sign, and the comparison after it, left out.
@@ -166,7 +159,7 @@ const LOAD_WITH_SIGN_LEFT_OUT: Pair = Pair {
 fn load_with_sign_left_out(rt: HostRuntime) {
     assert_eq!(rt;
         compared(rt.alloc(), &LOAD_WITH_SIGN_LEFT_OUT),
-        Some(Comparison::NotShown)
+        Some(NOT_SHOWN)
     );
 }
 
@@ -221,10 +214,7 @@ const WRAPPED_RANGES: Pair = Pair {
 
 #[test]
 fn wrapped_ranges(rt: HostRuntime) {
-    assert_eq!(rt;
-        compared(rt.alloc(), &WRAPPED_RANGES),
-        Some(Comparison::NotShown)
-    );
+    assert_eq!(rt; compared(rt.alloc(), &WRAPPED_RANGES), Some(NOT_SHOWN));
 }
 
 /// A comparison left out whose range had a sign.
@@ -296,8 +286,5 @@ const RANGE_WITH_SIGN: Pair = Pair {
 
 #[test]
 fn range_with_sign(rt: HostRuntime) {
-    assert_eq!(rt;
-        compared(rt.alloc(), &RANGE_WITH_SIGN),
-        Some(Comparison::NotShown)
-    );
+    assert_eq!(rt; compared(rt.alloc(), &RANGE_WITH_SIGN), Some(NOT_SHOWN));
 }

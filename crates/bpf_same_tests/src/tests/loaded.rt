@@ -1,6 +1,6 @@
 //! Pairs that load a counter twice, where the new program, alone, takes what it has kept of the first load for the second number. Each
 //! new program is accepted.
-use crate::pairs::{Pair, compared, compared_with_counters};
+use crate::pairs::{NOT_SHOWN, Pair, compared, compared_with_counters};
 use crate::tests::counts::{BOTH, LOOKUP, PASS};
 use bpf_same::Comparison;
 
@@ -34,8 +34,8 @@ fn again(rt: HostRuntime) {
         loaded(&rt, "7901000000000000"),
         Some(Comparison::SameAlone)
     );
-    assert_eq!(rt; loaded(&rt, "7971000000000000"), Some(Comparison::NotShown));
-    assert_eq!(rt; loaded(&rt, "7901080000000000"), Some(Comparison::NotShown));
+    assert_eq!(rt; loaded(&rt, "7971000000000000"), Some(NOT_SHOWN));
+    assert_eq!(rt; loaded(&rt, "7901080000000000"), Some(NOT_SHOWN));
 }
 
 /// Between both loads the counter is added to.
@@ -66,8 +66,5 @@ const ADDED_BETWEEN: Pair = Pair {
 
 #[test]
 fn added_between(rt: HostRuntime) {
-    assert_eq!(rt;
-        compared(rt.alloc(), &ADDED_BETWEEN),
-        Some(Comparison::NotShown)
-    );
+    assert_eq!(rt; compared(rt.alloc(), &ADDED_BETWEEN), Some(NOT_SHOWN));
 }

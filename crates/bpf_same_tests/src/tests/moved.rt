@@ -1,5 +1,5 @@
 //! Accesses of one address by another register or offset.
-use crate::pairs::{Pair, compared};
+use crate::pairs::{NOT_SHOWN, Pair, compared};
 use bpf_same::Comparison;
 
 /// `r6` is the packet's start and `r3` its end, and 14 bytes lie between.
@@ -26,14 +26,8 @@ fn loads(rt: HostRuntime) {
         accesses(&rt, old, "7160020000000000"),
         Some(Comparison::Same)
     );
-    assert_eq!(rt;
-        accesses(&rt, old, "7160030000000000"),
-        Some(Comparison::NotShown)
-    );
-    assert_eq!(rt;
-        accesses(&rt, old, "6960020000000000"),
-        Some(Comparison::NotShown)
-    );
+    assert_eq!(rt; accesses(&rt, old, "7160030000000000"), Some(NOT_SHOWN));
+    assert_eq!(rt; accesses(&rt, old, "6960020000000000"), Some(NOT_SHOWN));
 }
 
 #[test]
@@ -43,14 +37,8 @@ fn stores(rt: HostRuntime) {
         accesses(&rt, old, "7326020000000000"),
         Some(Comparison::Same)
     );
-    assert_eq!(rt;
-        accesses(&rt, old, "7206020007000000"),
-        Some(Comparison::NotShown)
-    );
-    assert_eq!(rt;
-        accesses(&rt, old, "7326010000000000"),
-        Some(Comparison::NotShown)
-    );
+    assert_eq!(rt; accesses(&rt, old, "7206020007000000"), Some(NOT_SHOWN));
+    assert_eq!(rt; accesses(&rt, old, "7326010000000000"), Some(NOT_SHOWN));
 }
 
 /// `r5` is a byte of the packet, and `r4` an address as far from the start, at which a byte lies; `r7` is `r5`, shifted by 32 and back.
@@ -92,7 +80,7 @@ fn shifts_of_32_bits(rt: HostRuntime) {
     );
     assert_eq!(rt;
         shifted_back(&rt, "67070000200000007707000021000000"),
-        Some(Comparison::NotShown)
+        Some(NOT_SHOWN)
     );
 }
 
@@ -115,8 +103,5 @@ fn bits_of_two_bytes(rt: HostRuntime) {
         bytes_compared(&rt, "25050200ffff0000"),
         Some(Comparison::Same)
     );
-    assert_eq!(rt;
-        bytes_compared(&rt, "25050200feff0000"),
-        Some(Comparison::NotShown)
-    );
+    assert_eq!(rt; bytes_compared(&rt, "25050200feff0000"), Some(NOT_SHOWN));
 }

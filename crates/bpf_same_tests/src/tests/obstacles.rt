@@ -1,6 +1,6 @@
 //! Pairs of which nothing is shown, and where their comparison stops.
-use crate::pairs::{Pair, compared, stopped};
-use bpf_same::{Comparison, Obstacle, ObstacleKind};
+use crate::pairs::{NOT_SHOWN, Pair, compared, stopped};
+use bpf_same::{Obstacle, ObstacleKind};
 
 /// A load of the interface, and two ends.
 const CHOICE: &[&str] = &[
@@ -27,7 +27,7 @@ fn at(slot: u32, old: u32, kind: ObstacleKind) -> Option<Obstacle> {
 #[test]
 fn undecided(rt: HostRuntime) {
     let alloc = rt.alloc();
-    assert_eq!(rt; compared(alloc, &UNDECIDED), Some(Comparison::NotShown));
+    assert_eq!(rt; compared(alloc, &UNDECIDED), Some(NOT_SHOWN));
     assert_eq!(rt; stopped(alloc, &UNDECIDED), at(0, 1, ObstacleKind::Jump));
 }
 

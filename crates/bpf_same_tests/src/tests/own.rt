@@ -1,5 +1,5 @@
 //! Pairs of which the new program has instructions of its own. Each new program is accepted.
-use crate::pairs::{Pair, compared};
+use crate::pairs::{NOT_SHOWN, Pair, compared};
 use bpf_same::Comparison;
 
 /// A register that is saved, used and restored.
@@ -84,10 +84,7 @@ const MADE_OTHERWISE: Pair = Pair {
 
 #[test]
 fn made_otherwise(rt: HostRuntime) {
-    assert_eq!(rt;
-        compared(rt.alloc(), &MADE_OTHERWISE),
-        Some(Comparison::NotShown)
-    );
+    assert_eq!(rt; compared(rt.alloc(), &MADE_OTHERWISE), Some(NOT_SHOWN));
 }
 
 /// A store of the new program's own to what the old one stored.
@@ -114,7 +111,7 @@ const STORE_TO_THE_OLD_WORD: Pair = Pair {
 fn store_to_the_old_word(rt: HostRuntime) {
     assert_eq!(rt;
         compared(rt.alloc(), &STORE_TO_THE_OLD_WORD),
-        Some(Comparison::NotShown)
+        Some(NOT_SHOWN)
     );
 }
 
@@ -133,10 +130,7 @@ const LOAD_OF_AN_OWN_WORD: Pair = Pair {
 
 #[test]
 fn load_of_an_own_word(rt: HostRuntime) {
-    assert_eq!(rt;
-        compared(rt.alloc(), &LOAD_OF_AN_OWN_WORD),
-        Some(Comparison::NotShown)
-    );
+    assert_eq!(rt; compared(rt.alloc(), &LOAD_OF_AN_OWN_WORD), Some(NOT_SHOWN));
 }
 
 /// A register that differs where both read it.
@@ -149,10 +143,7 @@ const OTHER_NUMBER: Pair = Pair {
 
 #[test]
 fn other_number(rt: HostRuntime) {
-    assert_eq!(rt;
-        compared(rt.alloc(), &OTHER_NUMBER),
-        Some(Comparison::NotShown)
-    );
+    assert_eq!(rt; compared(rt.alloc(), &OTHER_NUMBER), Some(NOT_SHOWN));
 }
 
 /// A store of the new program's own to the packet.
@@ -176,10 +167,7 @@ const STORE_TO_THE_PACKET: Pair = Pair {
 
 #[test]
 fn store_to_the_packet(rt: HostRuntime) {
-    assert_eq!(rt;
-        compared(rt.alloc(), &STORE_TO_THE_PACKET),
-        Some(Comparison::NotShown)
-    );
+    assert_eq!(rt; compared(rt.alloc(), &STORE_TO_THE_PACKET), Some(NOT_SHOWN));
 }
 
 /// A copy of a number that is raised by five, lowered by as much, and copied back.
@@ -219,7 +207,7 @@ fn lowered_otherwise(rt: HostRuntime) {
             ],
             ..LOWERED
         };
-        assert_eq!(rt; compared(rt.alloc(), &pair), Some(Comparison::NotShown));
+        assert_eq!(rt; compared(rt.alloc(), &pair), Some(NOT_SHOWN));
     }
 }
 
@@ -228,8 +216,8 @@ fn lowered_otherwise(rt: HostRuntime) {
 fn register_subtracted(rt: HostRuntime) {
     let cases = [
         ("1f34000000000000", Comparison::Same),
-        ("1f44000000000000", Comparison::NotShown),
-        ("1f43000000000000", Comparison::NotShown),
+        ("1f44000000000000", NOT_SHOWN),
+        ("1f43000000000000", NOT_SHOWN),
     ];
     for (insn, answer) in cases {
         let pair = Pair {

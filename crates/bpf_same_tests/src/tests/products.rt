@@ -1,5 +1,5 @@
 //! Jumps that are decided by what a product may be, or a number with the bits of a mask alone.
-use crate::pairs::{Pair, compared};
+use crate::pairs::{NOT_SHOWN, Pair, compared};
 use bpf_same::Comparison;
 
 /// Returns what is answered where the new program tests `r3` once more, which three instructions make of a packet of at least 14
@@ -69,7 +69,7 @@ fn a_place_among_rows_of_six_bytes(rt: HostRuntime) {
     );
     assert_eq!(rt;
         tested(&rt, BYTE, "5703000007000000", TIMES_6, "2503020029000000"),
-        Some(Comparison::NotShown)
+        Some(NOT_SHOWN)
     );
 }
 
@@ -84,7 +84,7 @@ fn a_product_that_wraps(rt: HostRuntime) {
             TIMES_6,
             "25030200ffffff7f"
         ),
-        Some(Comparison::NotShown)
+        Some(NOT_SHOWN)
     );
 }
 
@@ -109,7 +109,7 @@ fn a_place_among_words(rt: HostRuntime) {
             "57030000f81f0000",
             "2503020077000000"
         ),
-        Some(Comparison::NotShown)
+        Some(NOT_SHOWN)
     );
 }
 
@@ -124,7 +124,7 @@ fn masks_that_say_less(rt: HostRuntime) {
             "57030000e81f0000",
             "2503020068000000"
         ),
-        Some(Comparison::NotShown)
+        Some(NOT_SHOWN)
     );
     assert_eq!(rt;
         tested(
@@ -134,6 +134,6 @@ fn masks_that_say_less(rt: HostRuntime) {
             "5703000038000000",
             "2503020037000000"
         ),
-        Some(Comparison::NotShown)
+        Some(NOT_SHOWN)
     );
 }

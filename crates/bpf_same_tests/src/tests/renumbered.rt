@@ -1,5 +1,5 @@
 //! Pairs that differ by the numbers of their slots. A conditional jump to the next slot is followed in no other way.
-use crate::pairs::{Pair, compared};
+use crate::pairs::{NOT_SHOWN, Pair, compared};
 use bpf_same::Comparison;
 
 /// A slot that nothing leads to is left out.
@@ -81,6 +81,6 @@ fn other_programs(rt: HostRuntime) {
         ..LEFT_OUT
     };
     for pair in [number, way, witness] {
-        assert_eq!(rt; compared(rt.alloc(), &pair), Some(Comparison::NotShown));
+        assert_eq!(rt; compared(rt.alloc(), &pair), Some(NOT_SHOWN));
     }
 }

@@ -1,5 +1,5 @@
 //! Addresses that a comparison with the packet's end has shown to lie in the packet.
-use crate::pairs::{Pair, compared};
+use crate::pairs::{NOT_SHOWN, Pair, compared};
 use bpf_same::Comparison;
 
 /// `r6` is the packet's start and `r3` its end; `r5` is a byte of the packet, and `r4` an address as far from the start.
@@ -36,10 +36,7 @@ fn same_address(rt: HostRuntime) {
 
 #[test]
 fn address_of_another_byte(rt: HostRuntime) {
-    assert_eq!(rt;
-        compared_twice(&rt, "0704000001000000"),
-        Some(Comparison::NotShown)
-    );
+    assert_eq!(rt; compared_twice(&rt, "0704000001000000"), Some(NOT_SHOWN));
 }
 
 /// The same on five ways, with another byte each; the old program compares again where they meet.

@@ -1,5 +1,5 @@
 //! Pairs with the same runs.
-use crate::pairs::{Pair, compared};
+use crate::pairs::{NOT_SHOWN, Pair, compared};
 use bpf_same::Comparison;
 
 /// A loop of three turns, and its turns one after the other.
@@ -77,8 +77,8 @@ fn wrong_places_show_nothing(rt: HostRuntime) {
         witnesses: "",
         ..COUNTED_LOOP
     };
-    assert_eq!(rt; compared(rt.alloc(), &wrong), Some(Comparison::NotShown));
-    assert_eq!(rt; compared(rt.alloc(), &none), Some(Comparison::NotShown));
+    assert_eq!(rt; compared(rt.alloc(), &wrong), Some(NOT_SHOWN));
+    assert_eq!(rt; compared(rt.alloc(), &none), Some(NOT_SHOWN));
 }
 
 /// An old program that never ends has runs of no accepted one.
@@ -91,7 +91,7 @@ const ENDLESS: Pair = Pair {
 
 #[test]
 fn an_endless_program_ends_in_an_answer(rt: HostRuntime) {
-    assert_eq!(rt; compared(rt.alloc(), &ENDLESS), Some(Comparison::NotShown));
+    assert_eq!(rt; compared(rt.alloc(), &ENDLESS), Some(NOT_SHOWN));
 }
 
 /// A program beside itself needs no places.
@@ -137,7 +137,7 @@ fn a_range_decides_a_jump(rt: HostRuntime) {
         compared(rt.alloc(), &RANGE_DECIDES),
         Some(Comparison::Same)
     );
-    assert_eq!(rt; compared(rt.alloc(), &wider), Some(Comparison::NotShown));
+    assert_eq!(rt; compared(rt.alloc(), &wider), Some(NOT_SHOWN));
 }
 
 /// A test of the new program's own, of which one way is never taken: what stands there stands nowhere in the old program.
@@ -169,5 +169,5 @@ fn a_way_is_ruled_out(rt: HostRuntime) {
         ..RULED_OUT
     };
     assert_eq!(rt; compared(rt.alloc(), &RULED_OUT), Some(Comparison::Same));
-    assert_eq!(rt; compared(rt.alloc(), &taken), Some(Comparison::NotShown));
+    assert_eq!(rt; compared(rt.alloc(), &taken), Some(NOT_SHOWN));
 }

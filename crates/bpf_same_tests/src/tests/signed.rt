@@ -1,5 +1,5 @@
 //! Jumps of the old program alone that signed comparisons, shifts, differences and masks decide.
-use crate::pairs::{Pair, compared};
+use crate::pairs::{NOT_SHOWN, Pair, compared};
 use bpf_same::Comparison;
 
 /// `r0 = 1`, and the end.
@@ -42,7 +42,7 @@ fn bounded_by_signed_comparisons(rt: HostRuntime) {
         bounded(&rt, LESS_OR_EQUAL, ABOVE_60),
         Some(Comparison::Same)
     );
-    assert_eq!(rt; bounded(&rt, LESS, ABOVE_59), Some(Comparison::NotShown));
+    assert_eq!(rt; bounded(&rt, LESS, ABOVE_59), Some(NOT_SHOWN));
 }
 
 /// Returns what is answered where the new program has no jump of the old one, behind what is given. The old one takes it never.
@@ -78,7 +78,7 @@ fn difference_that_wraps(rt: HostRuntime) {
     );
     assert_eq!(rt;
         left_out(&rt, DIFFERENCE, "6503010005000000", OF_DIFFERENCE),
-        Some(Comparison::NotShown)
+        Some(NOT_SHOWN)
     );
 }
 
@@ -99,7 +99,7 @@ fn extended_by_the_sign(rt: HostRuntime) {
     );
     assert_eq!(rt;
         left_out(&rt, SHIFTED_SIGN, "25040100ffff0000", witnesses),
-        Some(Comparison::NotShown)
+        Some(NOT_SHOWN)
     );
 }
 
@@ -122,7 +122,7 @@ fn masked(rt: &HostRuntime, mask: &'static str) -> Option<Comparison> {
 fn left_by_a_mask(rt: HostRuntime) {
     // 65535, and 32767
     assert_eq!(rt; masked(&rt, "57050000ffff0000"), Some(Comparison::Same));
-    assert_eq!(rt; masked(&rt, "57050000ff7f0000"), Some(Comparison::NotShown));
+    assert_eq!(rt; masked(&rt, "57050000ff7f0000"), Some(NOT_SHOWN));
 }
 
 /// Returns what is answered where the new program doesn't ask whether an address is at least another one, which is at most 3 bytes behind
@@ -147,8 +147,5 @@ fn ordered(rt: &HostRuntime, on: &'static str) -> Option<Comparison> {
 fn ordered_by_a_difference(rt: HostRuntime) {
     // 3 bytes, and 2
     assert_eq!(rt; ordered(&rt, "0703000003000000"), Some(Comparison::Same));
-    assert_eq!(rt;
-        ordered(&rt, "0703000002000000"),
-        Some(Comparison::NotShown)
-    );
+    assert_eq!(rt; ordered(&rt, "0703000002000000"), Some(NOT_SHOWN));
 }

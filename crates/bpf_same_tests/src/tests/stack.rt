@@ -1,6 +1,5 @@
 //! Pairs that look alike and have different runs, by a store to the stack. Each new program is accepted.
-use crate::pairs::{Pair, compared};
-use bpf_same::Comparison;
+use crate::pairs::{NOT_SHOWN, Pair, compared};
 
 /// A store to the stack at an offset that is 0, and a later load taken for what stood there.
 const STORE_AT_A_MASKED_OFFSET: Pair = Pair {
@@ -55,7 +54,7 @@ const STORE_AT_A_MASKED_OFFSET: Pair = Pair {
 fn store_at_a_masked_offset(rt: HostRuntime) {
     assert_eq!(rt;
         compared(rt.alloc(), &STORE_AT_A_MASKED_OFFSET),
-        Some(Comparison::NotShown)
+        Some(NOT_SHOWN)
     );
 }
 
@@ -116,7 +115,7 @@ const STORE_AT_A_COMPARED_OFFSET: Pair = Pair {
 fn store_at_a_compared_offset(rt: HostRuntime) {
     assert_eq!(rt;
         compared(rt.alloc(), &STORE_AT_A_COMPARED_OFFSET),
-        Some(Comparison::NotShown)
+        Some(NOT_SHOWN)
     );
 }
 
@@ -167,7 +166,7 @@ const STORE_OVER_AN_OWN_WORD: Pair = Pair {
 fn store_over_an_own_word(rt: HostRuntime) {
     assert_eq!(rt;
         compared(rt.alloc(), &STORE_OVER_AN_OWN_WORD),
-        Some(Comparison::NotShown)
+        Some(NOT_SHOWN)
     );
 }
 
@@ -235,8 +234,5 @@ const STORE_OVER_A_KEY: Pair = Pair {
 
 #[test]
 fn store_over_a_key(rt: HostRuntime) {
-    assert_eq!(rt;
-        compared(rt.alloc(), &STORE_OVER_A_KEY),
-        Some(Comparison::NotShown)
-    );
+    assert_eq!(rt; compared(rt.alloc(), &STORE_OVER_A_KEY), Some(NOT_SHOWN));
 }

@@ -153,8 +153,12 @@ def same_tests(clang, xdpbox, path):
     yield "--same keeps a question", "" if right else said
     kept.unlink()
     made, said, status = ran(clang, xdpbox, "settings-from-c", "--same", kept, path)
-    right = not made and not kept.exists() and status and "--same: " in said and "nothing was asked" in said
+    right = made and not status and called(xdpbox, kept.read_text()).how == "same"
     yield f"--same of {path.stem}, which is as clang made it", "" if right else said
+    kept.unlink()
+    made, said, status = ran(clang, xdpbox, "settings-from-c", "--same", kept, FILTERS / "39-arp-balance.c")
+    right = not made and not kept.exists() and status and "--same: " in said and "nothing was asked" in said
+    yield "--same of what is accepted as the tool changed it", "" if right else said
 
 
 GUARDED = HEADERS + """SEC("xdp") int f(struct xdp_md *ctx) {
