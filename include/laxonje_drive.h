@@ -44,11 +44,17 @@ struct laxonje_words_ {
 	                     : "=m"(*(struct laxonje_words_ *)(words)) : "m"(*(const struct laxonje_words_ *)(at)) : "xmm0", "memory")
 #endif
 
-/* Words in rising order, each once: by four as far as they go, since any answer is allowed for any word. */
+/* Words in rising order, each once: by four as far as they go, since any answer is allowed for any word, and four times four in a round. */
 static inline void laxonje_drive_load_(const uint32_t *at, uint32_t count, uint32_t *words)
 {
 	uint32_t i = 0;
 #ifdef LAXONJE_LOAD_4_
+	for (; i + 16 <= count; i += 16) {
+		LAXONJE_LOAD_4_(words + i, at + i);
+		LAXONJE_LOAD_4_(words + i + 4, at + i + 4);
+		LAXONJE_LOAD_4_(words + i + 8, at + i + 8);
+		LAXONJE_LOAD_4_(words + i + 12, at + i + 12);
+	}
 	for (; i + 4 <= count; i += 4)
 		LAXONJE_LOAD_4_(words + i, at + i);
 #endif

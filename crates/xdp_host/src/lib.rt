@@ -53,9 +53,11 @@ mod runs;
 mod segment_calls;
 mod shared_calls;
 mod shared_fault;
+mod turns_calls;
 
 pub use abi::{XdpMap, XdpRun, XdpVerdict};
 pub use advice::laxonje_advice;
+pub use turns_calls::{laxonje_queue_turns, laxonje_queue_turns_step};
 pub use batch::XdpPacket;
 pub use counters_handle::{XdpCounters, counters_cross_threads};
 pub use fault::Fault;

@@ -48,6 +48,11 @@ pub trait Host {
         requires { is_free self.old }
         ensures { was_asked self.old (ask.Read at count) [] self.new };
 
+    /// Reads `count` words of a fragment's page, from a place on.
+    fn read_page(&mut self, at: Place, count: u32)
+        requires { is_free self.old }
+        ensures { was_asked self.old (ask.Read at count) [] self.new };
+
     /// Reads the two words of a reference's entry; the page has to be granted with these rights.
     fn read_entry(&mut self, at: Place, reference: u32, rights: Rights)
         requires { is_free self.old }
@@ -189,6 +194,11 @@ impl<'a> Host for Ops<'a> {
 
     #[inline(always)]
     fn read(&mut self, at: Place, count: u32) {
+        self.put(HostOp::read(at, count))
+    }
+
+    #[inline(always)]
+    fn read_page(&mut self, at: Place, count: u32) {
         self.put(HostOp::read(at, count))
     }
 

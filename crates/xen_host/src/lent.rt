@@ -70,6 +70,8 @@ impl<'p, 'r, R: Room> Room for LentPacket<'p, 'r, R> {
         self.room.push_from(count, filler, source)
     }
 
+    fn take_read(&mut self, skip: u32, count: u32) {}
+
     fn run<T: Tallies>(
         &mut self,
         program: &Verified,

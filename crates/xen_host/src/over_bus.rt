@@ -253,6 +253,11 @@ impl<'a, 'p, B: Bus> Host for OverBus<'a, 'p, B> {
     }
 
     #[inline(always)]
+    fn read_page(&mut self, at: Place, _count: u32) {
+        self.at = at;
+    }
+
+    #[inline(always)]
     fn read_entry(&mut self, at: Place, _reference: u32, _rights: Rights) {
         self.at = at;
     }

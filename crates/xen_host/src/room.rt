@@ -37,6 +37,9 @@ pub trait Room {
         ensures { (bytes : List ℕ) × (length bytes ≡ count) × F.fills filler.now source.old bytes source.new
             × (held self.new ≡ held self.old ++ bytes) };
 
+    /// Takes `count` bytes of words that a host has read behind the packet, after the first `skip`.
+    fn take_read(&mut self, skip: u32, count: u32);
+
     /// Runs a program on the packet where it lies.
     fn run<T: Tallies>(
         &mut self,

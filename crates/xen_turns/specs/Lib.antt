@@ -7,6 +7,9 @@ pub mod Within
 pub mod Program
 pub mod Parts
 pub mod Turns
+pub mod Mixed
+pub mod Several
+pub mod SeveralDelivered
 pub mod Drive
 pub mod Reads
 pub mod Once

@@ -11,6 +11,7 @@
 pub mod decisions;
 mod delivery;
 pub mod laws;
+pub mod several;
 mod state;
 mod turn;
 mod wiring;
