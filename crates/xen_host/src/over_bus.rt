@@ -9,6 +9,7 @@ ghost use Rattle.xen_host.specs.Asks.{op_of, writes_at};
 ghost use Rattle.xen_host.specs.Filling.{packet_words};
 ghost use Rattle.xen_host.specs.Buses.{HasRead, IsAlways, IsFilled, IsInBus, IsMade, IsNever, IsSameBus, MayReadRun, MayWrite, ask_of, behind};
 
+use crate::copying::push_part;
 use crate::host::Host;
 use crate::op::HostOp;
 use crate::room::Room;
@@ -155,8 +156,7 @@ impl<'a, 'p, B: Bus> OverBus<'a, 'p, B> {
     {
         for place in from..to {
             let word = self.word_behind(place - start);
-            let bytes = fragment.bytes_in(place, word);
-            packet.push_all(bytes.as_slice());
+            push_part(fragment, place, word, packet);
         }
     }
 

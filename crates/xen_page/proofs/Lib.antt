@@ -6,4 +6,3 @@ pub mod RewriteLemmas
 pub mod RunLemmas
 pub mod WordLemmas
 pub mod PlainLemmas
-pub mod SetLemmas

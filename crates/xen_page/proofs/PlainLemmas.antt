@@ -1,14 +1,17 @@
 -- A run of words written to plain words.
-use Rattle.std.proofs.Common.{◌≡◌, ℕ, ◌+◌, ◌≤◌, List, [], ◌∷◌, ◌++◌, length, length-drop, take, drop, get_or, refl, sym, ◌∙◌, ap, arith, append_assoc, length-append, subst}
-use Rattle.std.proofs.lemmas.List.{length-take, take-append-drop}
+use Rattle.std.proofs.Common.{◌≡◌, ℕ, ◌+◌, ◌-◌, ◌≤◌, List, [], ◌∷◌, ◌++◌, length, length-drop, take, drop, get_or, set, refl, sym, ◌∙◌, ap, arith, append_assoc, length-append, subst}
+use Rattle.std.proofs.lemmas.List.{length-take, set-append_right, take-append-drop}
 use borrow.Rule.Slice.PartMut.{put_mid}
 use Rattle.xen_page.proofs.RunLemmas.{further}
-use Rattle.xen_page.proofs.SetLemmas.{set_behind}
 use Rattle.xen_page.specs.Access.{Passes}
 use Rattle.xen_page.specs.Numbered.{index_of}
 use Rattle.xen_page.specs.Plain.{Holds}
 use Rattle.xen_page.specs.Run.{reads_of, writes_of}
 use Rattle.xen_page.specs.declared.place.Place.{Place}
+
+set_behind : (f ys : List ℕ) (n i k y : ℕ) → length f ≡ n → i ≡ n + k → set (f ++ ys) i y ≡ f ++ set ys k y
+set_behind f ys n i k y e at =
+    set-append_right f ys n i y e (omega (arith, at)) ∙ ap (λ j. f ++ set ys j y) (let q : i - n ≡ k = omega (arith, at) in q)
 
 -- words written one after another, behind those that stay
 pub passes_run : (at : Place) (ws front rest : List ℕ) → length front ≡ index_of at → length ws ≤ length rest →

@@ -11,10 +11,7 @@ pub(crate) fn put_word(bytes: &mut [u8], number: usize, word: u32)
 {
     let at = 4 * number;
     let four = word.to_le_bytes();
-    bytes[at] = four[0];
-    bytes[at + 1] = four[1];
-    bytes[at + 2] = four[2];
-    bytes[at + 3] = four[3];
+    bytes[at..at + 4].copy_from_slice(&four);
 }
 
 /// The word of this number of a run whose bytes these are.

@@ -6,15 +6,15 @@ use Rattle.xen_steps.proofs.CopyLemmas.{bytes_short, room_at_end, room_goes_on}
 use Rattle.xen_turns.proofs.ReadLemmas.{bytes_from-append}
 use Rattle.xen_host.proofs.copying.push_parts.Goals as goal
 
-pub push_all-requires : goal.push_all-requires
-push_all-requires g c =
+pub push_part-requires : goal.push_part-requires
+push_part-requires g c =
     let f = c.args.fragment.now in
     let i = c.loop-number.invariant in
     let place = c.args.from + c.loop-number.number in
     let v = get_or c.args.words.now c.loop-number.number 0 in
-    let e = ap length (c.as_slice.ensures.value ∙ c.bytes_in-bytes.ensures) in
+    let covers : Covers f place = c.requires.covers place (omega arith) (omega (arith, c.loop-number-test.true)) in
     let b = bytes_short f place v refl in
-    omega (arith, e, room_at_end f place (length (g.R.Room.held c.loop-number.packet)) (length (bytes_in f place v)) 0 (c.requires.covers place (omega arith) (omega (arith, c.loop-number-test.true))) b.0 i.room)
+    record { covers = covers; room = omega (arith, room_at_end f place (length (g.R.Room.held c.loop-number.packet)) (length (bytes_in f place v)) 0 covers b.0 i.room) }
 
 pub loop-number-preserved : goal.loop-number-preserved
 loop-number-preserved g c =
@@ -29,8 +29,8 @@ loop-number-preserved g c =
     let covers : Covers f place = c.requires.covers place (omega arith) (omega (arith, inside)) in
     let b = bytes_short f place v refl in
     let packet = (g.R.Room.held c.loop-number.packet) in
-    let same : (g.R.Room.held c.push_all.new.self) ≡ packet ++ bytes_in f place v = c.push_all.ensures ∙ ap (λ l. packet ++ l) (c.as_slice.ensures.value ∙ c.bytes_in-bytes.ensures) in
-    let len : length (g.R.Room.held c.push_all.new.self) ≡ length packet + length (bytes_in f place v) = ap length same ∙ length-append packet (bytes_in f place v) in
+    let same : (g.R.Room.held c.push_part.new.packet) ≡ packet ++ bytes_in f place v = c.push_part.ensures in
+    let len : length (g.R.Room.held c.push_part.new.packet) ≡ length packet + length (bytes_in f place v) = ap length same ∙ length-append packet (bytes_in f place v) in
     let done = take number words in
     let count : length done ≡ number = omega (arith, length-take number words, inside) in
     let up : place + 1 ≡ first + (number + 1) = omega arith in
@@ -40,6 +40,6 @@ loop-number-preserved g c =
     ∙ ap (λ n. bytes_from f first done ++ (bytes_in f (first + n) v ++ [])) count
     ∙ ap (λ l. bytes_from f first done ++ l) (append-nil (bytes_in f place v)) in
     record {
-      room = subst (λ p. HasRoom (length (g.R.Room.held c.push_all.new.self)) f p 0) up (subst (λ k. HasRoom k f (place + 1) 0) (sym len) (room_goes_on f place (length packet) (length (bytes_in f place v)) 0 covers b.1 i.room));
+      room = subst (λ p. HasRoom (length (g.R.Room.held c.push_part.new.packet)) f p 0) up (subst (λ k. HasRoom k f (place + 1) 0) (sym len) (room_goes_on f place (length packet) (length (bytes_in f place v)) 0 covers b.1 i.room));
       read = same ∙ ap (λ l. l ++ bytes_in f place v) i.read ∙ append_assoc (g.R.Room.held c.args.packet.now) (bytes_from f first done) (bytes_in f place v) ∙ ap (λ l. (g.R.Room.held c.args.packet.now) ++ l) (sym more);
     }

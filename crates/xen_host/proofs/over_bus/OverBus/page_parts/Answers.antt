@@ -6,15 +6,15 @@ use Rattle.xen_turns.proofs.ReadLemmas.{bytes_from-append}
 use Rattle.xen_host.proofs.BusLemmas.{run_then}
 use Rattle.xen_host.proofs.over_bus.OverBus.page_parts.Goals as goal
 
-pub push_all-requires : goal.push_all-requires
-push_all-requires g c =
+pub push_part-requires : goal.push_part-requires
+push_part-requires g c =
     let f = c.args.fragment.now in
     let i = c.loop-place.invariant in
     let place = c.loop-place.place in
     let v = c.word_behind-word.result in
-    let e = ap length (c.as_slice.ensures.value ∙ c.bytes_in-bytes.ensures) in
+    let covers = c.requires.covers place i.up c.loop-place-test.true in
     let b = bytes_short f place v refl in
-    omega (arith, e, room_at_end f place (length (g.R.Room.held c.loop-place.packet)) (length (bytes_in f place v)) 0 (c.requires.covers place i.up c.loop-place-test.true) b.0 i.room)
+    record { covers = covers; room = omega (arith, room_at_end f place (length (g.R.Room.held c.loop-place.packet)) (length (bytes_in f place v)) 0 covers b.0 i.room) }
 
 pub loop-place-preserved : goal.loop-place-preserved
 loop-place-preserved g c =
@@ -28,8 +28,8 @@ loop-place-preserved g c =
     let at : place ≡ from + length ws = omega (arith, i.up, i.read.1) in
     let next : place - c.args.start ≡ from - c.args.start + length ws = omega (arith, at, c.requires.ordered.0) in
     let b = bytes_short f place v refl in
-    let same : (g.R.Room.held c.push_all.new.self) ≡ packet ++ bytes_in f place v = c.push_all.ensures ∙ ap (λ l. packet ++ l) (c.as_slice.ensures.value ∙ c.bytes_in-bytes.ensures) in
-    let len : length (g.R.Room.held c.push_all.new.self) ≡ length packet + length (bytes_in f place v) = ap length same ∙ length-append packet (bytes_in f place v) in
+    let same : (g.R.Room.held c.push_part.new.packet) ≡ packet ++ bytes_in f place v = c.push_part.ensures in
+    let len : length (g.R.Room.held c.push_part.new.packet) ≡ length packet + length (bytes_in f place v) = ap length same ∙ length-append packet (bytes_in f place v) in
     record {
       up = omega (arith, i.up);
       room = subst (λ k. HasRoom k f (place + 1) 0) (sym len) (room_goes_on f place (length packet) (length (bytes_in f place v)) 0 (c.requires.covers place i.up c.loop-place-test.true) b.1 i.room);
