@@ -6,10 +6,11 @@ use Rattle.std.specs.Io.KnownBytes.{Appends, Consumes, IsAtEnd, Keeps}
 use Rattle.hex.specs.Hex.{decode_of}
 use Rattle.bpf_insn.specs.declared.refusal.Refusal.{Refusal}
 use Rattle.bpf_vm.specs.declared.ended.Ended.{Ended}
+use Rattle.xdp_load.specs.Function.{BesideView, FunctionView, IsBesideFault, IsBesideOf, of_function, of_program}
 use Rattle.xdp_load.specs.Listed.{ListedView}
 use Rattle.xdp_load.specs.Spot.{Refused as RefusedAt}
 use Rattle.xdp_load.specs.Spots.{IsSpotText}
-use Rattle.xdp_load.specs.Original.{IsRewritingFault, IsRewritingOf, RewrittenView}
+use Rattle.xdp_load.specs.Original.{RewrittenView}
 use Rattle.xdp_load.specs.Setup.{SetupView, text_of}
 use Rattle.xdp_load.specs.declared.fault.TextFault.{TextFault}
 use Rattle.xdp_load.specs.declared.fault.TextFault.TheVariants.{Memory, Refused}
@@ -18,7 +19,9 @@ use Rattle.xdp_world.specs.declared.report.Report.{Report}
 use Rattle.xdp_commands.specs.declared.answer.Question.{Question}
 use Rattle.xdp_commands.specs.declared.answer.Question.TheVariants as question
 use Rattle.xdp_commands.specs.Comparing.{Compares, compared_status, compared_text}
+use Rattle.xdp_commands.specs.ComparingFunctions.{ComparesFunction, function_status, function_text}
 use Rattle.xdp_commands.specs.declared.comparing.Compared.{Compared}
+use Rattle.xdp_commands.specs.declared.comparing_functions.FunctionCompared.{FunctionCompared}
 use Rattle.xdp_commands.specs.declared.executing.Accepted.{Accepted}
 use Rattle.xdp_commands.specs.Executing.{Checks, Executes, RunsSetup}
 use Rattle.xdp_commands.specs.Explaining.{IsOutcome, outcome_status, outcome_text}
@@ -95,6 +98,18 @@ compared_answer c = (compared_text c, compared_status c)
 abbrev pub SameAnswer : RewrittenView → Said → Type 0
 SameAnswer r said = (c : Compared) × Compares r c × (said ≡ compared_answer c)
 
+abbrev pub function_answer : FunctionCompared → Said
+function_answer c = (function_text c, function_status c)
+
+-- the answer to a setup and the function of an object that its program was made of: by a comparison of the two with the setup's maps
+abbrev pub FunctionAnswer : FunctionView → Said → Type 0
+FunctionAnswer x said = (c : FunctionCompared) × ComparesFunction x c × (said ≡ function_answer c)
+
+-- the answer to a setup and what its program was made of
+abbrev pub BesideAnswer : BesideView → Said → Type 0
+BesideAnswer (of_program r) = SameAnswer r
+BesideAnswer (of_function x) = FunctionAnswer x
+
 abbrev pub ran_answer : List (List ℕ) → Result Report Refusal → Said
 ran_answer names c = (ran_text names c, program_status c)
 
@@ -150,8 +165,8 @@ SettingsAnswer answer refused settings said =
 -- the answer to settings with an original: to both programs, or to their first fault
 abbrev pub RewrittenAnswer : List ℕ → Said → Type 0
 RewrittenAnswer settings said =
-    ((r : RewrittenView) × IsRewritingOf settings r × SameAnswer r said)
-    ⊎ (((f : RefusedAt) × IsRewritingFault settings f × RefusedAnswer settings f said)
+    ((b : BesideView) × IsBesideOf settings b × BesideAnswer b said)
+    ⊎ (((f : RefusedAt) × IsBesideFault settings f × RefusedAnswer settings f said)
     ⊎ MemoryAnswer settings said)
 
 -- the settings are what the reader gave, up to its end or 1,048,577 bytes

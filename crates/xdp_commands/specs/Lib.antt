@@ -5,6 +5,7 @@ pub mod Lines
 pub mod Filtering
 pub mod Executing
 pub mod Comparing
+pub mod ComparingFunctions
 pub mod Explaining
 pub mod Answer
 pub mod CounterLines

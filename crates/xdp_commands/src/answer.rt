@@ -3,18 +3,17 @@ ghost use Rattle.std.specs.Prelude.{◌≡◌, ◌≤◌, IfOk, IfErr, Some, len
 ghost use Rattle.bpf_note.specs.Shape.{most_maps};
 ghost use Rattle.xdp_load.specs.ListedGiven.{listed_view};
 ghost use Rattle.xdp_load.specs.ListedSound.{IsListedSound};
-ghost use Rattle.xdp_load.specs.OriginalSeen.{rewritten_view};
 ghost use Rattle.xdp_load.specs.SetupSeen.{setup_view};
 ghost use Rattle.xdp_load.specs.SpotSeen.{refused_seen};
 ghost use Rattle.xdp_commands.specs.Answer.{AnswerTo, ExecAnswer, ExplainAnswer, FilterAnswer, InputAnswer, IsAnswer, PacketAnswer};
 ghost use Rattle.xdp_commands.specs.Answer.{MayFailToRead, PairAnswer, PlacedAnswer, RefusedAnswer, RefusedTo, RewrittenAnswer};
-ghost use Rattle.xdp_commands.specs.Answer.{RunAnswer, SameAnswer, SettingsAnswer, SetupAnswer, TakesAtMost, TakesInput, words_refused};
+ghost use Rattle.xdp_commands.specs.Answer.{RunAnswer, SettingsAnswer, SetupAnswer, TakesAtMost, TakesInput, words_refused};
 ghost use Rattle.xdp_commands.specs.Answer.{checked_answer, executed_answer, hex_bytes, program_status, settings_refused};
 ghost use Rattle.xdp_commands.specs.Help.{help_lines, version_line};
 ghost use Rattle.xdp_commands.specs.Words as wanted;
 ghost use Rattle.xdp_commands.specs.Seen.{said_of, wanted_of};
 
-use crate::comparing::{compare, compared_status, compared_text};
+use crate::comparing_answer::beside_answer;
 use crate::executing::{Accepted, check, execute, run};
 use crate::explaining::{outcome_of, outcome_status, outcome_text};
 use crate::filtering::filter;
@@ -33,9 +32,7 @@ use std::io::Read;
 use std::sync::Wait;
 use std::thread::Threads;
 use thread_pair::OnPass;
-use xdp_load::{
-    Listed, LoadError, Refused, Rewritten, Setup, TextFault, fault_text, load_rewritten,
-};
+use xdp_load::{Listed, LoadError, Refused, Setup, TextFault, fault_text, load_beside};
 
 /// A text that is printed, and the exit status.
 #[derive(Drop)]
@@ -213,19 +210,6 @@ fn filter_answer(alloc: Global, listed: &Listed) -> Result<Answer, AllocError>
     Ok(Answer { text, status })
 }
 
-/// The answer to a setup whose program is compared with the one that it was made of.
-fn same_answer(alloc: Global, rewritten: &Rewritten) -> Result<Answer, AllocError>
-    requires { IsListedSound (listed_view rewritten.now.listed) }
-    ensures { IfOk result (λ a. SameAnswer (rewritten_view rewritten.now) (said_of a)) }
-{
-    let compared = compare(alloc, rewritten)?;
-    let text = compared_text(alloc, &compared)?;
-    Ok(Answer {
-        text,
-        status: compared_status(&compared),
-    })
-}
-
 /// The answer to a setup whose queues are run on threads.
 fn pair_answer<T: Threads + Wait + Sync>(
     rt: &T,
@@ -295,8 +279,8 @@ fn settings_answer(alloc: Global, question: Question, settings: &[u8]) -> Result
 fn rewritten_answer(alloc: Global, settings: &[u8]) -> Result<Answer, AllocError>
     ensures { IfOk result (λ a. RewrittenAnswer settings.now (said_of a)) }
 {
-    match load_rewritten(alloc, settings) {
-        Ok(rewritten) => same_answer(alloc, &rewritten),
+    match load_beside(alloc, settings) {
+        Ok(beside) => beside_answer(alloc, beside),
         Err(LoadError::Memory) => settings_refused(alloc, TextFault::Memory),
         Err(LoadError::Refused(refused)) => {
             settings_refused(alloc, TextFault::Refused(refused.fault))

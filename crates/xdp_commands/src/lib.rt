@@ -3,7 +3,8 @@
 //! - `program`: a call of the program: what its words ask for (`request`, `command_line`), and the `answer`, or why there is
 //!   none (`stop`)
 //! - `input`, `output`: reading settings, and writing
-//! - `executing`, `explaining`, `comparing`, `filtering`, `pairing`: what each command does
+//! - `executing`, `explaining`, `comparing`, `comparing_functions`, `comparing_answer`, `filtering`, `pairing`: what each command
+//!   does
 //! - `help`: what `help` and `version` print
 //! - `lines`, `turn_lines`, `pair_lines`, `counter_lines`, `numbers`: what is printed
 #![tactic(auto)]
@@ -11,6 +12,8 @@
 mod answer;
 mod command_line;
 mod comparing;
+mod comparing_answer;
+mod comparing_functions;
 mod counter_lines;
 mod executing;
 mod explaining;

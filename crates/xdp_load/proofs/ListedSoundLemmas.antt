@@ -17,6 +17,7 @@ use Rattle.bpf_note.specs.declared.key.MapKey.{MapKey}
 use Rattle.bpf_note.specs.declared.key.MapKey.TheVariants.{Index, Listed, Constants}
 use Rattle.toml.specs.Data.{Members}
 use Rattle.xdp_load.specs.Document.{MapText, Text, packet_row, reloc_row, step_row, unknown_key}
+use Rattle.xdp_load.specs.Function.{BesideView, FunctionView, beside_of, beside_of_table, function_of, listed_in_beside, listed_of_function, names_object, of_function, of_function_of_table, of_program}
 use Rattle.xdp_load.specs.Gives.{each, in_key, in_original, in_row, or_else, or_refused, ◌>>=◌}
 use Rattle.xdp_load.specs.Keys.{least, most}
 use Rattle.xdp_load.specs.Limits.{LimitedText, bad_name, limited_with}
@@ -24,7 +25,7 @@ use Rattle.xdp_load.specs.Listed.{ListedView, ListedWritten, entries_key, known_
 use Rattle.xdp_load.specs.ListedSound.{AreFitting, Fits, IsListedSound}
 use Rattle.xdp_load.specs.MapKeys.{KeyText, ListedText, are_rows, constants_of, exact_of, index_of, is_row_of, limited_key, listed_row, prefix_of, truth_at}
 use Rattle.xdp_load.specs.Numbers.{limited, limited_numbers, numbers_of}
-use Rattle.xdp_load.specs.Original.{RewrittenView, limited_place, listed_beside, listed_in, original_of, original_program, rewritten_of, rewritten_of_table}
+use Rattle.xdp_load.specs.Original.{RewrittenView, limited_place, listed_beside, listed_in, original_of, original_program, rewritten_of_table}
 use Rattle.xdp_load.specs.Setup.{Packet, bytes_in, bytes_of, decoded_of, document_of, names_of, relocated_setup, text_of}
 use Rattle.xdp_load.specs.Spot.{Refused, at, refused, row, unknown, whole}
 use Rattle.xdp_load.specs.Written.{WrittenText, program_of, rows_of, written_with}
@@ -272,15 +273,40 @@ listed_sound bytes y e =
     bind_ok (listed_written document) _ y more (λ x e3 last.
     bind_ok (listed_limits x) (listed_setup_of x) y last (λ l e4 end. sound_setup x l y (limited_all x l (written_maps known_keys document x e3) e4) end))))
 
-pub rewritten_sound : (bytes : List ℕ) (r : RewrittenView) → rewritten_of bytes ≡ Ok r → IsListedSound (listed_in r)
-unfolding rewritten_of rewritten_of_table listed_beside
-rewritten_sound bytes r e =
-    bind_ok (or_refused fault.Text whole (text_of bytes)) _ r e (λ text e1 rest.
-    bind_ok (document_of text) rewritten_of_table r rest (λ document e2 more.
+rewritten_table_sound : (document : Members) (r : RewrittenView) → rewritten_of_table document ≡ Ok r → IsListedSound (listed_in r)
+unfolding rewritten_of_table listed_beside
+rewritten_table_sound document r more =
     bind_ok (original_of document) _ r more (λ o e3 next.
     bind_ok (listed_beside document) _ r next (λ x e4 then.
     bind_ok (in_original (each fault.Limit limited_place 0 o.places)) _ r then (λ places e5 after.
     bind_ok (listed_limits x) _ r after (λ l e6 last.
     bind_ok (listed_setup_of x l) _ r last (λ listed e7 end.
     bind_ok (original_program (names_of x.written.maps) o) _ r end (λ original e8 all.
-    subst (λ (v : RewrittenView). IsListedSound (listed_in v)) (same_Ok _ _ all) (sound_setup x l listed (limited_all x l (written_maps (key.Original ∷ known_keys) document x e4) e6) e7)))))))))
+    subst (λ (v : RewrittenView). IsListedSound (listed_in v)) (same_Ok _ _ all) (sound_setup x l listed (limited_all x l (written_maps (key.Original ∷ known_keys) document x e4) e6) e7)))))))
+
+function_table_sound : (document : Members) (f : FunctionView) → of_function_of_table document ≡ Ok f → IsListedSound (listed_of_function f)
+unfolding of_function_of_table listed_beside
+function_table_sound document f more =
+    bind_ok (function_of document) _ f more (λ o e3 next.
+    bind_ok (listed_beside document) _ f next (λ x e4 then.
+    bind_ok (in_original (each fault.Limit limited_place 0 o.places)) _ f then (λ places e5 after.
+    bind_ok (listed_limits x) _ f after (λ l e6 last.
+    bind_ok (listed_setup_of x l) _ f last (λ listed e7 end.
+    bind_ok (in_original (bytes_in key.Object 0 o.object)) _ f end (λ object e8 all.
+    subst (λ (v : FunctionView). IsListedSound (listed_of_function v)) (same_Ok _ _ all) (sound_setup x l listed (limited_all x l (written_maps (key.Original ∷ known_keys) document x e4) e6) e7)))))))
+
+beside_table_sound : (document : Members) (b : BesideView) → beside_of_table document ≡ Ok b → IsListedSound (listed_in_beside b)
+unfolding beside_of_table
+beside_table_sound document b e = go (names_object document) e
+  where
+    go : (t : Bool) → cond t (of_function_of_table document >>= (λ x. Ok (of_function x))) (rewritten_of_table document >>= (λ r. Ok (of_program r))) ≡ Ok b → IsListedSound (listed_in_beside b)
+    go true h = bind_ok (of_function_of_table document) _ b h (λ f e1 same.
+        subst (λ (v : BesideView). IsListedSound (listed_in_beside v)) (same_Ok _ _ same) (function_table_sound document f e1))
+    go false h = bind_ok (rewritten_of_table document) _ b h (λ r e1 same.
+        subst (λ (v : BesideView). IsListedSound (listed_in_beside v)) (same_Ok _ _ same) (rewritten_table_sound document r e1))
+
+pub beside_sound : (bytes : List ℕ) (b : BesideView) → beside_of bytes ≡ Ok b → IsListedSound (listed_in_beside b)
+unfolding beside_of
+beside_sound bytes b e =
+    bind_ok (or_refused fault.Text whole (text_of bytes)) _ b e (λ text e1 rest.
+    bind_ok (document_of text) beside_of_table b rest (λ document e2 more. beside_table_sound document b more))

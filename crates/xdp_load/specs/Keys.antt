@@ -5,6 +5,7 @@ use Rattle.xdp_load.specs.declared.key.Key.{Key}
 use Rattle.xdp_load.specs.declared.key.Key.TheVariants.{Program, Queues, IfIndex, Start, Map, Name, Entries, Counters, Reloc, Slot}
 use Rattle.xdp_load.specs.declared.key.Key.TheVariants.{OfMap, Step, StepQueue, Answer, Packet, PacketQueue, Bytes, Times, Original}
 use Rattle.xdp_load.specs.declared.key.Key.TheVariants.{Place, Wide, WideMap, WideEntries, KeyKind, KeySize, ConstantSize, Rows, Values, Parts}
+use Rattle.xdp_load.specs.declared.key.Key.TheVariants.{Object, Function}
 
 -- the key of the document that it is, or that holds the rows in which it is
 abbrev pub list_name : Key → List ℕ
@@ -37,6 +38,8 @@ list_name ConstantSize = codes "map"
 list_name Rows = codes "map"
 list_name Parts = codes "map"
 list_name Values = codes "map"
+list_name Object = codes "object"
+list_name Function = codes "function"
 
 -- the key within a row, or the part of a step
 abbrev pub part_name : Key → Option (List ℕ)
@@ -121,7 +124,9 @@ allowed Packet = codes "tables, each with queue, bytes and, optionally, times"
 allowed PacketQueue = codes "a whole number below queues (required)"
 allowed Bytes = codes "a hex text of 14 to 65535 bytes (required)"
 allowed Times = codes "a whole number, 1 to 100000"
-allowed Original = codes "a table with program, places and, optionally, reloc (required)"
+allowed Original = codes "a table with places, and program and reloc, or object and function (required)"
+allowed Object = codes "a hex text of the bytes of an object (required)"
+allowed Function = codes "the name of a function of the object (required)"
 allowed Place = codes "places, each of a whole number, 0 to 4294967295, and true or false"
 allowed Wide = codes "true or false"
 allowed Parts = codes "true or false"

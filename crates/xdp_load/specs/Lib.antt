@@ -26,3 +26,6 @@ pub mod ListedGiven
 pub mod ListedSound
 pub mod ListedFault
 pub mod Plain
+pub mod Function
+pub mod FunctionRows
+pub mod FunctionSeen

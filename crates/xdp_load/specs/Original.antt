@@ -1,6 +1,6 @@
 -- Stated: claims rest on this file.
 -- Settings that say, in a table `original`, of which program theirs was made, or a fault and where it is. Their maps may have lists.
-use Rattle.std.specs.Prelude.{ℕ, ◌≡◌, ◌⊎◌, Bool, List, [], ◌∷◌, length, Option, option_and_then, Result, Ok, Err, if◌then◌else◌}
+use Rattle.std.specs.Prelude.{ℕ, Bool, List, [], ◌∷◌, Option, option_and_then, Result, Ok, Err, if◌then◌else◌}
 use Rattle.bpf_lists.specs.declared.list.MapList.{MapList}
 use Rattle.toml.specs.Data.{Members, as_table}
 use Rattle.xdp_load.specs.declared.fault.Fault.TheVariants as fault
@@ -8,10 +8,10 @@ use Rattle.xdp_load.specs.declared.key.Key.{Key}
 use Rattle.xdp_load.specs.declared.key.Key.TheVariants as key
 use Rattle.xdp_load.specs.Document.{Text, PlaceText, RelocText, found, has_only, place_row, reloc_row}
 use Rattle.xdp_load.specs.Gives.{each, in_original, or_refused, ◌>>=◌}
-use Rattle.xdp_load.specs.Listed.{AreListedBelow, IsRowsFault, ListedView, ListedWritten, known_keys, listed_by, listed_limits, listed_setup_of}
+use Rattle.xdp_load.specs.Listed.{ListedView, ListedWritten, known_keys, listed_by, listed_limits, listed_setup_of}
 use Rattle.xdp_load.specs.Numbers.{limited}
-use Rattle.xdp_load.specs.Setup.{SetupView, document_of, joined, loaded_program, names_of, text_of}
-use Rattle.xdp_load.specs.Spot.{Refused, at, refused, whole}
+use Rattle.xdp_load.specs.Setup.{SetupView, joined, loaded_program, names_of}
+use Rattle.xdp_load.specs.Spot.{Refused, at, refused}
 use Rattle.xdp_load.specs.Written.{program_of, rows_of}
 
 -- the original as it is written
@@ -72,21 +72,6 @@ rewritten_of_table ms = do
   original ← original_program (names_of x.written.maps) o
   Ok (record { setup = listed.setup; lists = listed.lists; original = original; places = places })
 
--- what a text says, or its first fault but those of the rows of lists
-unfoldable pub rewritten_of : List ℕ → Result RewrittenView Refused
-rewritten_of bytes = do
-  text ← or_refused fault.Text whole (text_of bytes)
-  document ← document_of text
-  rewritten_of_table document
-
 -- its setup with the lists
 abbrev pub listed_in : RewrittenView → ListedView
 listed_in r = record { setup = r.setup; lists = r.lists }
-
--- the text says this, with lists of which each is one that a map can have
-abbrev pub IsRewritingOf : List ℕ → RewrittenView → Type 0
-IsRewritingOf text r = (rewritten_of text ≡ Ok r) × AreListedBelow r.lists (length r.lists)
-
--- the text has this first fault, at this spot: it says nothing; or it does, and this is its first list that no map can have
-abbrev pub IsRewritingFault : List ℕ → Refused → Type 0
-IsRewritingFault text f = (rewritten_of text ≡ Err f) ⊎ IsRowsFault (rewritten_of text >>= (λ r. Ok (listed_in r))) f

@@ -1,13 +1,10 @@
 -- Stated: claims rest on this file.
 -- What settings with an original stand for.
-use Rattle.std.specs.Prelude.{map, List, ℕ}
+use Rattle.std.specs.Prelude.{map}
 use Rattle.xdp_load.specs.declared.original.OriginalPlace.{OriginalPlace as CodePlace}
 use Rattle.xdp_load.specs.declared.rewritten.Rewritten.{Rewritten}
-use Rattle.xdp_load.specs.declared.fault.LoadError.{LoadError}
-use Rattle.xdp_load.specs.declared.fault.LoadError.TheVariants as error
-use Rattle.xdp_load.specs.Original.{IsRewritingFault, Place, RewrittenView}
+use Rattle.xdp_load.specs.Original.{Place, RewrittenView}
 use Rattle.xdp_load.specs.SetupSeen.{setup_view}
-use Rattle.xdp_load.specs.SpotSeen.{refused_seen}
 
 abbrev pub place_view : CodePlace → Place
 place_view p = record { at = p.at; own = p.own }
@@ -19,8 +16,3 @@ rewritten_view r = record {
   original = r.original.items;
   places = map place_view r.places.items;
 }
-
--- memory ran out, or this is the text's first fault and its spot
-abbrev pub IsRewritingError : List ℕ → LoadError → Type 0
-IsRewritingError text error.Memory = Unit {0}
-IsRewritingError text (error.Refused r) = IsRewritingFault text (refused_seen r)

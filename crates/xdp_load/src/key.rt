@@ -35,6 +35,8 @@ pub enum Key {
     Rows,
     Values,
     Parts,
+    Object,
+    Function,
 }
 
 impl Key {
@@ -57,6 +59,8 @@ impl Key {
             Key::Original => "original",
             Key::Place => "places",
             Key::Wide => "wide",
+            Key::Object => "object",
+            Key::Function => "function",
         }
     }
 
@@ -153,7 +157,10 @@ impl Key {
             Key::PacketQueue => "a whole number below queues (required)",
             Key::Bytes => "a hex text of 14 to 65535 bytes (required)",
             Key::Times => "a whole number, 1 to 100000",
-            Key::Original => "a table with program, places and, optionally, reloc (required)",
+            Key::Original =>
+                "a table with places, and program and reloc, or object and function (required)",
+            Key::Object => "a hex text of the bytes of an object (required)",
+            Key::Function => "the name of a function of the object (required)",
             Key::Place => "places, each of a whole number, 0 to 4294967295, and true or false",
             Key::Wide | Key::Parts => "true or false",
             Key::WideMap =>

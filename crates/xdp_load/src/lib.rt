@@ -7,13 +7,14 @@
 //!   kind where it comes to it
 //! - `values`: the numbers that counters begin with
 //! - `setup`: all phases in their order, and the setup that they give
-//! - `original`, `rewritten`: settings that have the program too of which theirs was made
+//! - `original`, `rewritten`: settings that have the program too of which theirs was made; `function`: or a function of an object
 //! - `listed`: settings whose maps may have lists, by `keyed`, `listed_document`, `keyed_limits` and `lists`
 //! - `laws`: what holds of settings
 #![tactic(auto)]
 
 mod document;
 mod fault;
+mod function;
 mod key;
 mod keyed;
 mod keyed_limits;
@@ -38,6 +39,7 @@ mod table;
 mod values;
 
 pub use fault::{Fault, LoadError, Part, Refused, TextFault};
+pub use function::{Beside, OfFunction, load_beside};
 pub use key::Key;
 pub use laws::{
     relocated_loads_are_of_maps, settings_without_lists_are_read_as_ever, sound_setups_are_written,
@@ -45,6 +47,6 @@ pub use laws::{
 pub use listed::{Listed, load_listed};
 pub use original::OriginalPlace;
 pub use packets::SentPacket;
-pub use rewritten::{Rewritten, load_rewritten};
+pub use rewritten::Rewritten;
 pub use setup::{Setup, load};
 pub use spot::{Spot, fault_text};

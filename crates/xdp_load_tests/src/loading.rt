@@ -4,7 +4,8 @@ ghost use Rattle.std.specs.Prelude.{◌≤◌, length};
 use bpf_lists::MapList;
 use std::alloc::Global;
 use xdp_load::{
-    Fault, Listed, LoadError, OriginalPlace, Part, Setup, Spot, load, load_listed, load_rewritten,
+    Beside, Fault, Listed, LoadError, OfFunction, OriginalPlace, Part, Rewritten, Setup, Spot,
+    load, load_beside, load_listed,
 };
 
 /// The numbers of the program's bytes, and of shapes, names, steps and packets; the queues; the interface's number; and the index
@@ -128,16 +129,32 @@ pub fn is_refused_at(alloc: Global, text: &str, fault: Fault, spot: &Spot) -> bo
 }
 
 /// Returns whether settings with an original are refused for this fault at this spot of their own keys or of the original's.
-pub fn is_rewritten_refused_at(
+pub fn is_beside_refused_at(
     alloc: Global,
     text: &str,
     fault: Fault,
     part: Part,
     spot: &Spot,
 ) -> bool {
-    match load_rewritten(alloc, text.as_bytes()) {
+    match load_beside(alloc, text.as_bytes()) {
         Ok(_) => false,
         Err(error) => is_at(&error, fault, part, spot),
+    }
+}
+
+/// The settings beside a program, if they are such.
+fn rewritten(alloc: Global, text: &str) -> Option<Rewritten> {
+    match load_beside(alloc, text.as_bytes()) {
+        Ok(Beside::Program(rewritten)) => Some(rewritten),
+        Ok(Beside::Function(_)) | Err(_) => None,
+    }
+}
+
+/// The settings beside a function of an object, if they are such.
+fn of_function(alloc: Global, text: &str) -> Option<OfFunction> {
+    match load_beside(alloc, text.as_bytes()) {
+        Ok(Beside::Function(of_function)) => Some(of_function),
+        Ok(Beside::Program(_)) | Err(_) => None,
     }
 }
 
@@ -157,14 +174,26 @@ pub fn gives_original(
     original: &str,
     places: &[(u32, bool)],
 ) -> bool {
-    match load_rewritten(alloc, text.as_bytes()) {
-        Ok(rewritten) => {
-            is_hex_of(alloc, program, rewritten.listed.setup.program.as_slice())
-                && is_hex_of(alloc, original, rewritten.original.as_slice())
-                && has_places(rewritten.places.as_slice(), places)
-        }
-        Err(_) => false,
-    }
+    rewritten(alloc, text).is_some_and(|rewritten| {
+        is_hex_of(alloc, program, rewritten.listed.setup.program.as_slice())
+            && is_hex_of(alloc, original, rewritten.original.as_slice())
+            && has_places(rewritten.places.as_slice(), places)
+    })
+}
+
+/// Returns whether settings beside a function give this object, as a hexadecimal text, this name and these places.
+pub fn gives_function(
+    alloc: Global,
+    text: &str,
+    object: &str,
+    function: &str,
+    places: &[(u32, bool)],
+) -> bool {
+    of_function(alloc, text).is_some_and(|given| {
+        is_hex_of(alloc, object, given.object.as_slice())
+            && given.function.as_str() == function
+            && has_places(given.places.as_slice(), places)
+    })
 }
 
 /// Returns whether settings with lists are refused for this fault at this spot.
@@ -254,8 +283,12 @@ pub fn lists_given(alloc: Global, text: &str) -> Option<usize> {
 
 /// Returns the number of maps with a list in settings with an original.
 pub fn lists_beside_original(alloc: Global, text: &str) -> Option<usize> {
-    let rewritten = load_rewritten(alloc, text.as_bytes()).ok()?;
-    Some(lists_in(&rewritten.listed))
+    Some(lists_in(&rewritten(alloc, text)?.listed))
+}
+
+/// Returns the number of maps with a list in settings beside a function.
+pub fn lists_beside_function(alloc: Global, text: &str) -> Option<usize> {
+    Some(lists_in(&of_function(alloc, text)?.listed))
 }
 
 /// The counts of a setup with lists, or why there is none.

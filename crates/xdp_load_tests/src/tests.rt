@@ -1,4 +1,5 @@
 mod beginnings;
+mod functions;
 mod growth;
 mod lists;
 mod originals;

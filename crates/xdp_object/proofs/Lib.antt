@@ -1,3 +1,4 @@
 mod ConstantsLemmas
 mod LinkLemmas
 mod MapLemmas
+mod OriginalLemmas

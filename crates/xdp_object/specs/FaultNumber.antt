@@ -11,8 +11,12 @@ use Rattle.bpf_object.specs.declared.fault.ConstantsFault.{ConstantsFault}
 use Rattle.bpf_object.specs.declared.fault.ConstantsFault.TheVariants as constants
 use Rattle.bpf_object.specs.declared.fault.TypesFault.{TypesFault}
 use Rattle.bpf_object.specs.declared.fault.TypesFault.TheVariants as types
+use Rattle.xdp_object.specs.declared.fault.GivenCause.{GivenCause}
+use Rattle.xdp_object.specs.declared.fault.GivenCause.TheVariants as given
 use Rattle.xdp_object.specs.declared.fault.MapCause.{MapCause}
 use Rattle.xdp_object.specs.declared.fault.MapCause.TheVariants as cause
+use Rattle.xdp_object.specs.declared.fault.OriginalFault.{OriginalFault}
+use Rattle.xdp_object.specs.declared.fault.OriginalFault.TheVariants as original
 use Rattle.xdp_object.specs.declared.fault.SetupFault.{SetupFault}
 use Rattle.xdp_object.specs.declared.fault.SetupFault.TheVariants.{Object, Program, Maps, Types, Map, Memory}
 use Rattle.xdp_object.specs.declared.fault.ShapeFault.{ShapeFault}
@@ -107,3 +111,25 @@ fault_place Maps = 0
 fault_place (Types fault) = types_place fault
 fault_place (Map number cause) = number
 fault_place Memory = 0
+
+-- ---- where a function is no program with given maps; a place is a slot of the function then
+
+abbrev pub given_number : GivenCause → ℕ
+given_number (given.Map cause) = cause_number cause
+given_number given.Name = 34
+given_number given.Shape = 35
+given_number given.Constants = 36
+
+abbrev pub original_number : OriginalFault → ℕ
+original_number (original.Object fault) = object_number fault
+original_number (original.Program fault) = program_number fault
+original_number (original.Types fault) = types_number fault
+original_number (original.Map slot cause) = given_number cause
+original_number original.Memory = 0
+
+abbrev pub original_place : OriginalFault → ℕ
+original_place (original.Object fault) = object_place fault
+original_place (original.Program fault) = program_place fault
+original_place (original.Types fault) = types_place fault
+original_place (original.Map slot cause) = slot
+original_place original.Memory = 0

@@ -7,3 +7,5 @@ pub mod MapsSeen
 pub mod Setup
 pub mod SetupSeen
 pub mod FaultNumber
+pub mod Original
+pub mod OriginalSeen

@@ -22,9 +22,9 @@ pub(crate) struct ListedMaps {
 
 /// Constants that a map can have, and its name.
 #[derive(Clone, Copy, Drop)]
-struct NamedConstants<'a> {
-    name: &'a str,
-    bytes: &'a [u8],
+pub(crate) struct NamedConstants<'a> {
+    pub(crate) name: &'a str,
+    pub(crate) bytes: &'a [u8],
 }
 
 /// No list for any of some maps.
@@ -39,7 +39,10 @@ fn no_lists(alloc: Global, count: usize) -> Result<Vec<Option<MapList>>, AllocEr
 }
 
 /// The constants of a section, if a map can have them.
-fn constants_in<'a>(object: &Object<'a>, section: usize) -> Result<NamedConstants<'a>, MapCause>
+pub(crate) fn constants_in<'a>(
+    object: &Object<'a>,
+    section: usize,
+) -> Result<NamedConstants<'a>, MapCause>
     ensures ok { IfOk result (λ c. AreConstants object.now section c.name.now c.bytes.now) }
     ensures err { IfErr result (IsConstantsCause object.now section) }
 {
@@ -60,7 +63,7 @@ fn constants_in<'a>(object: &Object<'a>, section: usize) -> Result<NamedConstant
 }
 
 /// The shape of a map of constants.
-fn shape_of(bytes: usize) -> MapShape
+pub(crate) fn shape_of(bytes: usize) -> MapShape
     requires { bytes ≤ 65536 }
     ensures { result ≡ constants_shape bytes }
 {

@@ -48,6 +48,35 @@ pub enum ShapeFault {
     Value,
 }
 
+/// The reason why an object's function is no program with given maps. The causes are tried in this order, and wide loads from the first on,
+/// those of constants last.
+#[derive(Clone, Copy, Debug, PartialEq, Eq, Drop)]
+pub enum OriginalFault {
+    /// The bytes are no object for BPF.
+    Object(ObjectFault),
+    /// The object has no program of this name.
+    Program(ProgramFault),
+    /// The program refers to maps, and the object's types can't be read.
+    Types(TypesFault),
+    /// What the wide load at this slot refers to isn't given.
+    Map(usize, GivenCause),
+    /// Memory ran out.
+    Memory,
+}
+
+/// The reason why an object's map isn't one of those given. The causes are tried in this order.
+#[derive(Clone, Copy, Debug, PartialEq, Eq, Drop)]
+pub enum GivenCause {
+    /// It can't be one here.
+    Map(MapCause),
+    /// None that is given has its name.
+    Name,
+    /// The one of its name has other entries, counters or keys.
+    Shape,
+    /// The one of its name has other constants.
+    Constants,
+}
+
 impl From<AllocError> for SetupFault {
     ghost use Rattle.std.specs.Prelude.{◌≡◌};
     ghost use Rattle.xdp_object.specs.declared.fault.SetupFault.TheVariants.{Memory};
@@ -67,5 +96,16 @@ impl<T: Drop> From<AllocFailed<T>> for SetupFault {
 
     fn from(_error: AllocFailed<T>) -> SetupFault {
         SetupFault::Memory
+    }
+}
+
+impl From<AllocError> for OriginalFault {
+    ghost use Rattle.std.specs.Prelude.{◌≡◌};
+    ghost use Rattle.xdp_object.specs.declared.fault.OriginalFault.TheVariants.{Memory};
+
+    ghost from_gives = { λ _ e. e ≡ Memory };
+
+    fn from(_error: AllocError) -> OriginalFault {
+        OriginalFault::Memory
     }
 }

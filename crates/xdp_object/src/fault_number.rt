@@ -1,9 +1,9 @@
 //! The number of each cause, and where it is.
 ghost use Rattle.std.specs.Prelude.{◌≡◌};
 ghost use Rattle.xdp_object.specs.FaultNumber.{object_number, relocation_number, program_number, types_number, constants_number, shape_number, cause_number, fault_number};
-ghost use Rattle.xdp_object.specs.FaultNumber.{object_place, program_place, types_place, fault_place};
+ghost use Rattle.xdp_object.specs.FaultNumber.{object_place, program_place, types_place, fault_place, given_number, original_number, original_place};
 
-use crate::fault::{MapCause, SetupFault, ShapeFault};
+use crate::fault::{GivenCause, MapCause, OriginalFault, SetupFault, ShapeFault};
 use bpf_object::{ConstantsFault, ObjectFault, ProgramFault, RelocationFault, TypesFault};
 
 /// The number of each cause why bytes are no object.
@@ -100,6 +100,18 @@ fn cause_number(cause: MapCause) -> u8
     }
 }
 
+/// The number of each cause why a map isn't given.
+fn given_number(cause: GivenCause) -> u8
+    ensures { result ≡ given_number cause }
+{
+    match cause {
+        GivenCause::Map(cause) => cause_number(cause),
+        GivenCause::Name => 34,
+        GivenCause::Shape => 35,
+        GivenCause::Constants => 36,
+    }
+}
+
 /// The section that is none, or the second symbol table.
 fn object_place(fault: ObjectFault) -> usize
     ensures { result ≡ object_place fault }
@@ -161,6 +173,34 @@ impl SetupFault {
             SetupFault::Types(fault) => types_place(fault),
             SetupFault::Map(number, _) => number,
             SetupFault::Maps | SetupFault::Memory => 0,
+        }
+    }
+}
+
+impl OriginalFault {
+    /// Its number: 0 if memory ran out.
+    pub fn number(self) -> u8
+        ensures { result ≡ original_number self }
+    {
+        match self {
+            OriginalFault::Object(fault) => object_number(fault),
+            OriginalFault::Program(fault) => program_number(fault),
+            OriginalFault::Types(fault) => types_number(fault),
+            OriginalFault::Map(_, cause) => given_number(cause),
+            OriginalFault::Memory => 0,
+        }
+    }
+
+    /// Returns where it is: a section, a symbol, a relocation or a type of the object, or a slot of the function.
+    pub fn place(self) -> usize
+        ensures { result ≡ original_place self }
+    {
+        match self {
+            OriginalFault::Object(fault) => object_place(fault),
+            OriginalFault::Program(fault) => program_place(fault),
+            OriginalFault::Types(fault) => types_place(fault),
+            OriginalFault::Map(slot, _) => slot,
+            OriginalFault::Memory => 0,
         }
     }
 }

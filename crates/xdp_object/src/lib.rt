@@ -4,6 +4,7 @@
 //! - `shape`: what a definition of a map is here
 //! - `maps`: the names and the shapes of a program's maps; `constants`: the maps of its constants behind these
 //! - `setup`: all of it
+//! - `original`: the same with the numbers of given maps
 //! - `fault`, `fault_number`: why there is none, and the number of each cause
 #![tactic(auto)]
 
@@ -12,8 +13,10 @@ mod fault;
 mod fault_number;
 mod link;
 mod maps;
+mod original;
 mod setup;
 mod shape;
 
-pub use fault::{MapCause, SetupFault, ShapeFault};
+pub use fault::{GivenCause, MapCause, OriginalFault, SetupFault, ShapeFault};
+pub use original::{GivenMaps, original_of};
 pub use setup::{ObjectSetup, setup_of};

@@ -57,7 +57,7 @@ fn number_of(those: &mut Vec<usize>, one: usize, most: usize) -> Result<usize, S
 }
 
 /// Writes the number of a map into the wide load at a place.
-fn set_map(program: &mut [u8], at: usize, number: u8)
+pub(crate) fn set_map(program: &mut [u8], at: usize, number: u8)
     requires { at + 16 ≤ length program.old }
     ensures { program.new ≡ with_map program.old at number }
 {
@@ -77,7 +77,7 @@ fn set_imm(program: &mut [u8], at: usize, number: u64)
 }
 
 /// Writes an address of 32 bits into the wide load at a place.
-fn set_address(program: &mut [u8], at: usize, address: u64)
+pub(crate) fn set_address(program: &mut [u8], at: usize, address: u64)
     requires { at + 16 ≤ length program.old }
     ensures { program.new ≡ with_address program.old at address }
 {
@@ -86,7 +86,7 @@ fn set_address(program: &mut [u8], at: usize, address: u64)
 }
 
 /// The address of a constant of a map.
-fn address_of(map: usize, place: u32) -> u64
+pub(crate) fn address_of(map: usize, place: u32) -> u64
     requires { map < 16 }
     ensures { result ≡ constant_address map place }
 {

@@ -27,7 +27,12 @@ struct NamedShape {
 }
 
 /// The shape of the map of a symbol of this name.
-fn shape_in(object: &Object, types: &Types, symbol: usize, name: &str) -> Result<MapShape, MapCause>
+pub(crate) fn shape_in(
+    object: &Object,
+    types: &Types,
+    symbol: usize,
+    name: &str,
+) -> Result<MapShape, MapCause>
     requires types { AreTypesOf object.now types.now }
     requires name { IsNamedMap object.now symbol name.now }
     ensures ok { IfOk result (HasShape object.now symbol) }
@@ -58,7 +63,7 @@ pub(crate) fn right_name(name: &[u8]) -> Option<&str>
 }
 
 /// The name of a symbol's map.
-fn name_in<'a>(
+pub(crate) fn name_in<'a>(
     alloc: Global,
     object: &Object<'a>,
     types: &Types,

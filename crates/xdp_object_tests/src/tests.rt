@@ -1,4 +1,5 @@
 mod constants;
 mod growth;
 mod object;
+mod originals;
 mod shapes;

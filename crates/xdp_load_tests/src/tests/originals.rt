@@ -1,5 +1,5 @@
 //! Settings that have the program too of which theirs was made.
-use crate::loading::{gives_original, is_rewritten_refused_at, lists_beside_original};
+use crate::loading::{gives_original, is_beside_refused_at, lists_beside_original};
 use xdp_load::{Fault, Key, Part, Spot};
 
 #[test]
@@ -49,7 +49,7 @@ fn faults_of_the_original_have_their_spots(rt: HostRuntime) {
             Spot::Row(Key::Slot, 0),
         ),
     ] {
-        assert!(rt; is_rewritten_refused_at(rt.alloc(), text, fault, Part::Original, &spot));
+        assert!(rt; is_beside_refused_at(rt.alloc(), text, fault, Part::Original, &spot));
     }
 }
 
@@ -74,7 +74,7 @@ fn faults_of_the_settings_are_their_own(rt: HostRuntime) {
             Spot::Row(Key::Program, 0),
         ),
     ] {
-        assert!(rt; is_rewritten_refused_at(rt.alloc(), text, fault, Part::Settings, &spot));
+        assert!(rt; is_beside_refused_at(rt.alloc(), text, fault, Part::Settings, &spot));
     }
 }
 
@@ -104,7 +104,7 @@ map = [{ name = \"a\", entries = 2, key = \"exact\", rows = [\"0a010203\", \"0a0
 program = []
 ";
     let spot = Spot::Row(Key::Rows, 0);
-    assert!(rt; is_rewritten_refused_at(rt.alloc(), twice, Fault::Rows, Part::Settings, &spot));
+    assert!(rt; is_beside_refused_at(rt.alloc(), twice, Fault::Rows, Part::Settings, &spot));
     let both = "\
 program = []
 map = [{ name = \"a\", entries = 2, key = \"exact\", rows = [\"0a010203\", \"0a010203\"] }]
@@ -112,5 +112,5 @@ map = [{ name = \"a\", entries = 2, key = \"exact\", rows = [\"0a010203\", \"0a0
 program = [\"0\"]
 ";
     let spot = Spot::Row(Key::Program, 0);
-    assert!(rt; is_rewritten_refused_at(rt.alloc(), both, Fault::Hex, Part::Original, &spot));
+    assert!(rt; is_beside_refused_at(rt.alloc(), both, Fault::Hex, Part::Original, &spot));
 }

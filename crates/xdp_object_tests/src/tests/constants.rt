@@ -58,7 +58,7 @@ fn set(bytes: &mut [u8], place: usize, byte: u8) {
 }
 
 /// The object with as many bytes of constants, of which the later ones are those behind it.
-fn of_size(alloc: Global, size: u32) -> Result<Vec<u8>, AllocError> {
+pub fn of_size(alloc: Global, size: u32) -> Result<Vec<u8>, AllocError> {
     let mut bytes = vec![in alloc; 0; BYTES]?;
     for (place, byte) in SETTINGS.iter().enumerate() {
         set(bytes.as_mut_slice(), place, *byte);
