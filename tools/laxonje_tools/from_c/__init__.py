@@ -4,6 +4,8 @@
     elf       an object file's sections, symbols and relocations
     btf       its debug information: the sizes of maps, and the line of C of each slot
     calls     functions and helpers whose calls are written out
+    helpers   instructions that do what a helper does
+    tables    hash maps to which a program adds rows
     frames    how much of the stack a function uses
     absent    what isn't here, with Linux's answer where there is none of it either
     own_device  redirects to the device that a packet came from

@@ -9,39 +9,32 @@ import struct
 from functools import partial
 from typing import TYPE_CHECKING, AbstractSet, Callable, Iterator, NamedTuple, Optional
 
-from .absent import ABORTED, ACTION, ALL_DEVICES, DEVICES, DROPPED, LOCKS, PRINTS, REDIRECT, REDIRECT_MAP, SENT_BACK
+from .absent import DEVICES, LOCKS, PRINTS, REDIRECT, REDIRECT_MAP, SENT_BACK
 from .elf import SLOT_BYTES
 from .frames import below_frames, check_frames, frame_of, move_frame, named_by
+from .helpers import END_FIELD, START_FIELD, action_in_flags, compared_with_mtu, copied, redirected, updated, words_of
 from .lines import (
     CALL, EXIT, JUMP, MOV_CONSTANT, SAVED, STACK_BYTES, Fault, Line, constant_in, lines_of, map_in, packed, put_all, read_later, set_in,
     stack_place_in, writes, written,
 )  # fmt: skip
-from .own_device import DEVICE_FIELD, sent_back
+from .own_device import sent_back
 from .repeated import EACH, LOOP, NAMES, check_flags, for_each, repeated
 from .sequences import answered, sequence_of
 from .sums import summed_of
+from .tables import HASHES, OF_ROWS, Writing, table_of, with_row
 
 if TYPE_CHECKING:
     from collections.abc import Mapping
 
     from .absent import Absent
+    from .btf import MapOfC
     from .elf import Function
+    from .tables import Table
 
 LOCAL, FRAME, MOST_DEPTH, MOST_SLOTS = 1, 10, 8, 4096
-MOV_64, MOV_32, ADD_CONSTANT, ADD, SUB, XOR_CONSTANT, AND, AND_CONSTANT, LSH_CONSTANT, ARSH_CONSTANT = (
-    0xBF, 0xBC, 0x07, 0x0F, 0x1F, 0xA7, 0x5F, 0x57, 0x67, 0xC7,
-)  # fmt: skip
-LOAD_BYTE, LOAD_HALF, LOAD_WORD, LOAD_DOUBLE = 0x71, 0x69, 0x61, 0x79
-STORE_BYTE, STORE_HALF, STORE_WORD, STORE_DOUBLE, STORE_DOUBLE_CONSTANT = 0x73, 0x6B, 0x63, 0x7B, 0x7A
-DOUBLE = 8  # bytes
-COPIES = {1: (LOAD_BYTE, STORE_BYTE), 2: (LOAD_HALF, STORE_HALF), 4: (LOAD_WORD, STORE_WORD), 8: (LOAD_DOUBLE, STORE_DOUBLE)}  # by size
-IF_ABOVE, IF_ABOVE_CONSTANT, IF_NOT_CONSTANT, IF_EQUAL, IF_EQUAL_CONSTANT, IF_AT_MOST_SIGNED = 0x2D, 0x25, 0x55, 0x1D, 0x15, 0xD5
-LOOKUP, UPDATE, ANY, THERE, TOO_BIG = 1, 2, 0, 2, -7  # the third and fourth are flags: BPF_ANY, BPF_EXIST; the last is E2BIG
+SUB, LOAD_WORD, LOAD_DOUBLE, STORE_DOUBLE, STORE_DOUBLE_CONSTANT = 0x1F, 0x61, 0x79, 0x7B, 0x7A
+UPDATE, ANY, THERE = 2, 0, 2  # the latter two are flags: BPF_ANY, BPF_EXIST
 LOCK, UNLOCK, PRINTK, CPU, CSUM_DIFF, CHECK_MTU, VPRINTK, BUFF_LEN, LOAD_BYTES, STORE_BYTES = 93, 94, 6, 8, 28, 163, 177, 188, 189, 190
-TOO_FAR, TOO_LONG, MOST_OFFSET = -14, -22, 0xFFFF  # of Linux: EFAULT, EINVAL, and the offset from which on it is the former
-NO_FLAGS, NO_DEVICE, TOO_LARGE, HEADER_BYTES = -22, -19, 1, 14  # of Linux: EINVAL, ENODEV, BPF_MTU_CHK_RET_FRAG_NEEDED; of Ethernet
-MOST_COPIED = 128  # bytes
-START_FIELD, END_FIELD = 0, 4  # of the context
 WITHOUT_LOCK = "the lock is left out: while another queue judges too, what it guards isn't done in one step"
 TO_ITS_DEVICE = "bpf_redirect to the device that the packet came from gives XDP_TX"
 OF_ODD_SIZES = "bpf_csum_diff of a size that is no multiple of 4 gives -EINVAL, as in Linux before 6.13"
@@ -50,7 +43,8 @@ OF_ITS_DEVICE = "bpf_check_mtu answers for the packet's own device, with an MTU 
 
 class Replaced(NamedTuple):
     """A function without such calls. `origins`: of each slot the one of the function as it was. `notes`: (slot, words). `maps`: the
-    names of those that were added, each of one counter. `stack`: how many bytes of it are used, None if that isn't shown."""
+    names of those that were added, each of one counter. `stack`: how many bytes of it are used, None if that isn't shown. `tables`:
+    the hash maps that are tables, by their names."""
 
     code: bytes
     relocations: list
@@ -58,6 +52,7 @@ class Replaced(NamedTuple):
     notes: list
     maps: list
     stack: Optional[int]
+    tables: Mapping[str, Table] = {}
 
 
 class Inlined(NamedTuple):
@@ -68,14 +63,19 @@ class Inlined(NamedTuple):
 
 
 class Array(NamedTuple):
-    """An array: the numbers of a value, as (place, size), and how many values there are."""
+    """An array, or a hash map: the numbers of a value, as (place, size), how many values there are, and how it is declared."""
 
     parts: list[tuple[int, int]]
     entries: int
+    declared: MapOfC
+
+    @property
+    def is_hash(self) -> bool:
+        return self.declared.type in HASHES
 
 
 class Calls:
-    """The functions of a file, and of a call the one that it leads to. `absent`: what is left out. `arrays`: those by their
+    """The functions of a file, and of a call the one that it leads to. `absent`: what is left out. `maps`: arrays and hash maps by their
     names. `frames`: by name how much of the stack a function uses, None of an object file. `mtu`:
     that of the device that packets come from, None if it isn't said; `clock`: the nanoseconds between two calls for the time, the same."""
 
@@ -84,16 +84,19 @@ class Calls:
         functions: list[Function],
         relocations: Callable,
         absent: Absent,
-        arrays: Mapping[str, Array],
+        maps: Mapping[str, Array],
         frames: Optional[Mapping[str, int]],
         mtu: Optional[int] = None,
         clock: Optional[int] = None,
     ) -> None:
-        self.functions, self.relocations, self.absent, self.arrays, self.frames = functions, relocations, absent, arrays, frames
+        self.functions, self.relocations, self.absent, self.frames = functions, relocations, absent, frames
+        self.arrays = {name: row for name, row in maps.items() if not row.is_hash}
+        self.hashes, self.tables = {name: row for name, row in maps.items() if row.is_hash}, {}
         self.mtu, self.clock, self.notes, self.sent_back, self.maps = mtu, clock, [], set(), {}
         self.blank = set()  # words of the stack that a call may leave as they are, and that clang may load before it looks at the answer
 
     def replaced(self, function: Function) -> Replaced:
+        self.tables = {name: table_of(self.hashes[name].declared) for name in sorted(self.filled_by(function))}
         own, (lines, used) = self.frame(function), self.inlined(function, 0, 0)
         is_shown = self.frames is not None or below_frames(lines) is None
         if not is_shown and used > own:
@@ -102,7 +105,27 @@ class Calls:
             if line.row is not None and self.absent.has(line.row.name):
                 line.put(MOV_CONSTANT, line.destination, 0, 0, self.absent.flags_of(line.row.name))
         lines = [*(Line(packed(STORE_DOUBLE_CONSTANT, FRAME, 0, at), 0) for at in sorted(self.blank)), *lines]
-        return Replaced(*written(lines), sorted(set(self.notes)), list(self.maps), used if is_shown else None)
+        return Replaced(*written(lines), sorted(set(self.notes)), list(self.maps), used if is_shown else None, self.tables)
+
+    def filled_by(self, function: Function) -> set[str]:
+        """The hash maps to which a function adds rows, or those that it calls."""
+        found, seen, todo = set(), set(), [function]
+        while todo:
+            here = todo.pop()
+            if (here.section, here.place) in seen:
+                continue
+            seen.add((here.section, here.place))
+            lines = lines_of(here.code, list(self.relocations(here)))
+            for line in lines:
+                is_update = (line.opcode, line.source, line.immediate) == (CALL, 0, UPDATE) and line.row is None
+                found |= {map_in(lines, line, 1)} & self.hashes.keys() if is_update else set()
+                place = (line.row.section, line.row.place) if line.row is not None else None
+                todo += [other for other in (self.called(here, line), self.function_at(place)) if other is not None]
+        return found
+
+    def function_at(self, place: Optional[tuple[str, int]]) -> Optional[Function]:
+        """The function that stands there, as (section, place); None if there is none."""
+        return next((other for other in self.functions if (other.section, other.place) == place), None)
 
     def frame(self, function: Function) -> int:
         """How many bytes of the stack a function uses by itself."""
@@ -145,7 +168,7 @@ class Calls:
             section, place = function.section, function.place + SLOT_BYTES * (line.slot + line.immediate + 1)
         else:
             section, place = line.row.section, line.row.place + SLOT_BYTES * (line.immediate + 1)
-        return next((other for other in self.functions if (other.section, other.place) == (section, place)), None)
+        return self.function_at((section, place))
 
     def again(self, line: Line, lines: list[Line], used: int, call: Callable) -> Inlined:
         """The lines in the place of a call that calls a function again and again."""
@@ -167,7 +190,7 @@ class Calls:
             return None
         address = set_in(lines, line, 2)
         place = (address.row.section, address.row.place) if address is not None and address.row is not None else None
-        found = next((other for other in self.functions if (other.section, other.place) == place), None)
+        found = self.function_at(place)
         if found is None:
             raise Fault(f"calls {NAMES[line.immediate]} of a function that the lines in front of it don't say")
         check_flags(NAMES[line.immediate], constant_in(lines, line, 4))
@@ -214,6 +237,8 @@ class Calls:
             self.maps[sequence.map] = None
             return answered(line, sequence, above)
         constant, named = (partial(of, lines, line) for of in (constant_in, map_in))
+        if number in OF_ROWS and self.tables and (named(1) is None or named(1) in self.tables):
+            return self.of_table(line, named(1), constant(4), above)
         answer = (SENT_BACK, TO_ITS_DEVICE) if line in self.sent_back else self.absent.answer(number, constant, named)
         if answer is not None:
             self.notes.append((line.origin, answer[1]))
@@ -247,104 +272,15 @@ class Calls:
             return summed_of(line, *sizes)
         return [line]
 
-
-def words_of(place: Optional[int], size: int) -> set[int]:
-    """The words of the stack that have bytes of a buffer there."""
-    return set() if place is None else {at // DOUBLE * DOUBLE for at in range(place, place + size)}
-
-
-def copied(line: Line, size: Optional[int], is_store: bool) -> list[Line]:
-    """bpf_xdp_load_bytes and bpf_xdp_store_bytes: (context, offset, buffer, size)."""
-    if size is None or not 0 < size <= MOST_COPIED:
-        name = "bpf_xdp_store_bytes" if is_store else "bpf_xdp_load_bytes"
-        raise Fault(f"calls {name} of a size that isn't a constant of 1 to {MOST_COPIED}: use a constant, or compare and read through data")
-    rows = [
-        (MOV_32, 2, 2),
-        (MOV_CONSTANT, 0, 0, 0, TOO_FAR),
-        (IF_ABOVE_CONSTANT, 2, 0, 0, MOST_OFFSET),
-        (MOV_CONSTANT, 0, 0, 0, TOO_LONG),
-        (LOAD_WORD, 5, 1, END_FIELD),
-        (LOAD_WORD, 1, 1, START_FIELD),
-        (ADD, 1, 2),
-        (MOV_64, 2, 1),
-        (ADD_CONSTANT, 2, 0, 0, size),
-        (IF_ABOVE, 2, 5),
-    ]
-    to, source = (1, 3) if is_store else (3, 1)
-    for at in range(size):
-        rows += [(LOAD_BYTE, 0, source, at), (STORE_BYTE, to, 0, at)]
-    out = put_all(line, [*rows, (MOV_CONSTANT, 0), (JUMP,)])
-    for row in out[2], out[9]:
-        row.target = out[-1]
-    return out
-
-
-def compared_with_mtu(line: Line, mtu: int) -> list[Line]:
-    """bpf_check_mtu: (context, device, address of a length of 32 bits, what is added to it, flags). A length of 0 is the packet's,
-    another one has no link header. The MTU is left in its place."""
-    rows = [
-        (MOV_CONSTANT, 0, 0, 0, NO_FLAGS),
-        (IF_NOT_CONSTANT, 5),
-        (MOV_32, 2, 2),
-        (IF_EQUAL_CONSTANT, 2),
-        (LOAD_WORD, 0, 1, DEVICE_FIELD),
-        (IF_EQUAL, 2, 0),
-        (MOV_CONSTANT, 0, 0, 0, NO_DEVICE),
-        (JUMP,),
-        (LOAD_WORD, 2, 3),  # of its own device
-        (IF_NOT_CONSTANT, 2),
-        (LOAD_WORD, 2, 1, END_FIELD),
-        (LOAD_WORD, 0, 1, START_FIELD),
-        (SUB, 2, 0),
-        (JUMP,),
-        (ADD_CONSTANT, 2, 0, 0, HEADER_BYTES),  # of a length that was given
-        (ADD, 2, 4),
-        (LSH_CONSTANT, 2, 0, 0, 32),
-        (ARSH_CONSTANT, 2, 0, 0, 32),
-        (MOV_CONSTANT, 0, 0, 0, mtu),
-        (STORE_WORD, 3, 0),
-        (MOV_CONSTANT,),
-        (IF_AT_MOST_SIGNED, 2, 0, 0, mtu + HEADER_BYTES),
-        (MOV_CONSTANT, 0, 0, 0, TOO_LARGE),
-        (JUMP,),
-    ]
-    out = put_all(line, rows)
-    for at, to in (1, -1), (3, 8), (5, 8), (7, -1), (9, 14), (13, 15), (21, -1):
-        out[at].target = out[to]
-    return out
-
-
-def updated(line: Line, parts: list[tuple[int, int]], above: int) -> list[Line]:
-    """bpf_map_update_elem: (an array, key, value, flags). The value's address is kept below what is in use of the stack.
-    `parts`: the numbers of a value, as (place, size)."""
-    place = -(above + DOUBLE)
-    if -place > STACK_BYTES:
-        raise Fault(f"calls bpf_map_update_elem with more than {STACK_BYTES - DOUBLE} bytes of the stack in use")
-    rows = [(STORE_DOUBLE, FRAME, 3, place), (CALL, 0, 0, 0, LOOKUP), (MOV_64, 1, 0), (MOV_CONSTANT, 0, 0, 0, TOO_BIG)]
-    rows += [(IF_NOT_CONSTANT, 1, 0, 1), (JUMP,), (LOAD_DOUBLE, 3, FRAME, place)]
-    for at, size in parts:
-        load, store = COPIES[size]
-        rows += [(load, 2, 3, at), (store, 1, 2, at)]
-    out = put_all(line, [*rows, (MOV_CONSTANT,), (JUMP,)])
-    out[4].target, out[5].target = out[6], out[-1]
-    return out
-
-
-def redirected(line: Line) -> list[Line]:
-    """bpf_redirect: (device, flags), to a device that there isn't, with flags that are no constant."""
-    out = put_all(line, [(MOV_CONSTANT, 0, 0, 0, ABORTED), (IF_NOT_CONSTANT, 2), (MOV_CONSTANT, 0, 0, 0, DROPPED), (JUMP,)])
-    out[1].target = out[-1]
-    return out
-
-
-def action_in_flags(line: Line) -> list[Line]:
-    """bpf_redirect_map: (the flags that the map knows, key, flags), while there is nothing in the map."""
-    rows = [(MOV_CONSTANT, 0, 0, 0, ABORTED), (XOR_CONSTANT, 1, 0, 0, -1), (AND, 1, 3), (IF_NOT_CONSTANT, 1)]
-    rows += [(MOV_CONSTANT, 0, 0, 0, DROPPED), (MOV_64, 2, 3), (AND_CONSTANT, 2, 0, 0, ALL_DEVICES), (IF_NOT_CONSTANT, 2)]
-    out = put_all(line, [*rows, (MOV_64, 0, 3), (AND_CONSTANT, 0, 0, 0, ACTION), (JUMP,)])
-    for row in out[3], out[7]:
-        row.target = out[-1]
-    return out
+    def of_table(self, line: Line, name: Optional[str], flags: Optional[int], above: int) -> list[Line]:
+        """What a helper does with a row of a hash map that is a table."""
+        number = line.immediate
+        if name is None:
+            raise Fault(f"calls {OF_ROWS[number]} of one map or another, and the program adds rows to {', '.join(self.tables)}: call it in each branch")
+        table = self.tables[name]
+        if number == UPDATE and not any(table.note in words for _, words in self.notes):
+            self.notes.append((line.origin, table.note))
+        return with_row(Writing(line, table, above), number, flags, self.hashes[name].parts)
 
 
 def has_calls(code: bytes) -> Iterator[int]:

@@ -46,8 +46,9 @@ MEMCMP = "#define memcmp inlined_memcmp\n"
 # what clang isn't to do: compare distances where C compares addresses, and store once through one of two addresses
 # where C stores twice. Other versions may not know these words
 KEPT_AS_IN_C = ["-indvars-predicate-loops=false", "-sink-common-insts=false"]
-# and store two numbers of a struct at once; and join two conditions to one
-STORED_APART, TESTED_APART = "-combiner-store-merging=false", "-simplifycfg-branch-fold-threshold=0"
+# and store two numbers of a struct at once; and join two conditions to one; and take a number that is read as one of another type for
+# another number, as C allows
+STORED_APART, TESTED_APART, OF_ANY_TYPE = "-combiner-store-merging=false", "-simplifycfg-branch-fold-threshold=0", "-fno-strict-aliasing"
 # of what clang says of stacks, a line for each function: where it stands, its name, and how many bytes it uses
 FRAME = re.compile(r":(?P<name>[^:\t\n]+)\t(?P<bytes>[0-9]+)\t", re.M)
 # a function `memcmp` of a file's own, as there is no library: behind a type or an attribute, and not in the condition of an `if`
@@ -81,7 +82,7 @@ def compile_with(words: list[str], ours: list[str]) -> int:
     """clang's status. What it says goes to standard error, but for words of ours that it doesn't know."""
     ours = [word for word in ours if not any(word.partition("=")[0] in given for given in words)]
     while True:
-        more = [part for word in ours for part in ("-mllvm", word)]
+        more = [part for word in ours for part in ([word] if word.startswith("-f") else ["-mllvm", word])]
         run = subprocess.run([*words, *more], stderr=subprocess.PIPE, check=False)
         unknown = {name.decode() for name in UNKNOWN_WORD.findall(run.stderr)} & set(ours)
         if not run.returncode or not unknown:

@@ -24,7 +24,8 @@ ARRAYS, PER_CPU, KEYED = (2, 6), (5, 6, 10), {1: EXACT, 5: EXACT, 9: EXACT, 10: 
 
 NO_ROWS = (
     "a program adds no row and takes none away: keep state by address in a BPF_MAP_TYPE_ARRAY, under a hash of the address, as"
-    " examples/straightened/budget-by-source does; the rows of a list are given by --list"
+    " examples/straightened/budget-by-source does; or --tables keeps the rows of a hash map in an array, which may be full sooner than in"
+    " Linux; the rows of a list are given by --list"
 )
 LISTED = f"{NO_ROWS}; or make it a BPF_MAP_TYPE_HASH, if it is such a list"
 NO_REDIRECT = (

@@ -16,6 +16,7 @@ if TYPE_CHECKING:
     from .layouts import Layout
     from .large import InRows
     from .program import Asked
+    from .tables import Table
 
 TEXT = ".text"  # a section of functions that others call
 SizedMap = tuple[str, int, Optional[int]]  # its name, entries and counters, None if these aren't said
@@ -52,12 +53,17 @@ def maps_of(
     named: set[str],
     compiler: Optional[Compiler],
     large: Optional[InRows] = None,
+    tables: Mapping[str, Table] = {},
 ) -> tuple[list[Map], list[MapOfC]]:
     """The maps: those of the command line, those that are declared, and globals, the latter two in the order in which
     the file declares them; and what is declared of the second. `named`: maps that the function names. Other arrays are
-    there if it is the one function of the file, and if settings can have them. `large`: which have their values in rows."""
+    there if it is the one function of the file, and if settings can have them. `large`: which have their values in rows; `tables`: to which
+    the program adds rows."""
     source, said = asked.source, {name: (entries, counters) for name, entries, counters in asked.maps}
     as_declared = list(declared_in(asked, sections, named | set(said)))
+    begun = {**dict(asked.lists), **dict(asked.beginnings)}
+    stop_on(f"{source}: the program adds rows to {name} itself, and so it begins empty" for name in sorted(begun.keys() & tables.keys()))
+    as_declared = [tables[row.name].as_array(btf.Number) if row.name in tables else row for row in as_declared]
     declared = as_declared if large is None else [large.declared(row) for row in as_declared]
     stop_on(f"{source}: {fault}" for row in declared for fault in faults.faults_of_map(row))
     if compiler is not None and len(declared) + len(of_globals) > 1:
@@ -91,8 +97,16 @@ def declared_in(asked: Asked, sections: dict[str, Part], named: set[str]) -> Ite
 
 
 def map_of(row: MapOfC) -> Map:
-    """A map that is declared."""
-    return Map(row.name, row.entries, row.counters, faults.KEYED.get(row.type), faults.data_bytes(row))
+    """A map that is declared. A list has no more rows than there may be."""
+    kind = faults.KEYED.get(row.type)
+    entries = row.entries if kind is None else min(row.entries, faults.MOST_ENTRIES)
+    return Map(row.name, entries, row.counters, kind, faults.data_bytes(row))
+
+
+def notes_of(declared: list[MapOfC]) -> list[str]:
+    """What an author should know of maps."""
+    long = [row for row in declared if row.type in faults.KEYED and row.entries > faults.MOST_ENTRIES]
+    return [f"the list {row.name} has at most {faults.MOST_ENTRIES} rows here, and {row.entries} in Linux" for row in long]
 
 
 def with_lists(asked: Asked, maps: list[Map]) -> list[Map]:

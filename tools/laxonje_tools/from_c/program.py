@@ -14,8 +14,10 @@ from .compiler import Compiler
 from .frames import stack_of
 from .kernel import faults_of_kernel
 from .large import large_values
-from .maps import SizedMap, maps_of, settings_of
+from .lines import STACK_BYTES, packed
+from .maps import SizedMap, maps_of, notes_of, settings_of
 from .memory import COUNTER_BYTES, faults_of_memory, memory_of
+from .tables import HASHES
 from .values import SIZES, Constant, set_values, values_of
 from .zeros import with_additions
 
@@ -26,6 +28,8 @@ if TYPE_CHECKING:
 
 SECTION_NAME = "xdp"
 MOST_OBJECT = 1 << 24  # bytes
+FRAME, DOUBLE, STORE_DOUBLE_CONSTANT = 10, 8, 0x7A
+ZEROS = "what the stack has where nothing was stored is 0 here, as it may be in Linux"
 # what reading bytes that aren't as they should be raises
 BROKEN = struct.error, ValueError, IndexError, KeyError, RecursionError, OverflowError
 
@@ -34,8 +38,9 @@ class Filter(NamedTuple):
     """`settings`: of the program as clang made it. If it has constants or globals in memory, keys of the tools'
     own say so, which `xdpbox` doesn't know; `form` has constants as maps, if they can be. `place`: of a slot its line of C,
     or None. `per_cpu`: the maps that are per CPU in Linux. `narrow`: those whose values have numbers of fewer than eight bytes.
-    `notes`: what its author should know. `values`: its constants that can be set. `again`: the same with more values in rows, None if
-    there are none. `made_with`: the same as clang makes it with one more word, None if it isn't another one."""
+    `notes`: what its author should know. `values`: its constants that can be set. `object`: the object file that it was made of, and the
+    function's name. `again`: the same with more values in rows, None if there are none. `made_with`: the same as clang makes it with one
+    more word, None if it isn't another one; `zeroed`: the same on a stack that begins with zeros, None if it does."""
 
     settings: dict
     place: Callable
@@ -43,8 +48,10 @@ class Filter(NamedTuple):
     narrow: set
     notes: list
     values: list[Constant]
+    object: Callable[[], tuple[bytes, str]]
     again: Callable[[], Optional[Filter]] = lambda: None
     made_with: Callable[[str], Optional[Filter]] = lambda word: None
+    zeroed: Callable[[], Optional[Filter]] = lambda: None
 
     @property
     def form(self) -> dict:
@@ -66,7 +73,8 @@ class Asked(NamedTuple):
     """What a command asks for: a file, maps whose sizes it gives, which function, if the file has several, numbers of
     constants, as (name, number), what is left out, in the words of `absent`, entries of declared maps, as (name, number),
     files with the rows of maps, and with what their counters begin with, as (name, path), the MTU of the packets' device, and the
-    nanoseconds between two calls for the time."""
+    nanoseconds between two calls for the time. `tables`: whether hash maps to which the program adds rows are tables; `zeros`: whether the
+    stack begins with zeros."""
 
     source: str
     maps: Iterable[SizedMap] = ()
@@ -78,6 +86,8 @@ class Asked(NamedTuple):
     beginnings: Iterable[tuple[str, str]] = ()
     mtu: Optional[int] = None
     clock: Optional[int] = None
+    tables: bool = False
+    zeros: bool = False
 
 
 def read(asked: Asked) -> Filter:
@@ -99,7 +109,12 @@ def read_by(asked: Asked, compiler: Optional[Compiler]) -> Filter:
 
 def object_and_function(asked: Asked) -> tuple[bytes, str]:
     """The object file of a filter, as a loader reads it, and the name of the function."""
-    data = bytes_of(asked.source) if is_object(asked.source) else Compiler(asked.source).compiled()
+    return object_by(asked, None if is_object(asked.source) else Compiler(asked.source))
+
+
+def object_by(asked: Asked, compiler: Optional[Compiler]) -> tuple[bytes, str]:
+    """The same as a compiler makes it; None: of an object."""
+    data = bytes_of(asked.source) if compiler is None else compiler.compiled()
     return data, chosen(asked, elf.sections_of(data)).name
 
 
@@ -132,6 +147,7 @@ def filter_of(asked: Asked, sections: dict[str, Part], compiler: Optional[Compil
     stop_on(f"{place(slot) or f'{source}: slot {slot}'} {fault}" for slot, fault in faults_of_kernel(sections, function))
     frames = None if compiler is None else compiler.frames()
     made = without_calls(asked, sections, function, frames, place)
+    made = with_zeros(made) if asked.zeros else made
     given = Given(asked, sections, compiler, made, place)
     try:
         return with_rows(given, False)
@@ -162,6 +178,10 @@ class Given(NamedTuple):
         found = None if compiler is None else read_by(self.asked, compiler)
         return None if found is None or found.settings == settings else found
 
+    def zeroed(self) -> Optional[Filter]:
+        """The filter on a stack that begins with zeros; None if it does."""
+        return None if self.asked.zeros else read_by(self.asked._replace(zeros=True), self.compiler)
+
 
 def with_rows(given: Given, is_again: bool) -> Optional[Filter]:
     """The filter with values in rows that need it. `is_again`: whether more are; None if there are no more."""
@@ -175,9 +195,10 @@ def with_rows(given: Given, is_again: bool) -> Optional[Filter]:
     place, relocations = (lambda slot, before=place: before(made.origins[slot])), made.relocations
     memory = memory_of(sections, relocations, stored_to(made.code, relocations))
     named = {row.name for row in relocations}
-    added = [(name, 1, 1) for name in made.maps]
+    added = [*((name, 1, 1) for name in made.maps), *(row for table in made.tables.values() for row in table.maps)]
     of_rows = [] if large is None else large.maps
-    maps, declared = maps_of(asked, sections, [*memory.maps, *of_rows, *added], named, compiler, large)
+    maps, declared = maps_of(asked, sections, [*memory.maps, *of_rows, *added], named, compiler, large, made.tables)
+    notes += notes_of(declared)
     begun = {**memory.beginnings, **({} if large is None else large.globals)}
     maps = [row if row.values else row._replace(values=begun.get(row.name, ())) for row in maps]
     rows = [
@@ -196,12 +217,13 @@ def with_rows(given: Given, is_again: bool) -> Optional[Filter]:
         "numbers": numbers_of(sections, declared, memory.maps),
         "stack": made.stack,
         "laid": [] if large is None else large.comments(sections),
+        "filled": [table.comment for table in made.tables.values()],
     }
     per_cpu = {row.name for row in declared if row.type in faults.PER_CPU}
     narrow = {row.name for row in declared if row.has_parts} | (set() if large is None else large.narrow)
     kept = [row for row in values_of(sections) if row.name not in begun]
-    others = () if is_again else (given.again, lambda word: given.made_with(word, settings))
-    return Filter(settings, place, per_cpu, narrow, notes, kept, *others)
+    others = () if is_again else (given.again, lambda word: given.made_with(word, settings), given.zeroed)
+    return Filter(settings, place, per_cpu, narrow, notes, kept, lambda: object_by(asked, compiler), *others)
 
 
 def without_calls(
@@ -212,14 +234,23 @@ def without_calls(
     if next(has_calls(function.code), None) is None and not any(found.has(row.name) for row in relocations):
         return Replaced(function.code, relocations, range(len(function.code) // 8), [], [], stack_of(function.code, function.name, frames))
     entries = {**dict(asked.entries), **{name: number for name, number, _ in asked.maps}}
-    declared = [row for row in btf.maps_in(sections) if row.type in faults.ARRAYS]
-    arrays = {row.name: Array(parts_of_value(row), entries.get(row.name, row.entries)) for row in declared}
+    declared = [row for row in btf.maps_in(sections) if row.type in faults.ARRAYS or asked.tables and row.type in HASHES]
+    declared = [row._replace(entries=entries.get(row.name, row.entries)) for row in declared]
+    maps = {row.name: Array(parts_of_value(row), row.entries, row) for row in declared}
     functions = list(elf.functions_of(sections))
-    calls = Calls(functions, lambda of: relocations_in(sections, of), found, arrays, frames, asked.mtu, asked.clock)
+    calls = Calls(functions, lambda of: relocations_in(sections, of), found, maps, frames, asked.mtu, asked.clock)
     try:
         return calls.replaced(function)
     except Fault as fault:
         fail(f"{place(fault.slot) or f'{asked.source}: slot {fault.slot}'} {fault}")
+
+
+def with_zeros(made: Replaced) -> Replaced:
+    """The same on a stack that begins with zeros."""
+    words = range(-(STACK_BYTES if made.stack is None else made.stack), 0, DOUBLE)
+    code = b"".join(packed(STORE_DOUBLE_CONSTANT, FRAME, 0, at) for at in words) + made.code
+    relocations = [row._replace(slot=row.slot + len(words)) for row in made.relocations]
+    return made._replace(code=code, relocations=relocations, origins=[*[0] * len(words), *made.origins], notes=[*made.notes, (0, ZEROS)])
 
 
 def relocations_in(sections: dict[str, Part], function: Function) -> Iterator[Relocation]:
@@ -230,10 +261,12 @@ def relocations_in(sections: dict[str, Part], function: Function) -> Iterator[Re
 
 
 def parts_of_value(declared: btf.MapOfC) -> list[tuple[int, int]]:
-    """The numbers of a map's value, as (place, size), if these are all of it; else its bytes, the most at once first."""
+    """The numbers of a map's value, as (place, size), without what lies between two of them; its bytes, the most at once first, if some
+    can't be told apart."""
     numbers = sorted((row.place, row.size) for row in declared.numbers if not row.bits and row.size in SIZES)
-    ends = [0, *(place + size for place, size in numbers)]
-    if [place for place, _ in numbers] == ends[:-1] and ends[-1] == declared.value_bytes:
+    ends = [place + size for place, size in numbers]
+    are_apart = all(end <= place for end, (place, _) in zip(ends, numbers[1:]))
+    if numbers and are_apart and len(numbers) == len(declared.numbers) < btf.MOST_NUMBERS:
         return numbers
     parts, at = [], 0
     for size in sorted(SIZES, reverse=True):

@@ -23,11 +23,12 @@ verifier judges the result, and `xdpbox same`, which is proved, shows that it is
     search        from refusal to refusal until the verifier accepts
     ways          the ways in which that is searched
     written_out   a program with numbers of fewer than eight bytes, keys outside of the stack, and masks of indices written out
-    split         a program with one store for each number where one stores several
+    split         a program with one access for each number where one reaches several
     lines         a program with other lines in the place of some
     seen          whether a program shows the number of an address of a map's value
     guarded       a program with tests in front of accesses to the packet
     shown         how a result is shown to be the same
     printed       settings that are printed: read again, and asked of xdpbox
+    refused       why no program was found, in words
     command       what the two tools have in common: straightened, shown to be the same, or refused in words
 """

@@ -148,6 +148,9 @@ class Addresses:
 
     def meet(self, here: Copy, ways: list, live: AbstractSet[int]) -> dict:
         """What the places stand for where ways meet."""
+        passed = self.passed(here, ways[0][2], live) if len(ways) == 1 else None
+        if passed is not None:
+            return passed
         known_by_way = [known for _, _, known in ways]
         on_stack = sorted(place for place in known_by_way[0] if isinstance(place, StackSlot))
         places, leaders = {}, []
@@ -163,6 +166,13 @@ class Addresses:
             else:
                 places[place] = PacketAddress().moved(atom=Atom(MET, here, place))
         return places
+
+    def passed(self, here: Copy, known: dict, live: AbstractSet[int]) -> Optional[dict]:
+        """The same behind one way alone; None if an address is made anew there."""
+        places = {place: known.get(place, Thing.NUMBER) for place in (*live, FRAME_POINTER)}
+        places.update((place, there) for place, there in known.items() if isinstance(place, StackSlot))
+        is_anew = any(isinstance(there, PacketAddress) and self.restarted(here, place) for place, there in places.items())
+        return None if is_anew else places
 
     def remake(self, here: Copy, place: Place, there: list, ways: list, places: dict, leaders: list) -> None:
         """One that has the same distance from another on all ways follows that one."""

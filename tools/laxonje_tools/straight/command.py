@@ -14,9 +14,10 @@ from .graph import INDEX, SIZE, Fail
 from .guarded import GUARDED, MOST_GUARDS, with_guards
 from .lowered import may_lower
 from .parts import SharedCounter, check_values, places_of, with_counters
+from .refused import Refused
 from .search import OF_THE_BYTES
 from .settings import as_text, instructions_of, relocations_of, without_rows
-from .shown import ALONE, BY_COUNTS, PROVED, UNALIKE, UNDECIDED, NoComparison, Rewriting, question, shown
+from .shown import ALONE, BY_COUNTS, PROVED, NoComparison, Rewriting, question, shown
 from .split import with_split
 from .verifier import StillRefused, Verdict, verdict
 from .ways import by_copies, by_place, in_rows, reread, searched_again, searches, uncounted, without_counts
@@ -49,33 +50,6 @@ HOW = PROVED, BY_COUNTS, ALONE  # the best way first
 ENOUGH = PROVED, BY_COUNTS  # after which no other settings are tried
 MOST_ASKED = 10000  # slots, in all results that can't be taken
 TOP = pathlib.Path(__file__).resolve().parents[3]
-# a refusal's words are those of instructions; these are those of C
-IN_C = {
-    "V5": "bound the loop by a constant too, as `for (int i = 0; i < 16 && more; i++)`; `break` may leave it early",
-    "V10": "compare the end of what is read with data_end on each way to this line; or say --guard: if the packet is"
-    " too short, the program then ends with ABORTED",
-    "V11": "initialize the variable on each way to this line",
-    "V12": "the fields of the context are data, data_end, data_meta, ingress_ifindex and rx_queue_index, each a __u32",
-    "V13": "test what the lookup gave first: `if (!value) return XDP_PASS;`",
-    "V14": "each counter is a __u64: read it whole, and add to it by __sync_fetch_and_add(value, n) or `*value += n`;"
-    " to set it, add the difference from what was read of it on each way to this line",
-    "V17": "the key, the lookup's second argument, is a variable of four bytes, all of them stored",
-    "V19": "of the atomic operations there is the addition of eight bytes alone, __sync_fetch_and_add",
-    SIZE: "fewer steps of the loop, or a smaller body: keep the offset as a number, and add it to data anew in each"
-    " step",
-    UNDECIDED: "count the loop's steps in a __u64 from 0 up to a constant, `for (__u64 i = 0; i < 8 && more; i++)`, and compare numbers"
-    " without sign",
-    UNALIKE: "compute what is compared, or added to an address, once, as a __u64, and compare that number itself",
-    INDEX: "compare the index with how many elements there are, or mask it, on each way to this line",
-}
-NO_MAP = (
-    "the map is the lookup's first argument, and one map on each way to this line: look up in each branch, and use what"
-    " it gave there"
-)
-LIST_KEY = (
-    "the key, the lookup's second argument, has as many bytes as the map's keys, all of them stored, also those between its"
-    " fields: __builtin_memset(&key, 0, sizeof(key)) first"
-)
 ATOMIC, WORD_ADDED = ("c3", "db"), "00000000"  # opcodes, and the constant of an addition
 
 
@@ -109,36 +83,6 @@ class Straight:
         return with_counters(settings, self.moved)
 
 
-class Refused(Exception):
-    """`answer`: the verifier's, of the program as it was. `why`: why no other one was found. `atomic`: whether an
-    atomic operation was refused."""
-
-    def __init__(self, answer: Verdict, why: Fail, atomic: bool = False) -> None:
-        super().__init__(f"{why}")
-        self.answer, self.why, self.atomic = answer, why, atomic
-
-    @property
-    def cause(self) -> Optional[str]:
-        """What it is that refuses it: one of the verifier's causes, SIZE or INDEX; None for one that is in words alone."""
-        return self.why.cause or self.answer.cause
-
-    def advice(self) -> Optional[str]:
-        """What to write instead, or None."""
-        cause = self.cause
-        answer = self.why.answer if isinstance(self.why, StillRefused) else self.answer
-        if cause == "V17" and not answer.has_map:
-            return NO_MAP
-        if cause == "V17" and answer.has_list:
-            return LIST_KEY
-        if cause == "V9" and answer.lost() is not None and answer.lost().was == "map_value":
-            return IN_C[INDEX]
-        if cause in IN_C and (cause != "V19" or self.atomic):
-            return IN_C[cause]
-        lines = self.answer.words.split("\n") if cause == self.answer.cause else []
-        said = (line.partition(": ")[2] for line in lines if line.startswith("write instead"))
-        return next(said, IN_C[SIZE] if cause == "V9" else None)
-
-
 def xdpbox_program() -> Optional[str]:
     """The path of xdpbox: $XDPBOX, the repository's own, or one on the PATH. None if there is none."""
     built, named = TOP / "crates/xdpbox/out/xdpbox", os.environ.get("XDPBOX")
@@ -152,13 +96,15 @@ def xdpbox_program() -> Optional[str]:
 class Wanted(NamedTuple):
     """`guard`: an access that nothing shows to lie in the packet may get a test in front of it that ends the program. `per_cpu`: whether
     a store's slot is to a per-CPU map. `at_once`: whether the first searches alone are made, since another form is shown, or may be.
-    `asked`: how many slots the results had that weren't shown to be the same. `splits`: whether stores of several numbers are split."""
+    `asked`: how many slots the results had that weren't shown to be the same. `splits`: whether accesses to several numbers are split.
+    `at_size`: whether there are no more searches if the first ones find programs that are too large, since another form may be smaller."""
 
     guard: bool = False
     per_cpu: Callable = lambda slot: False
     at_once: bool = False
     asked: Optional[list[int]] = None
     splits: bool = False
+    at_size: bool = False
 
     @property
     def is_enough(self) -> bool:
@@ -177,15 +123,19 @@ def better_of(forms: list[dict], xdpbox: str, wanted: Wanted = Wanted()) -> tupl
     for settings in forms:
         if is_accepted(settings, xdpbox):
             return settings, None
-    found, refusals = [], []
+    found, refusals, others = [], [], []
     for settings in forms:
         try:
             at_once = wanted.at_once or any(row.how == ALONE for _, row in found)
-            found.append((settings, straightened(settings, xdpbox, wanted._replace(at_once=at_once))))
+            at_size = not found and settings is not forms[-1]
+            found.append((settings, straightened(settings, xdpbox, wanted._replace(at_once=at_once, at_size=at_size))))
         except Refused as refused:
             refusals.append(refused)
+            others += [settings] if refused.cause == SIZE and at_size else []
         if found and found[-1][1].how in ENOUGH:
             break
+    if not found and others:
+        return better_of(others, xdpbox, wanted)
     if not found:
         raise refusals[0]
     return min(found, key=lambda row: HOW.index(row[1].how))
@@ -204,9 +154,9 @@ def straightened(settings: dict, xdpbox: str, wanted: Wanted = Wanted()) -> Opti
 
 
 def split(settings: dict, xdpbox: str, wanted: Wanted, why: Fail) -> Optional[Straight]:
-    """A program with one store for each number where one stores several; None if there is none. `why`: it was refused without."""
-    stores = why.stores if isinstance(why, SharedCounter) else {}
-    given = with_split(settings, instructions_of(settings), stores) if stores else None
+    """A program with one access for each number where one reaches several; None if there is none. `why`: it was refused without."""
+    several = why.several if isinstance(why, SharedCounter) else {}
+    given = with_split(settings, instructions_of(settings), several) if several else None
     try:
         found = None if given is None else rewritten(given.settings, xdpbox, wanted)
     except Refused:
@@ -255,7 +205,7 @@ def rewritten(settings: dict, xdpbox: str, wanted: Wanted) -> Optional[Straight]
     if answer.cause in OF_THE_BYTES and not (answer.cause == "V19" and word.startswith("c3") and word.endswith(WORD_ADDED)):
         raise Refused(answer, Fail(NOTHING_HELPS, answer.slot), word.startswith(ATOMIC))
     missing, faults, unguarded, wanted, tried = None, [], [], wanted._replace(asked=[]), set()
-    for result in searches(settings, xdpbox, faults, unguarded, wanted.at_once):
+    for result in searches(settings, xdpbox, faults, unguarded, wanted.at_once, wanted.at_size):
         if result.text in tried:
             continue
         tried.add(result.text)
@@ -367,30 +317,3 @@ def notes_of(result: Result, per_cpu: Callable[[int], bool]) -> Iterator[tuple[i
             size = result.code[slot].size
             note += LOWERED.format(8 * size, SIGNED[size])
         yield slot, note
-
-
-def describe(
-    refused: Refused, place_of: Optional[Callable[[int], Optional[str]]] = None, name: str = "the program"
-) -> Iterator[str]:
-    """The lines that explain a refusal, of the program as it was. `place_of(slot)`: its line of C, or None."""
-
-    def place(slot: Optional[int]) -> str:
-        line = place_of(slot) if place_of and slot is not None else None
-        return line or (f"slot {slot}" if slot is not None else name)
-
-    answer, why = refused.answer, refused.why
-    if answer.cause is not None:
-        yield f"{place(answer.slot)}: refused {answer.cause} at {answer.slot}"
-        yield from marked_lines(answer.words.split("\n"))
-    yield f"{place(why.slot if why.slot is not None else answer.slot)}: {why}"
-    if refused.advice():
-        yield f"write instead: {refused.advice()}"
-
-
-def marked_lines(lines: list[str]) -> Iterator[str]:
-    """The line of an explanation that names the instruction, and what was known of its registers."""
-    for line, below in zip(lines, [*lines[1:], ""]):
-        if line.lstrip().startswith(">"):
-            yield f"  {line}"
-            if below.startswith("     ") and "=" in below:
-                yield f"  {below}"

@@ -107,6 +107,12 @@ class Constants:
         passed = tuple(row for row in self.passed if row[0] in names) if self.passed else ()
         return Constants(kept, stack, self.values, passed)
 
+    def with_stack(self, wanted: AbstractSet[int]) -> Constants:
+        """Those of the stack in these places alone."""
+        if wanted.issuperset(self.stack):
+            return self
+        return Constants(self.registers, {at: v for at, v in self.stack.items() if at in wanted}, self.values, self.passed)
+
     def key(self) -> tuple:
         """What tells constants apart. Sets keep their hashes."""
         return frozenset(self.registers.items()), frozenset(self.stack.items()), self.passed

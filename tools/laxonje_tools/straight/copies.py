@@ -16,7 +16,8 @@ from .constants import FAR, Address, Constants, is_number
 from .counters import counters
 from .graph import Fail, NoBound, TooMany, live_registers, loops, slots_that_reach, steering_registers, successors
 from .instructions import FRAME_POINTER, REGISTERS, reads, writes
-from .kinds import stores_elsewhere
+from .kinds import accesses_elsewhere
+from .stack_words import live_words
 
 if TYPE_CHECKING:
     from .instructions import Code
@@ -111,7 +112,8 @@ class Copies:
     def __init__(self, code: Code, numbers: str, marks: MarksOfCopies) -> None:
         self.code, self.numbers, self.marks = code, numbers, marks
         self.wide, self.cases, self.trips, self.nones = marks.wide, marks.cases, marks.trips, marks.nones
-        self.live, self.elsewhere = live_registers(code), stores_elsewhere(code)
+        self.live, self.elsewhere = live_registers(code), accesses_elsewhere(code)
+        self.words = live_words(code)
         self.needed = {slot: live | {FRAME_POINTER} for slot, live in self.live.items()}
         self.named = {slot: row.counter for row in marks.differences.values() if row.told for slot in row.known}
         self.mattering = {slot: slots_that_reach(code, {slot}) for slot in marks.trips}
@@ -135,7 +137,7 @@ class Copies:
         if slot in self.trips:
             told = Telling(set(told.registers) - self.trips[slot].registers, None)
         names = [name for name, slots in self.mattering.items() if slot in slots] if constants.passed else ()
-        constants = constants.kept(self.needed[slot], *told, names)
+        constants = constants.kept(self.needed[slot], *told, names).with_stack(self.words[slot])
         if phase == TESTS and slot not in self.wide and slot not in self.cases:
             phase = PLAIN
         if phase == OUTSIDE:

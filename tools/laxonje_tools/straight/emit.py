@@ -335,7 +335,7 @@ class Emitter:
         base, is_set = here.constants.registers.get(insn.base), here.slot in self.marks.differences or here.slot in self.marks.adds
         if is_address(base, VALUE):
             name, part = base.map, Part(insn.offset + base.offset, insn.size)
-        elif self.is_elsewhere(here, insn.base):
+        elif self.is_elsewhere(here, insn.base) or insn.is_load and here.slot in self.copies.elsewhere:
             return insn.offset
         else:
             name, part = None, Part(insn.offset, insn.size)

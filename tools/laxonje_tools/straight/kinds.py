@@ -1,4 +1,5 @@
-"""Which stores surely don't go to the stack: those through an address of the packet or of a map's value, on all ways.
+"""Which stores surely don't go to the stack: those through an address of the packet or of a map's value, on all ways. And which loads are
+of constants in memory.
 
 All other stores whose place isn't known may change what is known of the stack."""
 from __future__ import annotations
@@ -17,13 +18,14 @@ from .instructions import (
     MOV,
     STORE_DOUBLE,
     SUB,
+    WIDE_LOAD,
     writes,
 )
 
 if TYPE_CHECKING:
     from .instructions import Code, Instruction
 
-CONTEXT, FRAME, PACKET, VALUE, ZERO = "context", "frame", "packet", "value", "zero"
+CONTEXT, FRAME, PACKET, VALUE, ZERO, CONSTANT = "context", "frame", "packet", "value", "zero", "constant"
 START_FIELDS = (0, 8)  # of the context: data and data_meta
 
 
@@ -63,6 +65,8 @@ class Kinds(dict):
                 following.put(register, None)
             if instruction.opcode == CALL:
                 following.put(0, (VALUE, (slot, 0)))
+            elif instruction.opcode == WIDE_LOAD and instruction.map is None:
+                following.put(instruction.destination, (CONSTANT, None))
         return following
 
     def result(self, slot: int, instruction: Instruction) -> Optional[tuple]:
@@ -80,7 +84,7 @@ class Kinds(dict):
             place = (slot, 0) if kind == VALUE else None
         else:
             place = place + constant if kind == FRAME else (place[0], place[1] + constant)
-        return (kind, place) if kind in (FRAME, PACKET, VALUE) else None
+        return (kind, place) if kind in (FRAME, PACKET, VALUE, CONSTANT) else None
 
     def loaded(self, load: Instruction) -> Optional[tuple]:
         if self.get(load.source, ("",))[0] == CONTEXT and load.opcode == LOAD_WORD and load.offset in START_FIELDS:
@@ -131,5 +135,11 @@ def kinds_before(code: Code, zeros: bool = False) -> dict[int, Kinds]:
 
 def stores_elsewhere(code: Code) -> set[int]:
     """The slots of the stores that surely don't go to the stack."""
+    return {slot for slot in accesses_elsewhere(code) if code[slot].is_store}
+
+
+def accesses_elsewhere(code: Code) -> set[int]:
+    """The slots of these, and of the loads of constants in memory."""
     before = kinds_before(code)
-    return {slot for slot, kinds in before.items() if code[slot].is_store and kinds.is_elsewhere(code[slot])}
+    stores = {slot for slot, kinds in before.items() if code[slot].is_store and kinds.is_elsewhere(code[slot])}
+    return stores | {slot for slot, kinds in before.items() if code[slot].is_load and kinds.get(code[slot].source, ("",))[0] == CONSTANT}

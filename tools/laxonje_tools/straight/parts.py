@@ -61,12 +61,12 @@ class NeedsCounters(Fail):
 
 
 class SharedCounter(Fail):
-    """A store that may change another number of its counter. `stores`: by the slots of stores to several numbers at once these, from
-    where each store begins, if nothing loads several at once."""
+    """A store that may change another number of its counter. `several`: by the slots of accesses to several numbers at once these, from
+    where each access begins."""
 
-    def __init__(self, fault: Fail, stores: dict[int, list[Part]]) -> None:
+    def __init__(self, fault: Fail, several: dict[int, list[Part]]) -> None:
         super().__init__(f"{fault}", fault.slot, fault.cause)
-        self.stores = stores
+        self.several = several
 
 
 class Access(NamedTuple):
@@ -124,7 +124,7 @@ def check_parts(settings: dict, moved: Moved, reached: dict[Optional[str], set[A
             try:
                 whole = stored_below(declared(settings, name), row, [other.part for other in accesses])
             except Fail as fault:
-                raise SharedCounter(fault, stores_of_several(declared(settings, name), accesses)) from fault
+                raise SharedCounter(fault, several_in(declared(settings, name), accesses)) from fault
             if whole is not None and whole not in own:
                 wanted.setdefault(whole, row.slot)
         if any(part.meets(other) for part in own for other in wanted):
@@ -169,14 +169,14 @@ def number_of(rows: list[dict], store: Access, whole: Part, reached: list[Part])
     return whole
 
 
-def stores_of_several(rows: list[dict], accesses: Iterable[Access]) -> dict[int, list[Part]]:
-    """By the slots of stores to several numbers these, from where each store begins; none if something loads several, or reaches bytes
-    of no number, or if a number isn't whole in such a store."""
+def several_in(rows: list[dict], accesses: Iterable[Access]) -> dict[int, list[Part]]:
+    """By the slots of accesses to several numbers these, from where each access begins; none if something reaches bytes of no number, or
+    if a number isn't whole in such an access. Bytes between two numbers may be stored, and may not be loaded."""
     numbers, found = [part_of(row) for row in rows], {}
     for access in accesses:
         inside = [part for part in numbers if access.part.meets(part)]
-        is_of_several = len(inside) > 1 and access.is_set and all(access.part.holds(part) for part in inside)
-        if is_of_several:
+        is_of_several = len(inside) > 1 and all(access.part.holds(part) for part in inside)
+        if is_of_several and (access.is_set or sum(part.size for part in inside) == access.part.size):
             parts = [Part(part.place - access.part.place, part.size) for part in inside]
             if found.setdefault(access.slot, parts) != parts:
                 return {}

@@ -11,9 +11,10 @@ if TYPE_CHECKING:
     from .instructions import Code
 
 INDEX_BYTES, LENGTH_BYTES = 4, 4  # of an array's key, and of a prefix's length
-OF_THE_TOOLS = "constants", "tables", "globals", "numbers", "begin", "stack", "again", "laid"  # keys that no printed settings have
+OF_THE_TOOLS = "constants", "tables", "globals", "numbers", "begin", "stack", "again", "laid", "filled"  # keys that no printed settings have
 OF_THE_PROGRAM = "program", "reloc", *OF_THE_TOOLS
 CONSTANTS = "constants"  # the key of a map that is read at its address
+COPY, TRUE, FALSE = "copy", "true", "false"  # a slot's kind, and TOML's words
 
 
 def instructions_of(settings: dict) -> Code:
@@ -127,13 +128,22 @@ def without_rows(settings: dict) -> dict:
 def text_beside(result: dict, original: dict, labels: dict) -> str:
     """Settings with the original of their program, as `xdpbox same` reads them. `labels`: of each slot of the result its
     kind and a slot of the original."""
-    rows = (labels.get(slot, ("copy", 0)) for slot in range(len(result["program"])))
-    places = ", ".join(f"[{at}, {'false' if kind == 'copy' else 'true'}]" for kind, at in rows)
-    lines = ["", "[original]", "program = [", *(f'  "{word}",' for word in original["program"]), "]"]
-    lines.append(f"places = [{places}]")
+    lines = ["", "[original]", "program = [", *(f'  "{word}",' for word in original["program"]), "]", line_of_places(result, labels)]
     for slot, name in relocations_of(original):
         lines += ["", "[[original.reloc]]", f"slot = {slot}", f"map = {quoted(name)}"]
     return as_text(result) + "\n".join(lines) + "\n"
+
+
+def text_beside_function(result: dict, data: bytes, function: str, labels: dict) -> str:
+    """The same, where the original is a function of an object."""
+    lines = ["", "[original]", f'object = "{data.hex()}"', f"function = {quoted(function)}", line_of_places(result, labels)]
+    return as_text(result) + "\n".join(lines) + "\n"
+
+
+def line_of_places(result: dict, labels: dict) -> str:
+    """Where the original stands before each slot."""
+    rows = (labels.get(slot, ("copy", 0)) for slot in range(len(result["program"])))
+    return f"places = [{', '.join(f'[{at}, {FALSE if kind == COPY else TRUE}]' for kind, at in rows)}]"
 
 
 def as_text(settings: dict) -> str:

@@ -1,19 +1,20 @@
-"""Numbers of fewer than eight bytes on a program's stack that are loaded as they were stored: an index that is a key too.
+"""Words of a program's stack: those that may still be loaded, and numbers of fewer than eight bytes that are loaded as they were stored: an
+index that is a key too.
 
 Of eight bytes of the stack the verifier knows what number they hold, of fewer it knows nothing. So such a number can be written out as a word
 of its own, which is stored beside it."""
 from __future__ import annotations
 
-from typing import TYPE_CHECKING, NamedTuple, Optional
+from typing import TYPE_CHECKING, AbstractSet, NamedTuple, Optional
 
-from .graph import predecessors
-from .instructions import FRAME_POINTER, STX
-from .kinds import stores_elsewhere
+from .graph import backwards, predecessors
+from .instructions import FRAME_POINTER, LOAD_DOUBLE, STORE_DOUBLE, STORE_DOUBLE_CONSTANT, STX
+from .kinds import FRAME, kinds_before, stores_elsewhere
 
 if TYPE_CHECKING:
     from .instructions import Code, Instruction
 
-DOUBLE = 8
+DOUBLE, STORES = 8, (STORE_DOUBLE, STORE_DOUBLE_CONSTANT)
 
 
 class Place(NamedTuple):
@@ -25,6 +26,23 @@ class Place(NamedTuple):
     def meets(self, other: Place) -> bool:
         """Whether the two have a byte in common."""
         return self.offset < other.offset + other.size and other.offset < self.offset + self.size
+
+
+def live_words(code: Code) -> dict[int, AbstractSet[int]]:
+    """The words of the stack, by their offsets from its end, that may still be loaded, before each slot."""
+    kinds = kinds_before(code)
+    stored = frozenset(insn.offset for insn in code.values() if insn.opcode in STORES and insn.destination == FRAME_POINTER)
+
+    def step(slot: int, needed: AbstractSet[int]) -> AbstractSet[int]:
+        insn = code[slot]
+        if insn.opcode in STORES and insn.destination == FRAME_POINTER:
+            return needed - {insn.offset}
+        if insn.opcode != LOAD_DOUBLE or kinds.get(slot, {}).get(insn.source, ("",))[0] != FRAME:
+            return needed
+        at = kinds[slot].stack_offset(insn)
+        return needed | (stored if at is None else {at})
+
+    return backwards(code, step)
 
 
 def loads_of_stores(code: Code) -> dict[int, set[int]]:

@@ -8,7 +8,7 @@ import contextlib
 from typing import TYPE_CHECKING, Iterator, Optional
 
 from .copies import COUNTERS, EVERYWHERE, IN_LOOPS, STEERING
-from .graph import Fail, TooMany, loops
+from .graph import SIZE, Fail, TooMany, loops
 from .marks import Form
 from .masks import bounded_copies, cuts
 from .search import BY_ACCESS, BY_COPY, BY_SLOT, Search
@@ -83,11 +83,13 @@ def reread(settings: dict, xdpbox: str, result: Result) -> Iterator[Result]:
             yield Search(settings, xdpbox, *result.way, Form(fuses=False, rereads=True)).run()
 
 
-def searches(settings: dict, xdpbox: str, faults: list[Fail], unguarded: list[Result], at_once: bool = False) -> Iterator[Result]:
+def searches(
+    settings: dict, xdpbox: str, faults: list[Fail], unguarded: list[Result], at_once: bool = False, at_size: bool = False
+) -> Iterator[Result]:
     """What the searches find, the smaller of two programs first. The next two begin only if nobody took one of
     these, and none that would have too many copies again, or lead to the same again. Why a search found none is added to the
     faults. If some results of the first ones want a guard that nobody asked for (`unguarded`), others do too, but for those that
-    tell all numbers apart. `at_once`: whether the first ones alone are made."""
+    tell all numbers apart. `at_once`: whether the first ones alone are made, or, `at_size`, if these find nothing but what is too large."""
     done = set() if loops(instructions_of(settings)) else {COUNTERS, IN_LOOPS}
     for numbers, ways in WAYS[:1] if at_once else WAYS:
         results = []
@@ -104,3 +106,5 @@ def searches(settings: dict, xdpbox: str, faults: list[Fail], unguarded: list[Re
             if numbers in done:
                 break
         yield from sorted(results, key=lambda result: len(result.words))
+        if at_size and not results and all(fault.cause == SIZE for fault in faults):
+            break

@@ -28,8 +28,9 @@ from .instructions import (
     SUB_REGISTER,
     Instruction,
 )
-from .lines import Line, in_place_of, jump_target
 from .keys import copied_key
+from .kinds import VALUE, kinds_before
+from .lines import Line, in_place_of, jump_target
 from .lowered import is_computed
 from .masks import in_shifts
 from .own_stack import STACK_BYTES
@@ -76,7 +77,7 @@ def written_out(settings: dict, code: Code, result: Result, more: More = More())
     words = {place: at for at, place in enumerate(sorted({place_of(code[load]) for load in loads}))}
     counted = {slot: row.known for slot, row in result.differences.items() if slot in found.parts and is_computed(code, slot, row)}
     told = {slot for slot in counted if result.differences[slot].told}
-    sums = set(moved_sums(code)) if more.sums and found.parts else set()
+    sums = set(moved_sums(code)) if more.sums else set()
     others = loads or masks or sums
     if not (result.moved or found.keys or found.parts or others) or any(more) and not (others or more.sets and told):
         return None
@@ -97,13 +98,14 @@ def written_out(settings: dict, code: Code, result: Result, more: More = More())
 
 
 def moved_sums(code: Code) -> Iterator[int]:
-    """The slots at which a constant is added to a register that is moved to another one next, and isn't read later."""
-    live = live_registers(code)
+    """The slots at which a constant is added to an address in a value that is moved to another register next, and isn't read later."""
+    live, kinds = live_registers(code), kinds_before(code, zeros=True)
     led_to = {jump_target(slot, insn) for slot, insn in code.items()}
     for slot, insn in code.items():
         move = code.get(slot + 1)
         is_move = move is not None and move.opcode == MOVE_REGISTER and move.source == insn.destination
-        if is_move and insn.opcode == ADD_CONSTANT and slot + 1 not in led_to:
+        is_address = slot in kinds and kinds[slot].get(insn.destination, ("",))[0] == VALUE
+        if is_move and is_address and insn.opcode == ADD_CONSTANT and slot + 1 not in led_to:
             if insn.destination not in live[slot + 2] | {move.destination}:
                 yield slot
 

@@ -8,7 +8,8 @@ import tempfile
 import tomllib
 
 from tests.straight import programs
-from laxonje_tools.straight.command import NO_XDPBOX, Refused, straightened
+from laxonje_tools.straight.command import NO_XDPBOX, straightened
+from laxonje_tools.straight.refused import Refused
 from laxonje_tools.straight.settings import text_beside
 from laxonje_tools.straight.shown import NOT_SHOWN, question
 from laxonje_tools.straight.verifier import called

@@ -124,8 +124,7 @@ def key_tests(clang, xdpbox, path):
     body = 'SEC("xdp") int f(struct xdp_md *ctx) {{ struct key k; {} k.a = 1; k.b = ctx->rx_queue_index; return bpf_map_lookup_elem(&m, &k) ? XDP_DROP : XDP_PASS; }}\n'
     path.write_text(HEADERS + map_of_keys + body.format(""))
     made, said, status = settings_from_c(clang, xdpbox, path)
-    right = status == 1 and not made and "refused V17" in said and "as many bytes as the map's keys" in said
-    yield "a key with bytes that aren't stored is named", "" if right else made + said
+    yield "a key with bytes that aren't stored is noted", "" if made and not status and "nothing was stored is 0 here" in said else made + said
     path.write_text(HEADERS + map_of_keys + body.format("__builtin_memset(&k, 0, sizeof k);"))
     made, said, status = settings_from_c(clang, xdpbox, path)
     yield "one whose bytes are all stored", "" if made and not status else said

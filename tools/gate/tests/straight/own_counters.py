@@ -104,13 +104,13 @@ LIMITERS = {
         "both[1].passed is bits 16 to 31 of counter 1",
     ),
 }
+# two numbers that are loaded at once
+AT_ONCE = "static volatile struct { __u32 left, passed; } state;\n" + FUNCTION + """	state.left += p[0];
+	if (p[1]) state.passed -= 1;
+	return *(volatile __u64 *)&state == 2 + ((__u64)(__u32)-2 << 32) ? XDP_PASS : XDP_DROP; }
+"""
 # C in which a store may change another number whatever is done, and what is said
 REFUSED = {
-    "two numbers at once": (
-        "static volatile struct { __u32 left, passed; } state;\n" + FUNCTION
-        + "state.left -= 1; return *(volatile __u64 *)&state ? XDP_PASS : XDP_DROP; }",
-        "a store may change another one of left, passed",
-    ),
     "a number and a half of it": (
         "static volatile union { __u32 both; __u16 each[2]; } state;\n" + FUNCTION
         + "state.each[0] -= 1; return state.both ? XDP_PASS : XDP_DROP; }",
@@ -207,6 +207,18 @@ def limiter_tests(clang, xdpbox, path):
             yield f"{name} as clang made it, on {count} packets", " ".join(wrong[:3]) or ("" if count else "no packet was run")
 
 
+def at_once_tests(clang, xdpbox, path):
+    path.write_text(HEADERS + AT_ONCE)
+    made, said = settings_from_c(clang, xdpbox, path)
+    if not made:
+        yield "two numbers that are loaded at once", said
+        return
+    original, result = original_of(clang, path), tomllib.loads(made)
+    relocations = [(each["slot"], each["map"]) for each in result["reloc"]]
+    wrong, count = machine.differences(xdpbox, original, result["program"], relocations, SOME_PACKETS, moved_in(original, made))
+    yield f"two numbers that are loaded at once, on {count} packets", " ".join(wrong[:3]) or ("" if count else "no packet was run")
+
+
 def wrong_together(row, made):
     """What two runs leave that isn't what each of them did, and how many times the two were run."""
     result, wrong, count = tomllib.loads(made), [], 0
@@ -255,6 +267,7 @@ def tests(clang, xdpbox):
     with tempfile.TemporaryDirectory() as folder:
         path = pathlib.Path(folder, "filter.c")
         yield from limiter_tests(clang, xdpbox, path)
+        yield from at_once_tests(clang, xdpbox, path)
         yield from pair_of_queues_tests(clang, xdpbox, path)
         yield from refused_tests(clang, xdpbox, path)
 
