@@ -17,7 +17,7 @@ rt: top NOT PROVED
 2 passed, 1 failed (low, high)
 """
 # What the gate's parts call.
-PARTS = re.findall(r"^(?:part|one) .*?tools/([\w/-]+)", (ROOT / ".ci/run").read_text(), re.MULTILINE)
+PARTS = re.findall(r"^(?:part|one|starts) .*?tools/([\w/-]+)", (ROOT / ".ci/run").read_text(), re.MULTILINE)
 
 SHARED = ("progress", "proving", "others-enter", "laxonje_tools.py")
 
@@ -90,6 +90,10 @@ def gate_tests():
         gate.part("gate/test-pcap", "echo '0 passed, 0 failed'")
         yield "a part that tries nothing", gate.run()[1].splitlines()[-1].endswith(", 1 failed")
         gate.part("gate/test-pcap", "echo '3 passed, 0 failed'")
+        gate.part("xen-guest", "echo 'a guest: a line'; echo '3 passed, 0 failed'; exit 1")
+        status, text, _ = gate.run()
+        yield "a part beside others that fails", status == 1 and "a guest: a line\n" in text and text.splitlines()[-1].endswith(", 1 failed")
+        gate.part("xen-guest", "echo '3 passed, 0 failed'")
         gate.part("gate/inlined", "echo 'inlined: it is not'; exit 1")
         status, text, _ = gate.run()
         yield "a part that fails as a whole", status == 1 and "inlined: it is not\nthe interpreter is inlined, and its loop aligned: FAILED" in text
