@@ -100,7 +100,7 @@ impl<'b> Room for CopyBuf<'b> {
     ) -> Ran {
         match self.packet.take() {
             Some(packet) => {
-                let (ran, packet) = run_packet(program, lists, counters, packet, ifindex, queue);
+                let (packet, ran) = run_packet(program, lists, counters, packet, ifindex, queue);
                 self.packet = Some(packet);
                 ran
             }

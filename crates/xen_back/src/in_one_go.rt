@@ -36,6 +36,7 @@ impl Tallies for NoCounters {
 
 impl<'p, 'b> Queue<'p, 'b> {
     /// Takes a whole turn, with the program's counters at a seat.
+    #[inline(always)]
     pub(crate) fn take_turn<B: Bus>(
         &mut self,
         bus: &mut B,

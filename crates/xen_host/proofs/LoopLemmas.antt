@@ -308,9 +308,9 @@ first_waits table lent rx s after pages (stage.Slot left) a t i told waits gone 
 first_waits table lent rx s after pages (stage.Entry k at) a t i told waits gone z did one = cc i
 first_waits table lent rx s after pages (stage.Page k f frame) a t i told waits gone z did one = cc i
 first_waits table lent rx s after pages (stage.Fill f p) a t i told waits gone z did one = cc i
-first_waits table lent rx s after pages (stage.Respond x k) a t i told waits gone z did one = cc i
-first_waits table lent rx s after pages (stage.Push at kind) a t i told waits gone z did one = cc i
-first_waits table lent rx s after pages (stage.Notice at kind) a t i told waits gone z did one = cc i
+first_waits table lent rx s after pages (stage.Respond k) a t i told waits gone z did one = cc i
+first_waits table lent rx s after pages stage.Push a t i told waits gone z did one = cc i
+first_waits table lent rx s after pages stage.Notice a t i told waits gone z did one = cc i
 first_waits table lent rx s after pages (stage.Deliver producer) a t i told waits gone z did one = cc i
 first_waits table lent rx s after pages (stage.Wait left) a t i told waits gone z did one =
     let none = no_read a z (whole_wait rx after left) waits in

@@ -10,18 +10,20 @@ use Rattle.xen_turns.specs.declared.state.State.{State}
 use Rattle.xen_turns.specs.declared.wiring.Wiring.{Wiring}
 use Rattle.xen_host.specs.declared.engine.Engine.{Engine}
 use Rattle.xen_host.specs.declared.stage.Stage.{Stage}
+use Rattle.xen_host.specs.declared.work.Answer.{Answer}
 use Rattle.xen_host.specs.declared.work.Work.{Work}
 
--- What a turn has come to, with its packet, and what a delivery's leaves to the frontend.
+-- What a turn has come to, with its packet, what a delivery's leaves to the frontend, and the answer to its chain.
 pub record WorkAt : Type 0 where
   pub chain : List Slot
   pub fragments : List Fragment
   pub targets : List Target
   pub packet : List ℕ
   pub offload : RxOffload
+  pub answer : Answer
 
 abbrev pub work_at : List ℕ → Work → WorkAt
-work_at packet b = record { chain = b.chain; fragments = b.fragments.items; targets = b.targets; packet = packet; offload = b.offload }
+work_at packet b = record { chain = b.chain; fragments = b.fragments.items; targets = b.targets; packet = packet; offload = b.offload; answer = b.answer }
 
 pub record EngineAt : Type 0 where
   pub wires : Wiring

@@ -7,6 +7,7 @@ use Rattle.xen_netif.specs.Copy.{bytes_from}
 use Rattle.xen_netif.specs.declared.fragment.Fragment.{Fragment}
 use Rattle.xen_host.specs.declared.offload.Offload.{Offload}
 use Rattle.xen_netif.specs.declared.offload.RxOffload.{RxOffload}
+use Rattle.xen_netif.specs.declared.status.Status.{Status}
 use Rattle.xen_steps.specs.Drive.{LedBy}
 use Rattle.xen_steps.specs.Pages.{AreWords, covered}
 use Rattle.xen_steps.specs.Steps.{Steps, bind}
@@ -26,7 +27,6 @@ use Rattle.xen_host.specs.Led.{Beside, DeliveryEnds, TurnEnds, WaitEnds, beside}
 use Rattle.xen_host.specs.Ran.{HasRunThrough}
 use Rattle.xen_host.specs.Rest.{offload_after, reads_filling, reads_in, rest_filling, rest_in, rest_of_delivery, rest_of_wait, rx_offload}
 use Rattle.xen_host.specs.EngineAt.{EngineAt}
-use Rattle.xen_turns.specs.declared.decisions.Reply.{Reply}
 use Rattle.xen_host.specs.declared.stage.Fill.{Fill}
 use Rattle.xen_host.specs.declared.stage.Purpose.{Purpose}
 use Rattle.xen_host.specs.declared.stage.Purpose.TheVariants as purpose
@@ -87,10 +87,10 @@ SaidSome was free full asks from all (Some i) host host_after =
     (n : ℕ) × (from + suc n ≡ i) × (i ≤ all) × WasAskedAll was host (plain_all (asks (suc n))) host_after × full host_after
 
 -- The responses to a chain, from one on.
-abbrev pub HasResponded : {H : Type 0} → (H → Ask → List ℕ → H → Type 0) → (free full : H → Type 0) → Vif → List Slot → Reply → ℕ →
-    Option ℕ → (host host_after : H) → Type 0
-HasResponded was free full w chain a from left host host_after =
-    SaidSome was free full (stores w a.at.tx_index (responses a.status chain) from) from (length chain) left host host_after
+abbrev pub HasResponded : {H : Type 0} → (H → Ask → List ℕ → H → Type 0) → (free full : H → Type 0) → Vif → List Slot →
+    (t : ℕ) → Status → ℕ → Option ℕ → (host host_after : H) → Type 0
+HasResponded was free full w chain t status from left host host_after =
+    SaidSome was free full (stores w t (responses status chain) from) from (length chain) left host host_after
 
 -- The responses to its rx slots.
 abbrev pub HasReplied : {H : Type 0} → (H → Ask → List ℕ → H → Type 0) → (free full : H → Type 0) → EngineAt → RxOffload → Grants → ℕ → Option ℕ →

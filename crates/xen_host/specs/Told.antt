@@ -37,6 +37,6 @@ abbrev pub IsToldAt : List ℕ → Stage → Ask → Type 0
 IsToldAt table stage.Announce a = IsPush a
 IsToldAt table (stage.Entry i at) a = IsEntry table ReadOnly a
 IsToldAt table (stage.Fill f p) a = IsToldFilling table f a
-IsToldAt table (stage.Push at kind) a = IsPush a
+IsToldAt table stage.Push a = IsPush a
 IsToldAt table (stage.WaitLook pages) a = IsPush a
 IsToldAt table g a = IsOther a

@@ -40,33 +40,26 @@ fn keep_packet<R: Room>(kind: &Kind, packet: &mut R)
 }
 
 impl Engine {
-    /// A turn is over. Its packet stays if the program ran on it and the guest was told so.
+    /// A turn is over, in the engine's state. Its packet stays if the program ran on it and the guest was told so.
     #[inline(always)]
-    pub(crate) fn end<H: Host, R: Room>(
-        &mut self,
-        after: State,
-        kind: Kind,
-        packet: &mut R,
-        host: &mut H,
-    )
+    pub(crate) fn end<H: Host, R: Room>(&mut self, kind: Kind, packet: &mut R, host: &mut H)
         requires { H.is_free host.old }
-        ensures led { (w : Wiring) → TurnLeads H.was_asked H.is_full self.old.offload (done (after, turned kind (R.held packet.old)))
+        ensures led { (w : Wiring) → TurnLeads H.was_asked H.is_full self.old.offload (done (self.old.state, turned kind (R.held packet.old)))
             (engine_at w (R.held packet.new) self.new) host.old host.new }
     {
         keep_packet(&kind, packet);
-        self.state = after;
         self.stage = Stage::Ready;
         host.done(kind)
     }
 
     /// A turn halts.
-    #[inline(never)]
+    #[inline(always)]
     pub(crate) fn halt<H: Host, R: Room>(&mut self, cause: Halt, packet: &mut R, host: &mut H)
         requires { H.is_free host.old }
         ensures led { (w : Wiring) → TurnLeads H.was_asked H.is_full self.old.offload (halted_spec self.old.state cause)
             (engine_at w (R.held packet.new) self.new) host.old host.new }
     {
-        let after = halted(&self.state, cause);
-        self.end(after, Kind::Halted { cause }, packet, host)
+        self.state = halted(&self.state, cause);
+        self.end(Kind::Halted { cause }, packet, host)
     }
 }

@@ -338,6 +338,7 @@ impl<'a, 'p, B: Bus> Host for OverBus<'a, 'p, B> {
         [first, second, third]
     }
 
+    #[inline(always)]
     fn page<R: Room>(&mut self, fragment: &Fragment, packet: &mut R) {
         let covered = fragment.covered_words();
         let whole = fragment.whole_words();

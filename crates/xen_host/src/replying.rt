@@ -155,7 +155,7 @@ impl Engine {
     }
 
     /// A notice is due.
-    #[inline(never)]
+    #[inline(always)]
     fn give_rx_notice<W: Wires, H: Host, R: Room>(
         &mut self,
         purpose: Purpose,

@@ -108,7 +108,7 @@ impl Engine {
     }
 
     /// Answers no slot, as the packet takes none.
-    #[inline(never)]
+    #[inline(always)]
     fn reply_none<W: Wires, H: Host, R: Room>(
         &mut self,
         purpose: Purpose,
@@ -170,7 +170,7 @@ impl Engine {
     }
 
     /// A slot that takes the extra passes, whatever it grants.
-    #[inline(never)]
+    #[inline(always)]
     fn take_extra<W: Wires, H: Host, R: Room>(
         &mut self,
         purpose: Purpose,
@@ -233,7 +233,7 @@ impl Engine {
     }
 
     /// A slot that is refused is the last.
-    #[inline(never)]
+    #[inline(always)]
     fn refuse_post<W: Wires, H: Host, R: Room>(
         &mut self,
         purpose: Purpose,

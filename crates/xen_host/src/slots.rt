@@ -60,6 +60,7 @@ fn put_alone(room: &mut ArrayVec<Fragment, 18>, fragment: Fragment)
 }
 
 /// Puts the fragment of a slot that is a whole chain into the room for fragments.
+#[inline(always)]
 fn place_single(slot: [u32; 3], room: &mut ArrayVec<Fragment, 18>) -> Result<(), SizeFault>
     requires plain { extra_info slot ≡ false }
     ensures answer { (offers : Offers) → MatchResult result (λ _. offered_fragments offers (slot ∷ []) ≡ Ok room.new.items)
@@ -186,6 +187,7 @@ impl Slots {
     }
 
     /// Puts the fragments of a whole chain into their room, as [`Chain::offered_fragments`] gives them.
+    #[inline(always)]
     pub fn place_fragments(
         &self,
         offers: Offers,
@@ -230,6 +232,7 @@ impl Slots {
     }
 
     /// The request in each slot, in order, as [`Chain::requests`] gives them.
+    #[inline(always)]
     pub fn requests(&self) -> ArrayVec<Option<TxReq>, 23>
         ensures items { result.items ≡ requests_of self.now }
         ensures len { length result.items ≡ length self.now }

@@ -19,7 +19,7 @@ use xen_turns::{Awaited, State};
 
 impl Engine {
     /// A wait begins.
-    #[inline(never)]
+    #[inline(always)]
     pub(crate) fn wait_begun<W: Wires, H: Host>(&mut self, pages: u32, wires: &W, host: &mut H)
         requires free { H.is_free host.old }
         ensures led { (packet : List ℕ) → WaitLeads H.was_asked H.is_full self.old.offload packet (whole_wait (W.wiring
@@ -35,7 +35,7 @@ impl Engine {
     }
 
     /// After the event index of a wait.
-    #[inline(never)]
+    #[inline(always)]
     pub(crate) fn wait_looked<H: Host>(&mut self, pages: u32, producer: u32, host: &mut H)
         requires free { H.is_free host.old }
         ensures led { (w : Wiring) (packet : List ℕ) → WaitLeads H.was_asked H.is_full self.old.offload packet (done (wait_end

@@ -207,6 +207,7 @@ fn data_response(grants: Grants, packet: &RxPacket, n: u32, page: u32, id: u16) 
 }
 
 /// The words of the i-th response.
+#[inline(always)]
 pub fn response(grants: Grants, packet: &RxPacket, targets: &Targets, i: u32) -> [u32; 2]
     requires short { length packet.now.bytes.now ≤ 65535 }
     requires within { i < length targets.now }

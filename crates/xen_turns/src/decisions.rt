@@ -93,6 +93,7 @@ pub struct Reply {
 }
 
 /// Returns what follows a transmit: an answer to the packet's chain, or a halt.
+#[inline(always)]
 pub fn after_sending(
     state: &State,
     ops: u32,

@@ -93,6 +93,7 @@ impl<'p, 'b> Queue<'p, 'b> {
     }
 
     /// A whole turn: its events over the bus, at the counters and to the ports.
+    #[inline(always)]
     pub fn drive_turn<B: Bus>(
         &mut self,
         bus: &mut B,

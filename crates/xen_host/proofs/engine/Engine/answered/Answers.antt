@@ -12,6 +12,6 @@ returns g c =
     record {
       led = λ w.
           let q = engine_at w (g.R.Room.held c.args.packet.now) c.args.self.now in
-          let after = c.after_answers-after.ensures ∙ ap (λ k. answered c.args.at k) c.len.ensures.len in
-          asked_from _ _ _ _ _ _ _ _ _ (ap (λ (s : State). done (s, turned c.args.kind q.work.packet)) after) (c.end.ensures.led q.wires);
+          let after = c.after_answers-self.ensures ∙ ap (λ k. answered q.state k) c.len.ensures.len in
+          asked_from _ _ _ _ _ _ _ _ _ (ap (λ (s : State). done (s, turned q.work.answer.kind q.work.packet)) after) (c.end.ensures.led q.wires);
     }

@@ -30,7 +30,7 @@ returns g c =
           let q = engine_at w (g.R.Room.held c.args.packet.now) c.args.self.now in
           let k = c.args.kind in
           let p : (g.R.Room.held c.keep_packet.new.packet) ≡ packet_after k q.work.packet = c.keep_packet.ensures in
-          let over = ap (λ (u : Turned). done (c.args.after, u)) (turned_after k q.work.packet ∙ ap (λ l. turned k l) (sym p)) in
+          let over = ap (λ (u : Turned). done (q.state, u)) (turned_after k q.work.packet ∙ ap (λ l. turned k l) (sym p)) in
           asks_one _ _ _ _ _ _ _ _ _ (ask.TurnOver k) _ c.done.ensures refl refl tt refl
           (record { over = over; ready = refl; packet = λ h. p ∙ none_after k q.work.packet h }) refl tt;
     }

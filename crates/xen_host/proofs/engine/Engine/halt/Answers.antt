@@ -6,4 +6,4 @@ use Rattle.xen_turns.specs.Turned.{Halted}
 use Rattle.xen_host.proofs.engine.Engine.halt.Goals as goal
 
 pub returns : goal.returns
-returns g c = record { led = λ w. asked_from _ _ _ _ _ _ _ _ _ (ap (λ (s : State). done (s, Halted c.args.cause)) c.halted-after.ensures) (c.end.ensures.led w) }
+returns g c = record { led = λ w. asked_from _ _ _ _ _ _ _ _ _ (ap (λ (s : State). done (s, Halted c.args.cause)) c.halted-self.ensures) (c.end.ensures.led w) }

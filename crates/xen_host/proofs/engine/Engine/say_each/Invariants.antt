@@ -7,6 +7,6 @@ use Rattle.xen_host.proofs.engine.Engine.say_each.Given as goal
 abbrev pub invariant-loop-i : goal.invariant-loop-i
 invariant-loop-i g l =
     record {
-      asked : (n : ℕ) × (l.from + n ≡ l.i) × WasAskedAll g.H.Host.was_asked l.fn.host (plain_all (stores (g.W.Wires.wiring l.wires).vif l.answer.at.tx_index (responses l.answer.status l.self.work.chain) l.from n)) l.host;
+      asked : (n : ℕ) × (l.from + n ≡ l.i) × WasAskedAll g.H.Host.was_asked l.fn.host (plain_all (stores (g.W.Wires.wiring l.wires).vif l.self.state.tx_index (responses l.self.work.answer.status l.self.work.chain) l.from n)) l.host;
       free : g.H.Host.is_free l.host;
     }
