@@ -5,7 +5,7 @@ use Rattle.bpf_maps.specs.Layout.{total}
 use Rattle.bpf_note.specs.Shape.{IsCounter}
 use Rattle.bpf_verify.specs.Consistent.{Accepted}
 use Rattle.xen_host.specs.Queues.{wired_to}
-use Rattle.xen_host.specs.Sharing.{AreNewFor, HasPassed, HasRead, IsPassFault, IsShareFault, SharesNow}
+use Rattle.xen_host.specs.Sharing.{AreNewFor, HasAdded, HasPassed, HasRead, IsPassFault, IsShareFault, SharesNow}
 use Rattle.xen_host.specs.declared.queue.Queue.{Queue}
 use Rattle.xen_host.specs.declared.sharing.Share.{Share}
 use Rattle.xen_host.specs.declared.sharing.ShareFault.{ShareFault}
@@ -28,6 +28,9 @@ share_number share.Maps = 5
 abbrev pub nothing_to_share : ℕ
 nothing_to_share = 6
 
+abbrev pub no_counter : ℕ
+no_counter = 1
+
 -- Counters of the program's maps were made, with a seat for each of these queues; or the answer says why not, and what was there is there.
 abbrev pub MakesShared : Accepted → ℕ → (old new : Option SharedCounters) → ℕ → Type 0
 MakesShared p queues old new answer =
@@ -37,6 +40,12 @@ MakesShared p queues old new answer =
 -- The number that one load found, which is an operation of the reader's seat; or there is no such counter.
 abbrev pub ReadsShared : (old new : SharedCounters) → (m k j : ℕ) → ℕ → Type 0
 ReadsShared old new m k j n = HasRead old new m k j n ⊎ ((IsCounter old.program.shapes m k j → ⊥) × (n ≡ 0) × (new ≡ old))
+
+-- The amount was added in one operation of the reader's seat; or there is no such counter, and nothing has changed.
+abbrev pub AddsShared : (old new : SharedCounters) → (m k j amount : ℕ) → ℕ → Type 0
+AddsShared old new m k j amount answer =
+    ((n : ℕ) × HasAdded old new m k j amount n × (answer ≡ 0)) ⊎
+    ((IsCounter old.program.shapes m k j → ⊥) × (answer ≡ no_counter) × (new ≡ old))
 
 -- The queue shares the counters, or the answer says why not, and neither has changed.
 abbrev pub ShareAnswers : (old new : Queue) → (c c_after : SharedCounters) → ℕ → Type 0

@@ -78,8 +78,8 @@ pub use segment_calls::{
     laxonje_queue_offer, laxonje_queue_segment_size, laxonje_queue_segment_type,
 };
 pub use shared_calls::{
-    laxonje_counters_at, laxonje_counters_free, laxonje_counters_make, laxonje_queue_pass,
-    laxonje_queue_share,
+    laxonje_counters_add, laxonje_counters_at, laxonje_counters_free, laxonje_counters_make,
+    laxonje_queue_pass, laxonje_queue_share,
 };
 use std::alloc::Global;
 use xen_host::{FrameOwners, HostOp, RxOffload};

@@ -1,12 +1,12 @@
 //! What C asks of counters that queues share.
 ghost use Rattle.std.specs.Prelude.{◌≡◌, ◌<◌, ◌⊎◌, IfErr, IfNone, IfOk, IfSome, IsSome, None};
 ghost use Rattle.xen_host.specs.Sharing.{AreNewFor};
-ghost use Rattle.xdp_host.specs.Shared.{MakesShared, PassAnswers, ReadsShared, ShareAnswers, nothing_to_share};
+ghost use Rattle.xdp_host.specs.Shared.{AddsShared, MakesShared, PassAnswers, ReadsShared, ShareAnswers, no_counter, nothing_to_share};
 
 use crate::counters_handle::XdpCounters;
 use crate::handle::XdpProgram;
 use crate::queue_handle::XdpQueue;
-use crate::shared_fault::{NOTHING_TO_SHARE, SHARED, share_number};
+use crate::shared_fault::{ADDED, NO_COUNTER, NOTHING_TO_SHARE, SHARED, share_number};
 use std::alloc::Global;
 use xen_host::{Program, Queue, SharedCounters, SharedFault};
 
@@ -60,6 +60,35 @@ pub extern "C" fn laxonje_counters_at(
     match counters.held_mut() {
         Some(held) => held.at(map, entry, counter).unwrap_or(0),
         None => 0,
+    }
+}
+
+/// An amount added to a counter.
+fn add(counters: &mut SharedCounters, map: u32, entry: u32, counter: u32, amount: u64) -> u32
+    ensures { AddsShared counters.old counters.new map entry counter amount result }
+{
+    match counters.add(map, entry, counter, amount) {
+        Some(_) => ADDED,
+        None => NO_COUNTER,
+    }
+}
+
+/// Adds to a shared counter, by one atomic step. The sum wraps. The answer is 0, or 1 if there is no such counter, or there are none.
+#[unsafe(no_mangle)]
+pub extern "C" fn laxonje_counters_add(
+    counters: &mut XdpCounters,
+    map: u32,
+    entry: u32,
+    counter: u32,
+    amount: u64,
+) -> u32
+    ensures none { IfNone counters.old.slot.held ((result ≡ no_counter) × (counters.new.slot.held ≡ None)) }
+    ensures added { IfSome counters.old.slot.held (λ c. IfSome counters.new.slot.held (λ d. AddsShared c d map entry counter amount result)) }
+    ensures kept { IfSome counters.old.slot.held (λ _. IsSome counters.new.slot.held) }
+{
+    match counters.held_mut() {
+        Some(held) => add(held, map, entry, counter, amount),
+        None => NO_COUNTER,
     }
 }
 

@@ -10,6 +10,12 @@ pub const SHARED: u32 = 0;
 /// The answer if there is no queue, no program, or no counters.
 pub const NOTHING_TO_SHARE: u32 = 6;
 
+/// The answer if an amount was added.
+pub const ADDED: u32 = 0;
+
+/// The answer if there is no such counter.
+pub const NO_COUNTER: u32 = 1;
+
 /// The number of a fault of making them.
 pub fn shared_number(fault: SharedFault) -> u32
     ensures { result ≡ shared_number fault }

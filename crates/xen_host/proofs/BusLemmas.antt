@@ -14,12 +14,11 @@ use Rattle.xen_steps.specs.Drive.{accesses}
 use Rattle.xen_steps.specs.Pages.{AreWords}
 use Rattle.xen_rx_fill.specs.Packets.{word_of}
 use Rattle.xen_host.specs.Asks.{reads_at, writes_at}
-use Rattle.xen_host.specs.Buses.{HasRead, IsInBus, MayReadRun, behind}
+use Rattle.xen_host.specs.Buses.{IsInBus, MayRead, behind}
 use Rattle.xen_host.specs.Filling.{packet_words}
-use Rattle.xen_host.specs.declared.over_bus.OverBus.{OverBus}
 use Rattle.xen_host.proofs.AskLemmas.{packet_words_more}
 use Rattle.xen_host.proofs.ChainLemmas.{words_length}
-use Rattle.xen_host.proofs.WordLemmas.{behind_more, behind_none, reads_append, run_words, words_append, writes_append, writes_run}
+use Rattle.xen_host.proofs.WordLemmas.{reads_append, run_words, words_append, writes_append, writes_run}
 
 -- words that are 0
 pub zero_bytes : (n : ℕ) → replicate (4 * n) 0 ≡ bytes_of (replicate n 0)
@@ -32,40 +31,27 @@ zero_words (suc n) = (omega arith, zero_words n)
 
 module _ {B : Type 0} (log : B → Option (List Access)) (gives : B → Access → B → Type 0) (size : B → ℕ) where
   -- no words
-  pub run_none : (k : ℕ) (a : OverBus B) → MayReadRun log gives size a k [] a
-  run_none k a = record { performed = λ h. performs_none log gives a.bus.now; below = tt; sized = refl; due = refl; over = refl; loan = refl }
+  pub none_read : (at : Place) (a : B) → MayRead log gives size a at [] a
+  none_read at a = record { performed = λ h. performs_none log gives a; below = tt; sized = refl }
 
   -- words that aren't in the bus's pages
-  pub unread : (k : ℕ) (ws : List ℕ) (a : OverBus B) → AreWords ws → (IsInBus (size a.bus.now) (behind a.at k) (length ws) → ⊥) → MayReadRun log gives size a k ws a
-  unread k ws a below outside = record { performed = λ h. absurd (outside h); below = below; sized = refl; due = refl; over = refl; loan = refl }
+  pub unread : (at : Place) (ws : List ℕ) (a : B) → AreWords ws → (IsInBus (size a) at (length ws) → ⊥) → MayRead log gives size a at ws a
+  unread at ws a below outside = record { performed = λ h. absurd (outside h); below = below; sized = refl }
 
   -- words, and those behind them
-  pub run_then : (k next : ℕ) (ws vs : List ℕ) (a b c : OverBus B) → next ≡ k + length ws → MayReadRun log gives size a k ws b → MayReadRun log gives size b next vs c → MayReadRun log gives size a k (ws ++ vs) c
-  run_then k next ws vs a b c e p q = record {
+  pub run_then : (at next : Place) (ws vs : List ℕ) (a b c : B) → next ≡ behind at (length ws) → MayRead log gives size a at ws b → MayRead log gives size b next vs c → MayRead log gives size a at (ws ++ vs) c
+  run_then at next ws vs a b c e p q = record {
     performed = λ h.
         let all = length-append ws vs in
         let first = p.performed (h.0, omega (arith, h.1, all)) in
-        let frame : b.at.frame ≡ a.at.frame = ap (λ (x : Place). x.frame) p.due in
-        let word : b.at.word ≡ a.at.word = ap (λ (x : Place). x.word) p.due in
-        let then = q.performed (omega (arith, h.0, frame, p.sized), omega (arith, h.1, all, word, e)) in
-        let place : behind b.at next ≡ behind (behind a.at k) (length ws) = ap (λ (x : Place). behind x next) p.due ∙ ap (λ n. behind a.at n) e ∙ sym (behind_more a.at k (length ws)) in
-        let later = subst (λ (x : Place). Performs log gives b.bus.now (accesses (reads_at x vs)) c.bus.now) place then in
-        subst (λ l. Performs log gives a.bus.now l c.bus.now) (sym (reads_append (behind a.at k) ws vs))
-        (performs_then log gives a.bus.now b.bus.now c.bus.now (accesses (reads_at (behind a.at k) ws)) (accesses (reads_at (behind (behind a.at k) (length ws)) vs)) first later);
+        let frame : next.frame ≡ at.frame = ap (λ (x : Place). x.frame) e in
+        let word : next.word ≡ at.word + length ws = ap (λ (x : Place). x.word) e in
+        let then = q.performed (omega (arith, h.0, frame, p.sized), omega (arith, h.1, all, word)) in
+        let later = subst (λ (x : Place). Performs log gives b (accesses (reads_at x vs)) c) e then in
+        subst (λ l. Performs log gives a l c) (sym (reads_append at ws vs))
+        (performs_then log gives a b c (accesses (reads_at at ws)) (accesses (reads_at (behind at (length ws)) vs)) first later);
     below = words_append ws vs p.below q.below;
     sized = q.sized ∙ p.sized;
-    due = q.due ∙ p.due;
-    over = q.over ∙ p.over;
-    loan = q.loan ∙ p.loan;
-  }
-
-  -- All that is due was read.
-  pub has_read : (ws : List ℕ) (a b : OverBus B) → MayReadRun log gives size a 0 ws b → HasRead log gives size a ws b
-  has_read ws a b p = record {
-    performed = λ h. subst (λ (x : Place). Performs log gives a.bus.now (accesses (reads_at x ws)) b.bus.now) (behind_none a.at) (p.performed (h.0, omega (arith, h.1)));
-    sized = p.sized;
-    over = p.over;
-    loan = p.loan;
   }
 
   -- ---- what is written

@@ -4,15 +4,13 @@ use Rattle.std.specs.Prelude.{◌/◌}
 use Rattle.xen_host.specs.declared.offload.Offload.{Offload}
 use Rattle.xen_netif.specs.declared.offload.RxOffload.{RxOffload}
 use Rattle.xen_netif.specs.declared.offload.RxOffload.TheVariants.{Whole}
-use Rattle.xen_page.specs.declared.place.Place.{Place}
 use Rattle.xen_steps.specs.Drive.{LedBy, IsPageWant}
 use Rattle.xen_steps.specs.Finish.{Finishes}
 use Rattle.xen_steps.specs.Pages.{AreWords, covered}
-use Rattle.xen_steps.specs.Places.{add32, page_word}
+use Rattle.xen_steps.specs.Places.{add32}
 use Rattle.xen_steps.specs.Steps.{Steps}
 use Rattle.xen_steps.specs.declared.want.Want.{Want}
 use Rattle.xen_steps.proofs.FinishLemmas.{finishes_gone}
-use Rattle.xen_rx_fill.specs.Places.{rx_slot, rx_word, tx_slot, tx_word}
 use Rattle.xen_rx_fill.specs.Packets.{takes_extra}
 use Rattle.xen_rx_fill.specs.Transmit.{after_targets, read_targets, requested}
 use Rattle.xen_rx_fill.specs.declared.vif.Vif.{Vif}
@@ -37,7 +35,7 @@ use Rattle.xen_host.specs.HostLed.{HostLed}
 use Rattle.xen_host.specs.Hosts.{Asked, asks_of, events_of}
 use Rattle.xen_host.specs.Led.{DeliveryEnds, IsOn, IsTurnOver, TurnEnds, WaitEnds}
 use Rattle.xen_host.specs.Told.{IsToldAt}
-use Rattle.xen_host.specs.Rest.{is_delivering, is_turning, is_waiting, reads_filling, reads_in, rest_filling, rest_in, rest_of_delivery, rest_of_wait}
+use Rattle.xen_host.specs.Rest.{due_filling, due_in, is_delivering, is_turning, is_waiting, reads_filling, reads_in, rest_filling, rest_in, rest_of_delivery, rest_of_wait}
 use Rattle.xen_host.specs.EngineAt.{EngineAt, WorkAt}
 use Rattle.xen_host.specs.declared.stage.Fill.{Fill}
 use Rattle.xen_host.specs.declared.stage.Fill.TheVariants as fill
@@ -49,61 +47,58 @@ use Rattle.xen_host.proofs.StepLemmas.{AreInPages, all_within, last_within, page
 
 -- ---- what is waited for
 
-none : Place
-none = page_word 0 0
+pub reads_of_fill : (w : Vif) (x : ℕ) (o : RxOffload) (f : Fill) (b : WorkAt) → AsksReads (due_filling w x f b) (reads_filling f) (rest_filling w x o f b)
+reads_of_fill w x o fill.Producer b = (refl, λ a. tt)
+reads_of_fill w x o (fill.Slot left) b = asks_post w (add32 x (length b.targets)) (requested w (takes_extra o (length b.targets)) b.targets (read_targets w x o left)) (after_targets w x o b.packet)
+reads_of_fill w x o (fill.Grant left id at) b = (refl, λ a. (refl, λ c. tt))
+reads_of_fill w x o (fill.Words i) b = tt
+reads_of_fill w x o (fill.Respond grants i) b = tt
+reads_of_fill w x o (fill.Push grants) b = (refl, λ a. tt)
+reads_of_fill w x o (fill.Notice grants) b = tt
 
-pub reads_of_fill : (w : Vif) (x : ℕ) (o : RxOffload) (f : Fill) (b : WorkAt) → (at : Place) × AsksReads at (reads_filling f) (rest_filling w x o f b)
-reads_of_fill w x o fill.Producer b = (rx_word w 0, (refl, λ a. tt))
-reads_of_fill w x o (fill.Slot left) b = (rx_slot w (add32 x (length b.targets)) 0, asks_post w (add32 x (length b.targets)) (requested w (takes_extra o (length b.targets)) b.targets (read_targets w x o left)) (after_targets w x o b.packet))
-reads_of_fill w x o (fill.Grant left id at) b = (at, (refl, λ a. (refl, λ c. tt)))
-reads_of_fill w x o (fill.Words i) b = (none, tt)
-reads_of_fill w x o (fill.Respond grants i) b = (none, tt)
-reads_of_fill w x o (fill.Push grants) b = (rx_word w 3, (refl, λ a. tt))
-reads_of_fill w x o (fill.Notice grants) b = (none, tt)
-
-reads_of_turn : (w : Wiring) (s : State) (g : Stage) (b : WorkAt) → is_turning g ≡ true → (at : Place) × AsksReads at (reads_in g) (rest_in w s g b)
+pub reads_of_turn : (w : Wiring) (s : State) (g : Stage) (b : WorkAt) → is_turning g ≡ true → AsksReads (due_in w s g b) (reads_in g) (rest_in w s g b)
 reads_of_turn w s stage.Ready b t = cc t
-reads_of_turn w s stage.Announce b t = (tx_word w.vif 0, (refl, λ a. tt))
-reads_of_turn w s (stage.Slot left) b t = (tx_slot w.vif (add32 s.tx_index (length b.chain)) 0, asks_slot w (add32 s.tx_index (length b.chain)) (λ (slot : Slot). judged (b.chain ++ slot ∷ []) (standing (b.chain ++ slot ∷ [])) (read_slots w s.tx_index left (b.chain ++ slot ∷ []))) (after_scan w s))
-reads_of_turn w s (stage.Entry i at) b t = (at, (refl, λ a. (refl, λ c. tt)))
-reads_of_turn w s (stage.Page i f frame) b t = (page_word frame (f.offset / 4), asks_words f frame (f.offset / 4) (covered f) b.packet (copy w (drop i b.fragments)) (after_copy w s b.chain))
-reads_of_turn w s (stage.Fill f (purpose.Back n)) b t = let r = reads_of_fill w.vif s.rx_index Whole f b in (r.0, reads_bind r.0 (reads_filling f) (rest_filling w.vif s.rx_index Whole f b) (after_transmit w s b.chain b.packet n) r.1)
+reads_of_turn w s stage.Announce b t = (refl, λ a. tt)
+reads_of_turn w s (stage.Slot left) b t = asks_slot w (add32 s.tx_index (length b.chain)) (λ (slot : Slot). judged (b.chain ++ slot ∷ []) (standing (b.chain ++ slot ∷ [])) (read_slots w s.tx_index left (b.chain ++ slot ∷ []))) (after_scan w s)
+reads_of_turn w s (stage.Entry i at) b t = (refl, λ a. (refl, λ c. tt))
+reads_of_turn w s (stage.Page i f frame) b t = asks_words f frame (f.offset / 4) (covered f) b.packet (copy w (drop i b.fragments)) (after_copy w s b.chain)
+reads_of_turn w s (stage.Fill f (purpose.Back n)) b t = reads_bind _ (reads_filling f) (rest_filling w.vif s.rx_index Whole f b) (after_transmit w s b.chain b.packet n) (reads_of_fill w.vif s.rx_index Whole f b)
 reads_of_turn w s (stage.Fill f purpose.Delivery) b t = cc t
-reads_of_turn w s (stage.Respond i) b t = (none, tt)
-reads_of_turn w s stage.Push b t = (tx_word w.vif 3, (refl, λ a. tt))
-reads_of_turn w s stage.Notice b t = (none, tt)
+reads_of_turn w s (stage.Respond i) b t = tt
+reads_of_turn w s stage.Push b t = (refl, λ a. tt)
+reads_of_turn w s stage.Notice b t = tt
 reads_of_turn w s (stage.Deliver producer) b t = cc t
 reads_of_turn w s (stage.Wait pages) b t = cc t
 reads_of_turn w s (stage.WaitLook pages) b t = cc t
 
-reads_of_delivery : (w : Vif) (s : State) (g : Stage) (b : WorkAt) → is_delivering g ≡ true → (at : Place) × AsksReads at (reads_in g) (rest_of_delivery w s g b)
+pub reads_of_delivery : (w : Wiring) (s : State) (g : Stage) (b : WorkAt) → is_delivering g ≡ true → AsksReads (due_in w s g b) (reads_in g) (rest_of_delivery w.vif s g b)
 reads_of_delivery w s stage.Ready b t = cc t
 reads_of_delivery w s stage.Announce b t = cc t
 reads_of_delivery w s (stage.Slot left) b t = cc t
 reads_of_delivery w s (stage.Entry i at) b t = cc t
 reads_of_delivery w s (stage.Page i f frame) b t = cc t
 reads_of_delivery w s (stage.Fill f (purpose.Back n)) b t = cc t
-reads_of_delivery w s (stage.Fill f purpose.Delivery) b t = let r = reads_of_fill w s.rx_index b.offload f b in (r.0, reads_bind r.0 (reads_filling f) (rest_filling w s.rx_index b.offload f b) (arrived s) r.1)
+reads_of_delivery w s (stage.Fill f purpose.Delivery) b t = reads_bind _ (reads_filling f) (rest_filling w.vif s.rx_index b.offload f b) (arrived s) (reads_of_fill w.vif s.rx_index b.offload f b)
 reads_of_delivery w s (stage.Respond i) b t = cc t
 reads_of_delivery w s stage.Push b t = cc t
 reads_of_delivery w s stage.Notice b t = cc t
-reads_of_delivery w s (stage.Deliver producer) b t = (none, tt)
+reads_of_delivery w s (stage.Deliver producer) b t = tt
 reads_of_delivery w s (stage.Wait pages) b t = cc t
 reads_of_delivery w s (stage.WaitLook pages) b t = cc t
 
-reads_of_wait : (rx : ℕ) (s : State) (g : Stage) → is_waiting g ≡ true → (at : Place) × AsksReads at (reads_in g) (rest_of_wait rx s g)
-reads_of_wait rx s stage.Ready t = cc t
-reads_of_wait rx s stage.Announce t = cc t
-reads_of_wait rx s (stage.Slot left) t = cc t
-reads_of_wait rx s (stage.Entry i at) t = cc t
-reads_of_wait rx s (stage.Page i f frame) t = cc t
-reads_of_wait rx s (stage.Fill f p) t = cc t
-reads_of_wait rx s (stage.Respond i) t = cc t
-reads_of_wait rx s stage.Push t = cc t
-reads_of_wait rx s stage.Notice t = cc t
-reads_of_wait rx s (stage.Deliver producer) t = cc t
-reads_of_wait rx s (stage.Wait pages) t = (none, tt)
-reads_of_wait rx s (stage.WaitLook pages) t = (page_word rx 0, (refl, λ a. tt))
+pub reads_of_wait : (w : Wiring) (s : State) (g : Stage) (b : WorkAt) → is_waiting g ≡ true → AsksReads (due_in w s g b) (reads_in g) (rest_of_wait w.vif.rx s g)
+reads_of_wait w s stage.Ready b t = cc t
+reads_of_wait w s stage.Announce b t = cc t
+reads_of_wait w s (stage.Slot left) b t = cc t
+reads_of_wait w s (stage.Entry i at) b t = cc t
+reads_of_wait w s (stage.Page i f frame) b t = cc t
+reads_of_wait w s (stage.Fill f p) b t = cc t
+reads_of_wait w s (stage.Respond i) b t = cc t
+reads_of_wait w s stage.Push b t = cc t
+reads_of_wait w s stage.Notice b t = cc t
+reads_of_wait w s (stage.Deliver producer) b t = cc t
+reads_of_wait w s (stage.Wait pages) b t = tt
+reads_of_wait w s (stage.WaitLook pages) b t = (refl, λ a. tt)
 
 -- ---- what ends
 
@@ -303,18 +298,18 @@ wait_ended w offload packet from new same h c = by (wait_split packet new h.last
 -- What is answered to what was asked last finishes too.
 pub fed_turn : (w : Wiring) (s : State) (g : Stage) (b : WorkAt) (words : List ℕ) → AreWords words → length words ≡ reads_in g → is_turning g ≡ true → TaskCompletes w s g b → Completes w (fed (rest_in w s g b) words)
 fed_turn w s g b words below n t c =
-    let r = reads_of_turn w s g b t in
     let rest = rest_in w s g b in
-    finishes_gone (may_want w) rest (fed rest words) (reads_at r.0 words) (task_turn w s g b t c) (read_led rest r.0 (reads_in g) words below n r.1)
+    let at = due_in w s g b in
+    finishes_gone (may_want w) rest (fed rest words) (reads_at at words) (task_turn w s g b t c) (read_led rest at (reads_in g) words below n (reads_of_turn w s g b t))
 
 pub fed_delivery : (w : Wiring) (s : State) (g : Stage) (b : WorkAt) (words : List ℕ) → AreWords words → length words ≡ reads_in g → is_delivering g ≡ true → Arriving w s g b → Finishes (IsPageWant (length w.vif.owners.now)) (fed (rest_of_delivery w.vif s g b) words)
 fed_delivery w s g b words below n t c =
-    let r = reads_of_delivery w.vif s g b t in
     let rest = rest_of_delivery w.vif s g b in
-    finishes_gone (IsPageWant (length w.vif.owners.now)) rest (fed rest words) (reads_at r.0 words) c (read_led rest r.0 (reads_in g) words below n r.1)
+    let at = due_in w s g b in
+    finishes_gone (IsPageWant (length w.vif.owners.now)) rest (fed rest words) (reads_at at words) c (read_led rest at (reads_in g) words below n (reads_of_delivery w s g b t))
 
-pub fed_wait : (w : Wiring) (s : State) (g : Stage) (words : List ℕ) → AreWords words → length words ≡ reads_in g → is_waiting g ≡ true → Waiting w s g → Finishes (IsPageWant (length w.vif.owners.now)) (fed (rest_of_wait w.vif.rx s g) words)
-fed_wait w s g words below n t c =
-    let r = reads_of_wait w.vif.rx s g t in
+pub fed_wait : (w : Wiring) (s : State) (g : Stage) (b : WorkAt) (words : List ℕ) → AreWords words → length words ≡ reads_in g → is_waiting g ≡ true → Waiting w s g → Finishes (IsPageWant (length w.vif.owners.now)) (fed (rest_of_wait w.vif.rx s g) words)
+fed_wait w s g b words below n t c =
     let rest = rest_of_wait w.vif.rx s g in
-    finishes_gone (IsPageWant (length w.vif.owners.now)) rest (fed rest words) (reads_at r.0 words) c (read_led rest r.0 (reads_in g) words below n r.1)
+    let at = due_in w s g b in
+    finishes_gone (IsPageWant (length w.vif.owners.now)) rest (fed rest words) (reads_at at words) c (read_led rest at (reads_in g) words below n (reads_of_wait w s g b t))

@@ -4,6 +4,7 @@ use Rattle.std.specs.Prelude.{None, Option, Some, IsSome}
 use Rattle.std.specs.Prelude.{◌^◌, Bool}
 use Rattle.xen_netif.specs.declared.offload.Accepts.{Accepts}
 use Rattle.xen_netif.specs.declared.offload.RxOffload.{RxOffload}
+use Rattle.xen_page.specs.declared.place.Place.{Place}
 use Rattle.xen_steps.specs.Drive.{LedBy, IsPageWant}
 use Rattle.xen_steps.specs.Event.{Read}
 use Rattle.xen_steps.specs.Steps.{next}
@@ -75,7 +76,7 @@ task_wait w s (stage.WaitLook pages) b t h = h
 wires_stand : (q : EngineAt) → Stands q → (w : Wiring) → w ≡ q.wires → IsWired w.vif × TurnsComplete w
 wires_stand q st w e = subst (λ (x : Wiring). IsWired x.vif × TurnsComplete x) (sym e) (st.wired, st.turns)
 
-module _ {H : Type 0} (was : H → Ask → List ℕ → H → Type 0) (full : H → Type 0) (gave : H → List ℕ → H → Type 0) (host host_after : H) (old : EngineAt) (st : Stands old) (engine : EngineAt) (went : List (Option Operation) → Type 0)
+module _ {H : Type 0} (was : H → Ask → List ℕ → H → Type 0) (full : H → Type 0) (gave : H → Place → List ℕ → H → Type 0) (host host_after : H) (old : EngineAt) (st : Stands old) (engine : EngineAt) (went : List (Option Operation) → Type 0)
     (same : engine.wires ≡ old.wires) (led : GoesOnAt was full gave old.stage old engine went host host_after) where
   -- after the run, what is left of a turn ends
   from : (t : AtTurn was full gave old.stage old engine went host host_after) → Completes old.wires t.led.led.between
@@ -83,7 +84,7 @@ module _ {H : Type 0} (was : H → Ask → List ℕ → H → Type 0) (full : H 
       let e = old in
       let a = t.led in
       finishes_gone (may_want old.wires) (fed (rest_in old.wires e.state e.stage e.work) a.words) a.led.between (map event_of a.led.ran.labels)
-      (fed_turn e.wires e.state e.stage e.work a.words (given_words gave _ host a.mid a.words a.given) (given_length gave _ host a.mid a.words a.given) t.turning st.left) a.led.ran.gone
+      (fed_turn e.wires e.state e.stage e.work a.words (given_words gave _ _ host a.mid a.words a.given) (given_length gave _ _ host a.mid a.words a.given) t.turning st.left) a.led.ran.gone
 
   turn_end : (t : AtTurn was full gave old.stage old engine went host host_after) → Ended (length old.wires.vif.owners.now) engine (t.led.led.led.first ++ t.led.led.led.last ∷ [])
   turn_end t = turn_ended old.wires _ t.led.led.between engine same t.led.led.led (from t)
@@ -92,14 +93,14 @@ module _ {H : Type 0} (was : H → Ask → List ℕ → H → Type 0) (full : H 
   delivery_end t =
       let e = old in
       let a = t.led in
-      delivery_ended e.wires e.offload e.work.packet _ engine same a.led (fed_delivery e.wires e.state e.stage e.work a.words (given_words gave _ host a.mid a.words a.given) (given_length gave _ host a.mid a.words a.given)
+      delivery_ended e.wires e.offload e.work.packet _ engine same a.led (fed_delivery e.wires e.state e.stage e.work a.words (given_words gave _ _ host a.mid a.words a.given) (given_length gave _ _ host a.mid a.words a.given)
       t.delivering (task_delivery e.wires e.state e.stage e.work t.delivering st.left))
 
   wait_end : (t : AtWait was full gave old.stage old engine went host host_after) → Ended (length old.wires.vif.owners.now) engine (t.led.led.first ++ t.led.led.last ∷ [])
   wait_end t =
       let e = old in
       let a = t.led in
-      wait_ended e.wires e.offload e.work.packet _ engine same a.led (fed_wait e.wires e.state e.stage a.words (given_words gave _ host a.mid a.words a.given) (given_length gave _ host a.mid a.words a.given)
+      wait_ended e.wires e.offload e.work.packet _ engine same a.led (fed_wait e.wires e.state e.stage e.work a.words (given_words gave _ _ host a.mid a.words a.given) (given_length gave _ _ host a.mid a.words a.given)
       t.waiting (task_wait e.wires e.state e.stage e.work t.waiting st.left))
 
   pub step_stands : Stands engine
@@ -121,7 +122,7 @@ module _ {H : Type 0} (was : H → Ask → List ℕ → H → Type 0) (full : H 
           record { fits = l.fits; wired = w.0; turns = w.1; left = (wait_end t).task }
 
 -- and what is under way goes on
-pub stepped_at : {H : Type 0} {was : H → Ask → List ℕ → H → Type 0} {full : H → Type 0} {gave : H → List ℕ → H → Type 0} {host host_after : H} (old new : EngineAt) → Stands old → (went : List (Option Operation) → Type 0) (same : Type 0) → (went [] → same) → new.wires ≡ old.wires →
+pub stepped_at : {H : Type 0} {was : H → Ask → List ℕ → H → Type 0} {full : H → Type 0} {gave : H → Place → List ℕ → H → Type 0} {host host_after : H} (old new : EngineAt) → Stands old → (went : List (Option Operation) → Type 0) (same : Type 0) → (went [] → same) → new.wires ≡ old.wires →
     GoesOnAt was full gave old.stage old new went host host_after → (old.stage ≡ stage.Ready → ⊥) → StepsAt was full gave went same old new host host_after
 stepped_at {was = was} {full = full} {gave = gave} {host = host} {host_after = host_after} old new st went none_same none same led busy = by (under old.stage old new went led)
   where
@@ -146,7 +147,7 @@ stepped_at {was = was} {full = full} {gave = gave} {host = host} {host_after = h
           offload = l.offload_is;
           labels = a.led.ran.labels;
           history = a.led.ran.history;
-          turn = turn_steps old new _ a.words went (given_words gave _ host a.mid a.words a.given) (given_length gave _ host a.mid a.words a.given) same a.led;
+          turn = turn_steps old new _ a.words went (given_words gave _ _ host a.mid a.words a.given) (given_length gave _ _ host a.mid a.words a.given) same a.led;
           delivery = λ s o packet trace asked token. absurd (cc (token.0.is_here, t.not_delivering));
           wait = λ s pages packet trace asked token. absurd (cc (token.0.is_here, t.not_waiting));
         }
@@ -171,7 +172,7 @@ stepped_at {was = was} {full = full} {gave = gave} {host = host} {host_after = h
           history = t.counters;
           turn = λ s trace asked token. absurd (cc (token.is_here, t.not_turning));
           delivery = λ s o packet trace asked token.
-              (delivery_steps old new old.offload a.words (given_words gave _ host a.mid a.words a.given) (given_length gave _ host a.mid a.words a.given) same l s o packet trace asked token, none t.counters);
+              (delivery_steps old new old.offload a.words (given_words gave _ _ host a.mid a.words a.given) (given_length gave _ _ host a.mid a.words a.given) same l s o packet trace asked token, none t.counters);
           wait = λ s pages packet trace asked token. absurd (cc (token.0.is_here, t.not_waiting));
         }
     by (wait t) =
@@ -196,7 +197,7 @@ stepped_at {was = was} {full = full} {gave = gave} {host = host} {host_after = h
           turn = λ s trace asked token. absurd (cc (token.is_here, t.not_turning));
           delivery = λ s o packet trace asked token. absurd (cc (token.0.is_here, t.not_delivering));
           wait = λ s pages packet trace asked token.
-              (wait_steps old new old.offload a.words (given_words gave _ host a.mid a.words a.given) (given_length gave _ host a.mid a.words a.given) same l s pages packet trace asked token, none t.counters);
+              (wait_steps old new old.offload a.words (given_words gave _ _ host a.mid a.words a.given) (given_length gave _ _ host a.mid a.words a.given) same l s pages packet trace asked token, none t.counters);
         }
 
 -- ---- what begins

@@ -8,6 +8,7 @@ use Rattle.xen_steps.specs.Drive.{accesses}
 use Rattle.xen_steps.specs.Event.{Event}
 use Rattle.xen_steps.specs.Event as event
 use Rattle.xen_steps.proofs.DriveLemmas.{accesses-append}
+use Rattle.xen_page.specs.declared.place.Place.{Place}
 use Rattle.xen_rx_fill.specs.Places.{rx_word, tx_word}
 use Rattle.xen_turns.specs.Awaited.{IsAwaiting}
 use Rattle.xen_turns.specs.Delivered.{IsDelivery}
@@ -97,7 +98,6 @@ module _ {B C : Type 0} (log : B → Option (List Access)) (gives : B → Access
         wide = sized_last first last sizes;
         held = held_last first last holds;
         inside = inside_last (length w.vif.owners.now) first last inside;
-        due = made.due;
         over = made.over ∙ ap (λ o. over_after last.ask o) free;
         sized = made.sized ∙ sized;
         wires = wires;
@@ -113,8 +113,8 @@ module _ {B C : Type 0} (log : B → Option (List Access)) (gives : B → Access
       begins turn s old.wires bus before before q (first_read s.halt at) b.first b.last host host_after performed (first_none s.halt at refl) sized free b.asked b.take_none b.sized b.within b.wires refl tt b.turn st
 
   -- A step that takes no answer begins with what is asked.
-  unanswered : (n : ℕ) (words : List ℕ) (host mid : OverBus B) → n ≡ 0 → WasGiven (HasRead log gives size) n host words mid → mid ≡ host
-  unanswered n words host mid e g = (subst (λ m. WasGiven (HasRead log gives size) m host words mid) e g).1
+  unanswered : (at : Place) (n : ℕ) (words : List ℕ) (host mid : OverBus B) → n ≡ 0 → WasGiven (HasRead log gives size) at n host words mid → mid ≡ host
+  unanswered at n words host mid e g = (subst (λ m. WasGiven (HasRead log gives size) at m host words mid) e g).1
 
   pub delivery_begun : (old mid q : EngineAt) (o : RxOffload) (packet : List ℕ) (bus : B) (before after : C) (producer : ℕ) (host host_after : OverBus B) → size host.bus.now ≡ length old.wires.vif.owners.now → host.over ≡ None →
       Performs log gives bus (accesses (first_read old.state.halt (event.Read (rx_word old.wires.vif 0) producer))) host.bus.now → IsBegunAt old mid producer o packet → Stands q →
@@ -124,7 +124,7 @@ module _ {B C : Type 0} (log : B → Option (List Access)) (gives : B → Access
       let s = old.state in
       let at = event.Read (rx_word old.wires.vif 0) producer in
       let d = h.delivery s o packet (first_read s.halt at) None b.delivering in
-      let same = unanswered (reads_in mid.stage) h.words host h.mid b.delivering.0.waits h.given in
+      let same = unanswered _ (reads_in mid.stage) h.words host h.mid b.delivering.0.waits h.given in
       let asked = subst (λ (x : OverBus B). WasAskedAll (IsMade log gives size) x (h.first ++ h.last ∷ []) host_after) same h.asked in
       let within = subst (λ (v : Wiring). AllHeld (h.first ++ h.last ∷ []) → AllInPages (length v.vif.owners.now) (asks_of (h.first ++ h.last ∷ []))) b.wires h.within in
       begins (delivery o packet) s old.wires bus before after q (first_read s.halt at) h.first h.last host host_after performed (first_none s.halt at refl) sized free asked h.take_none h.sized within (h.wires ∙ b.wires) d.1 d.1 d.0 st
@@ -136,13 +136,32 @@ module _ {B C : Type 0} (log : B → Option (List Access)) (gives : B → Access
   wait_begun old mid q pages bus before after host host_after sized free untouched b st h =
       let s = old.state in
       let d = h.wait s pages (packet_at old) [] None b.waiting in
-      let same = unanswered (reads_in mid.stage) h.words host h.mid b.waiting.0.waits h.given in
+      let same = unanswered _ (reads_in mid.stage) h.words host h.mid b.waiting.0.waits h.given in
       let asked = subst (λ (x : OverBus B). WasAskedAll (IsMade log gives size) x (h.first ++ h.last ∷ []) host_after) same h.asked in
       let within = subst (λ (v : Wiring). AllHeld (h.first ++ h.last ∷ []) → AllInPages (length v.vif.owners.now) (asks_of (h.first ++ h.last ∷ []))) b.wires h.within in
       let performed = subst (λ (x : B). Performs log gives bus [] x) (sym untouched) (performs_none log gives bus) in
       begins (wait pages (packet_at old)) s old.wires bus before after q [] h.first h.last host host_after performed refl sized free asked h.take_none h.sized within (h.wires ∙ b.wires) d.1 d.1 d.0 st
 
   -- ---- what is under way
+
+  pub gone_less : (k : Task) (s : State) (w : Wiring) (bus : B) (before : C) (n : ℕ) (q : EngineAt) (after : C) (host : OverBus B) → IsGone log gives size did k s w bus before n q after host → IsGone log gives size did k s w bus before 0 q after host
+  gone_less k s w bus before n q after host d =
+      record {
+        earlier = d.earlier;
+        last = d.last;
+        performed = d.performed;
+        counted = d.counted;
+        keeps = d.keeps;
+        goes = d.goes;
+        stands = d.stands;
+        wide = d.wide;
+        held = d.held;
+        inside = d.inside;
+        over = d.over;
+        sized = d.sized;
+        wires = d.wires;
+        some = omega arith;
+      }
 
   pub going : (serves : C → Type 0) (k : Task) (s : State) (w : Wiring) (bus : B) (before : C) (most : ℕ) (q : EngineAt) (after : C) (host : OverBus B) → IsGone log gives size did k s w bus before 0 q after host →
       ((n : ℕ) (new : EngineAt) (end : C) (host_after : OverBus B) → IsGone log gives size did k s w bus before n new end host_after → n < most) →

@@ -4,6 +4,7 @@ use Rattle.std.proofs.lemmas.List.{length-take}
 use Rattle.xen_host.specs.declared.offload.Offload.{Offload}
 use Rattle.xen_netif.specs.declared.segments.Offers.{Offers}
 use Rattle.xen_steps.specs.Event.{Event, Read}
+use Rattle.xen_page.specs.declared.place.Place.{Place}
 use Rattle.xen_steps.specs.Places.{page_word}
 use Rattle.xen_steps.specs.Steps.{Steps}
 use Rattle.xen_rx_fill.specs.Places.{tx_word}
@@ -16,7 +17,7 @@ use Rattle.xen_host.specs.Hosts.{Asked, HasGiven, IsFull, IsLent, IsPut, IsSameL
 use Rattle.xen_host.specs.Over.{BeginsOver, SteppedOver}
 use Rattle.xen_host.specs.Queues.{DeliveryGoesOn, HasBegun, Stepped, TurnGoesOn, WaitGoesOn, seen, wired_to, wiring}
 use Rattle.xen_host.specs.UnderWay.{WaitsForSome, first_read, read_by_some}
-use Rattle.xen_host.specs.Rest.{offload_after, offload_behind, reads_in}
+use Rattle.xen_host.specs.Rest.{due_in, offload_after, offload_behind, reads_in}
 use Rattle.xen_host.specs.Said.{Said}
 use Rattle.xen_host.specs.declared.host.Ops.{Ops}
 use Rattle.bpf_note.specs.declared.op.Op.{Op as Operation}
@@ -261,9 +262,9 @@ begun_of old new producer host host_after none few d lent long =
 
 -- ---- a step
 
-given_is : (n : ℕ) (host mid : Ops) (words : List ℕ) → WasGiven HasGiven n host words mid → (words ≡ take n host.words.now) × (mid ≡ host)
-given_is zero host mid words g = g
-given_is (suc n) host mid words g = (g.1.0 ∙ ap (λ k. take k host.words.now) g.0, g.1.1)
+given_is : (at : Place) (n : ℕ) (host mid : Ops) (words : List ℕ) → WasGiven HasGiven at n host words mid → (words ≡ take n host.words.now) × (mid ≡ host)
+given_is at zero host mid words g = g
+given_is at (suc n) host mid words g = (g.1.0 ∙ ap (λ k. take k host.words.now) g.0, g.1.1)
 
 take_twice : (n : ℕ) (l : List ℕ) → take n (take n l) ≡ take n l
 take_twice zero l = refl
@@ -306,7 +307,7 @@ offload_same o (stage.WaitLook pages) b lent f = refl
 
 module _ (went : List (Option Operation) → Type 0) (same : Type 0) (old new : Queue) (host host_after : Ops) (d : SteppedOver IsPut IsFull HasGiven went same old new host host_after) where
   answered : (d.words ≡ take (reads_in old.engine.stage) host.words.now) × (d.mid ≡ host)
-  answered = given_is (reads_in old.engine.stage) host d.mid d.words d.given
+  answered = given_is (due_in (wiring old) old.engine.state old.engine.stage (seen old).work) (reads_in old.engine.stage) host d.mid d.words d.given
 
   put : WasAskedAll IsPut host (d.first ++ d.last ∷ []) host_after
   put = subst (λ (h : Ops). WasAskedAll IsPut h (d.first ++ d.last ∷ []) host_after) answered.1 d.asked

@@ -3,6 +3,7 @@ use Rattle.std.proofs.Common.{◌≡◌, ℕ, ◌<◌, ◌≤◌, inl, inr, List
 use Rattle.std.specs.Prelude.{None, Option, IsSome}
 use Rattle.bpf_maps.specs.Layout.{total}
 use Rattle.std.specs.Prelude.{◌^◌}
+use Rattle.xen_page.specs.declared.place.Place.{Place}
 use Rattle.xen_steps.specs.Steps.{next}
 use Rattle.xen_turns.specs.Tree.{whole_turn}
 use Rattle.xen_host.specs.Asks.{Ask}
@@ -24,7 +25,7 @@ pub stands : (q : Queue) → Stands (seen q)
 stands q = record { fits = q.fits; wired = q.wired; turns = q.turns; left = q.left }
 
 -- and what is under way goes on
-pub stepped : {H : Type 0} {was : H → Ask → List ℕ → H → Type 0} {full : H → Type 0} {gave : H → List ℕ → H → Type 0} {host host_after : H} (old new : Queue) (went : List (Option Operation) → Type 0) (same : Type 0) → (went [] → same) → wired_to new ≡ wired_to old →
+pub stepped : {H : Type 0} {was : H → Ask → List ℕ → H → Type 0} {full : H → Type 0} {gave : H → Place → List ℕ → H → Type 0} {host host_after : H} (old new : Queue) (went : List (Option Operation) → Type 0) (same : Type 0) → (went [] → same) → wired_to new ≡ wired_to old →
     GoesOnAt was full gave old.engine.stage (seen old) (seen new) went host host_after → (old.engine.stage ≡ stage.Ready → ⊥) → SteppedOver was full gave went same old new host host_after
 stepped old new went same none wires led busy =
     let d = stepped_at (seen old) (seen new) (stands old) went same none (ap (λ (w : OwnedWiring). wiring_of w) wires) led busy in
@@ -50,7 +51,7 @@ stepped old new went same none wires led busy =
     }
 
 -- what is known of its operations, and of a step without one, in other words
-pub stepped_also : {H : Type 0} {was : H → Ask → List ℕ → H → Type 0} {full : H → Type 0} {gave : H → List ℕ → H → Type 0} {host host_after : H} {went : List (Option Operation) → Type 0} {same : Type 0} {old new : Queue} (also : List (Option Operation) → Type 0) (also_same : Type 0) →
+pub stepped_also : {H : Type 0} {was : H → Ask → List ℕ → H → Type 0} {full : H → Type 0} {gave : H → Place → List ℕ → H → Type 0} {host host_after : H} {went : List (Option Operation) → Type 0} {same : Type 0} {old new : Queue} (also : List (Option Operation) → Type 0) (also_same : Type 0) →
     ((labels : List (Option Operation)) → went labels → also labels) → (same → also_same) → SteppedOver was full gave went same old new host host_after → SteppedOver was full gave also also_same old new host host_after
 stepped_also also also_same f h d = record {
   words = d.words;

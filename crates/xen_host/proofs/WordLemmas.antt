@@ -20,9 +20,6 @@ use Rattle.xen_host.specs.Filling.{packet_words}
 pub behind_none : (at : Place) → behind at 0 ≡ at
 behind_none at = let z : at.word + 0 ≡ at.word = omega arith in ap (λ w. page_word at.frame w) z
 
-pub behind_more : (at : Place) (k n : ℕ) → behind (behind at k) n ≡ behind at (k + n)
-behind_more at k n = let z : at.word + k + n ≡ at.word + (k + n) = omega arith in ap (λ w. page_word at.frame w) z
-
 pub reads_append : (at : Place) (ws vs : List ℕ) → accesses (reads_at at (ws ++ vs)) ≡ accesses (reads_at at ws) ++ accesses (reads_at (behind at (length ws)) vs)
 reads_append at [] vs = ap (λ (p : Place). accesses (reads_at p vs)) (sym (behind_none at))
 reads_append at (w ∷ ws) vs =

@@ -9,7 +9,7 @@ use Rattle.xen_page.specs.declared.place.Place.{Place}
 use Rattle.xen_steps.specs.Drive.{accesses}
 use Rattle.xen_steps.specs.Pages.{AreWords}
 use Rattle.xen_steps.specs.Places.{page_word}
-use Rattle.xen_host.specs.Asks.{Ask, DeliveryOver, Entry, IsInPages, Push, Read, TurnOver, WaitOver, Write, did_by, reads_at}
+use Rattle.xen_host.specs.Asks.{Ask, DeliveryOver, IsInPages, TurnOver, WaitOver, Write, did_by, reads_at}
 use Rattle.xen_host.specs.Hosts.{Asked}
 use Rattle.xen_host.specs.declared.over_bus.Over.{Over}
 use Rattle.xen_host.specs.declared.over_bus.Over.TheVariants as over
@@ -50,13 +50,6 @@ over_after a o = o
 
 -- ---- what was asked
 
--- Where the words of its answer are.
-abbrev pub IsDueAt : Ask → Place → Type 0
-IsDueAt (Read at count) due = due ≡ at
-IsDueAt (Entry at reference rights) due = due ≡ at
-IsDueAt (Push at word read) due = due ≡ page_word at.frame read
-IsDueAt a due = Unit {0}
-
 -- A WRITE has as many words as it says.
 abbrev pub IsHeld : Ask → List ℕ → Type 0
 IsHeld (Write at count) words = length words ≡ count
@@ -67,53 +60,45 @@ abbrev pub AllHeld : List Asked → Type 0
 AllHeld [] = Unit {0}
 AllHeld (a ∷ more) = IsHeld a.ask a.words × AllHeld more
 
--- What was asked was done, if its words are in the bus's pages, and its answer is due.
+-- What was asked was done, if its words are in the bus's pages.
 pub record IsMade {B : Type 0} (log : B → Option (List Access)) (gives : B → Access → B → Type 0) (size : B → ℕ) (old : OverBus B) (a : Ask)
     (words : List ℕ) (new : OverBus B) : Type 0 where
   pub performed : IsInPages (size old.bus.now) a → Performs log gives old.bus.now (accesses (did_by a words)) new.bus.now
   pub sized : size new.bus.now ≡ size old.bus.now
-  pub due : IsDueAt a new.at
   pub held : IsHeld a words
   pub over : new.over ≡ over_after a old.over
   pub loan : IsSameBus old new
 
 -- ---- what was answered
 
--- The words that are due were read, each once and in order, if they are in the bus's pages.
-pub record HasRead {B : Type 0} (log : B → Option (List Access)) (gives : B → Access → B → Type 0) (size : B → ℕ) (old : OverBus B)
+-- Words were read from a place on, each once and in order, if they are in the bus's pages.
+pub record MayRead {B : Type 0} (log : B → Option (List Access)) (gives : B → Access → B → Type 0) (size : B → ℕ) (old : B) (at : Place)
+    (words : List ℕ) (new : B) : Type 0 where
+  pub performed : IsInBus (size old) at (length words) → Performs log gives old (accesses (reads_at at words)) new
+  pub below : AreWords words
+  pub sized : size new ≡ size old
+
+-- A host did so.
+pub record HasRead {B : Type 0} (log : B → Option (List Access)) (gives : B → Access → B → Type 0) (size : B → ℕ) (old : OverBus B) (at : Place)
     (words : List ℕ) (new : OverBus B) : Type 0 where
-  pub performed : IsInBus (size old.bus.now) old.at (length words) →
-      Performs log gives old.bus.now (accesses (reads_at old.at words)) new.bus.now
-  pub sized : size new.bus.now ≡ size old.bus.now
+  pub read : MayRead log gives size old.bus.now at words new.bus.now
   pub over : new.over ≡ old.over
   pub loan : IsSameBus old new
 
 -- ---- the parts
 
--- Words that are due were read, from the k-th on, each once and in order.
-pub record MayReadRun {B : Type 0} (log : B → Option (List Access)) (gives : B → Access → B → Type 0) (size : B → ℕ) (old : OverBus B) (k : ℕ)
-    (words : List ℕ) (new : OverBus B) : Type 0 where
-  pub performed : IsInBus (size old.bus.now) (behind old.at k) (length words) →
-      Performs log gives old.bus.now (accesses (reads_at (behind old.at k) words)) new.bus.now
-  pub below : AreWords words
-  pub sized : size new.bus.now ≡ size old.bus.now
-  pub due : new.at ≡ old.at
-  pub over : new.over ≡ old.over
-  pub loan : IsSameBus old new
-
--- These are the bytes of so many of them, lowest byte first.
-pub record IsFilled {B : Type 0} (log : B → Option (List Access)) (gives : B → Access → B → Type 0) (size : B → ℕ) (old : OverBus B) (k count : ℕ)
-    (bytes : List ℕ) (new : OverBus B) : Type 0 where
+-- These are the bytes of so many words from a place on, lowest byte first.
+pub record IsFilled {B : Type 0} (log : B → Option (List Access)) (gives : B → Access → B → Type 0) (size : B → ℕ) (old : B) (at : Place)
+    (count : ℕ) (bytes : List ℕ) (new : B) : Type 0 where
   pub words : List ℕ
   pub all : length words ≡ count
   pub told : bytes ≡ bytes_of words
-  pub read : MayReadRun log gives size old k words new
+  pub read : MayRead log gives size old at words new
 
 -- A word was written.
 pub record MayWrite {B : Type 0} (log : B → Option (List Access)) (gives : B → Access → B → Type 0) (size : B → ℕ) (old : OverBus B)
     (at : Place) (word : ℕ) (new : OverBus B) : Type 0 where
   pub performed : IsInBus (size old.bus.now) at 1 → Performs log gives old.bus.now (access.Write at word ∷ []) new.bus.now
   pub sized : size new.bus.now ≡ size old.bus.now
-  pub due : new.at ≡ old.at
   pub over : new.over ≡ old.over
   pub loan : IsSameBus old new

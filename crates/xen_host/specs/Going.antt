@@ -11,7 +11,7 @@ use Rattle.xen_turns.specs.Drive.{labels}
 use Rattle.xen_turns.specs.declared.state.State.{State}
 use Rattle.xen_turns.specs.declared.wiring.Wiring.{Wiring}
 use Rattle.xen_host.specs.Asks.{IsInPages, IsSized, did_by}
-use Rattle.xen_host.specs.Buses.{HasRead, IsDueAt, IsHeld, IsMade, IsNever, over_after}
+use Rattle.xen_host.specs.Buses.{HasRead, IsHeld, IsMade, IsNever, over_after}
 use Rattle.xen_host.specs.Driving.{GoesOn, Task, delivery, turn, wait}
 use Rattle.xen_host.specs.EngineAt.{EngineAt}
 use Rattle.xen_host.specs.Hosts.{Asked}
@@ -49,7 +49,6 @@ pub record IsGone {B C : Type 0} (log : B → Option (List Access)) (gives : B �
   pub wide : IsSized last.ask
   pub held : IsHeld last.ask last.words
   pub inside : IsInPages (length w.vif.owners.now) last.ask
-  pub due : IsDueAt last.ask host.at
   pub over : host.over ≡ over_after last.ask None
   pub sized : size host.bus.now ≡ length w.vif.owners.now
   pub wires : e.wires ≡ w

@@ -8,9 +8,12 @@ use Rattle.xen_netif.specs.declared.fragment.Fragment.{Fragment}
 use Rattle.xen_host.specs.declared.offload.Offload.{Offload}
 use Rattle.xen_netif.specs.declared.offload.RxOffload.{RxOffload}
 use Rattle.xen_netif.specs.declared.status.Status.{Status}
+use Rattle.xen_page.specs.declared.place.Place.{Place}
 use Rattle.xen_steps.specs.Drive.{LedBy}
 use Rattle.xen_steps.specs.Pages.{AreWords, covered}
+use Rattle.xen_steps.specs.Places.{page_word}
 use Rattle.xen_steps.specs.Steps.{Steps, bind}
+use Rattle.xen_rx_fill.specs.Places.{rx_word}
 use Rattle.xen_rx_fill.specs.declared.target.Grants.{Grants}
 use Rattle.xen_rx_fill.specs.declared.by_event.phase.TransmitOutcome.{TransmitOutcome}
 use Rattle.xen_rx_fill.specs.declared.vif.Vif.{Vif}
@@ -25,7 +28,7 @@ use Rattle.xen_host.specs.Fits.{Fits}
 use Rattle.xen_host.specs.Hosts.{Asked, WasAskedAll, WasGiven, asks_of, events_of, plain_all}
 use Rattle.xen_host.specs.Led.{Beside, DeliveryEnds, TurnEnds, WaitEnds, beside}
 use Rattle.xen_host.specs.Ran.{HasRunThrough}
-use Rattle.xen_host.specs.Rest.{offload_after, reads_filling, reads_in, rest_filling, rest_in, rest_of_delivery, rest_of_wait, rx_offload}
+use Rattle.xen_host.specs.Rest.{due_filling, due_in, offload_after, reads_filling, reads_in, rest_filling, rest_in, rest_of_delivery, rest_of_wait, rx_offload}
 use Rattle.xen_host.specs.EngineAt.{EngineAt}
 use Rattle.xen_host.specs.declared.stage.Fill.{Fill}
 use Rattle.xen_host.specs.declared.stage.Purpose.{Purpose}
@@ -101,39 +104,40 @@ HasReplied was free full e o grants from left host host_after =
 
 -- ---- answers
 
--- An answer of so many words, and what follows it.
-pub record AfterAnswer {H : Type 0} (gave : H → List ℕ → H → Type 0) (reads : ℕ) (then : List ℕ → H → Type 0) (host : H) : Type 0 where
+-- An answer of so many words from a place on, and what follows it.
+pub record AfterAnswer {H : Type 0} (gave : H → Place → List ℕ → H → Type 0) (at : Place) (reads : ℕ) (then : List ℕ → H → Type 0) (host : H) :
+    Type 0 where
   pub words : List ℕ
   pub mid : H
-  pub given : WasGiven gave reads host words mid
+  pub given : WasGiven gave at reads host words mid
   pub led : then words mid
 
--- After the words of a page that a fragment covers; the next fragment is the i-th.
-pub record HasCopied {H : Type 0} (was : H → Ask → List ℕ → H → Type 0) (full : H → Type 0) (gave : H → List ℕ → H → Type 0) (i : ℕ)
-    (f : Fragment) (old new : EngineAt) (went : List (Option Op) → Type 0) (host host_after : H) : Type 0 where
+-- After the words of this frame that a fragment covers; the next fragment is the i-th.
+pub record HasCopied {H : Type 0} (was : H → Ask → List ℕ → H → Type 0) (full : H → Type 0) (gave : H → Place → List ℕ → H → Type 0) (i : ℕ)
+    (f : Fragment) (frame : ℕ) (old new : EngineAt) (went : List (Option Op) → Type 0) (host host_after : H) : Type 0 where
   pub words : List ℕ
   pub mid : H
   pub all : length words ≡ covered f
   pub below : AreWords words
-  pub given : gave host words mid
+  pub given : gave host (page_word frame (f.offset / 4)) words mid
   pub led : TurnRanLeads was full old.offload (bind (copy old.wires (drop i old.work.fragments)
       (old.work.packet ++ bytes_from f (f.offset / 4) words)) (after_copy old.wires old.state old.work.chain)) new went
       mid host_after
 
-abbrev pub FillGoesOn : {H : Type 0} → (H → Ask → List ℕ → H → Type 0) → (H → Type 0) → (H → List ℕ → H → Type 0) → Fill → Purpose →
+abbrev pub FillGoesOn : {H : Type 0} → (H → Ask → List ℕ → H → Type 0) → (H → Type 0) → (H → Place → List ℕ → H → Type 0) → Fill → Purpose →
     (old new : EngineAt) → (host host_after : H) → Type 0
 FillGoesOn was full gave f p old new host host_after =
-    AfterAnswer gave (reads_filling f) (λ words mid. FillLeads was full p (beside old)
+    AfterAnswer gave (due_filling old.wires.vif old.state.rx_index f old.work) (reads_filling f) (λ words mid. FillLeads was full p (beside old)
     (fed (rest_filling old.wires.vif old.state.rx_index (rx_offload p old.work.offload) f old.work) words) new mid host_after) host
 
 -- ---- a step
 
 -- A step from a stage, after the words that were waited for.
-abbrev pub GoesOnAt : {H : Type 0} → (H → Ask → List ℕ → H → Type 0) → (H → Type 0) → (H → List ℕ → H → Type 0) → Stage →
+abbrev pub GoesOnAt : {H : Type 0} → (H → Ask → List ℕ → H → Type 0) → (H → Type 0) → (H → Place → List ℕ → H → Type 0) → Stage →
     (old new : EngineAt) → (went : List (Option Op) → Type 0) → (host host_after : H) → Type 0
 GoesOnAt was full gave stage.Ready old new went host host_after = (new ≡ old) × (host_after ≡ host) × went []
 GoesOnAt was full gave (stage.Fill f purpose.Delivery) old new went host host_after =
-    AfterAnswer gave (reads_filling f) (λ words mid. DeliveryLeads was full old.offload old.work.packet
+    AfterAnswer gave (due_filling old.wires.vif old.state.rx_index f old.work) (reads_filling f) (λ words mid. DeliveryLeads was full old.offload old.work.packet
     (fed (rest_of_delivery old.wires.vif old.state (stage.Fill f purpose.Delivery) old.work) words) new mid host_after) host ×
     went []
 GoesOnAt was full gave (stage.Deliver producer) old new went host host_after =
@@ -143,8 +147,8 @@ GoesOnAt was full gave (stage.Wait pages) old new went host host_after =
     WaitLeads was full old.offload old.work.packet (rest_of_wait old.wires.vif.rx old.state (stage.Wait pages)) new host host_after ×
     went []
 GoesOnAt was full gave (stage.WaitLook pages) old new went host host_after =
-    AfterAnswer gave 1 (λ words mid. WaitLeads was full old.offload old.work.packet
+    AfterAnswer gave (rx_word old.wires.vif 0) 1 (λ words mid. WaitLeads was full old.offload old.work.packet
     (fed (rest_of_wait old.wires.vif.rx old.state (stage.WaitLook pages)) words) new mid host_after) host × went []
 GoesOnAt was full gave g old new went host host_after =
-    AfterAnswer gave (reads_in g) (λ words mid. TurnRanLeads was full (offload_after old.wires.offers g old.work words old.offload)
+    AfterAnswer gave (due_in old.wires old.state g old.work) (reads_in g) (λ words mid. TurnRanLeads was full (offload_after old.wires.offers g old.work words old.offload)
     (fed (rest_in old.wires old.state g old.work) words) new went mid host_after) host

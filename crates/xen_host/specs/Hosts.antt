@@ -3,8 +3,10 @@
 use Rattle.std.specs.Prelude.{ℕ, zero, suc, ◌≡◌, ◌<◌, ◌≤◌, ◌+◌, ◌/◌, List, [], ◌∷◌, ◌++◌, length, take, drop}
 use Rattle.xen_netif.specs.Copy.{bytes_from}
 use Rattle.xen_netif.specs.declared.fragment.Fragment.{Fragment}
+use Rattle.xen_page.specs.declared.place.Place.{Place}
 use Rattle.xen_steps.specs.Event.{Event}
 use Rattle.xen_steps.specs.Pages.{AreWords, covered}
+use Rattle.xen_steps.specs.Places.{page_word}
 use Rattle.xen_host.specs.Asks.{Ask, Write, did_by, op_of}
 use Rattle.xen_host.specs.declared.host.Ops.{Ops}
 
@@ -35,13 +37,14 @@ abbrev pub WasAskedAll : {H : Type 0} → (H → Ask → List ℕ → H → Type
 WasAskedAll {H} was old [] new = old ≡ new
 WasAskedAll {H} was old (a ∷ more) new = (mid : H) × was old a.ask a.words mid × WasAskedAll was mid more new
 
--- The bytes of a fragment, whose words a host gave, stand after a packet's bytes.
-pub record GavePage {H : Type 0} (gave : H → List ℕ → H → Type 0) (f : Fragment) (packet packet_after : List ℕ) (old new : H) : Type 0 where
+-- The bytes of a fragment, whose words of this frame a host gave, stand after a packet's bytes.
+pub record GavePage {H : Type 0} (gave : H → Place → List ℕ → H → Type 0) (frame : ℕ) (f : Fragment) (packet packet_after : List ℕ) (old new : H) :
+    Type 0 where
   pub words : List ℕ
   pub all : length words ≡ covered f
   pub below : AreWords words
   pub read : packet_after ≡ packet ++ bytes_from f (f.offset / 4) words
-  pub given : gave old words new
+  pub given : gave old (page_word frame (f.offset / 4)) words new
 
 -- ---- C's host
 
@@ -65,9 +68,9 @@ pub record IsPut (old : Ops) (a : Ask) (words : List ℕ) (new : Ops) : Type 0 w
   pub width : length new.words.now ≡ length old.words.now
   pub loan : IsSameLoan old new
 
--- The answers stand in front of the lent words.
-abbrev pub HasGiven : Ops → List ℕ → Ops → Type 0
-HasGiven old words new = (words ≡ take (length words) old.words.now) × (new ≡ old)
+-- The answers stand in front of the lent words, wherever they were read.
+abbrev pub HasGiven : Ops → Place → List ℕ → Ops → Type 0
+HasGiven old at words new = (words ≡ take (length words) old.words.now) × (new ≡ old)
 
 abbrev pub IsFresh : Ops → Type 0
 IsFresh h = (h.count ≡ 0) × (1 ≤ length h.ops.now) × (1024 ≤ length h.words.now)
@@ -81,7 +84,7 @@ IsSettled h = h.count ≤ length h.ops.now
 abbrev pub IsFull : Ops → Type 0
 IsFull h = h.count ≡ length h.ops.now
 
--- An answer of so many words of 32 bits was given, if any was waited for.
-abbrev pub WasGiven : {H : Type 0} → (H → List ℕ → H → Type 0) → ℕ → H → List ℕ → H → Type 0
-WasGiven gave zero host words mid = (words ≡ []) × (mid ≡ host)
-WasGiven gave (suc n) host words mid = (length words ≡ suc n) × gave host words mid × AreWords words
+-- An answer of so many words of 32 bits, from a place on, was given, if any was waited for.
+abbrev pub WasGiven : {H : Type 0} → (H → Place → List ℕ → H → Type 0) → Place → ℕ → H → List ℕ → H → Type 0
+WasGiven gave at zero host words mid = (words ≡ []) × (mid ≡ host)
+WasGiven gave at (suc n) host words mid = (length words ≡ suc n) × gave host at words mid × AreWords words

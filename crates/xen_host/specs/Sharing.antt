@@ -4,7 +4,7 @@ use Rattle.std.specs.Prelude.{ℕ, ◌≡◌, ◌⊎◌, ◌+◌, ◌++◌, List
 use Rattle.std.specs.Arc.{arc_value}
 use Rattle.bpf_maps.specs.Seats.{CountersView, SeatView, begin_of, new_seats}
 use Rattle.bpf_note.specs.Shape.{IsCounter}
-use Rattle.bpf_note.specs.declared.op.Op.TheVariants.{Load}
+use Rattle.bpf_note.specs.declared.op.Op.TheVariants.{Add, Load}
 use Rattle.bpf_verify.specs.Consistent.{Accepted}
 use Rattle.xen_host.specs.Queues.{AreEnoughAtSeat, AreFewAtSeat, AreTheSame, HasSteppedAtSeat, resting, wired_to}
 use Rattle.xen_host.specs.declared.op.HostOp.{HostOp}
@@ -39,6 +39,14 @@ pub record AreSame (old new : SharedCounters) : Type 0 where
 pub record HasRead (old new : SharedCounters) (m k j n : ℕ) : Type 0 where
   pub is_there : IsCounter old.program.shapes m k j
   pub reader : new.reader ≡ record old.reader { ops = old.reader.ops ++ Load m k j n ∷ [] }
+  pub program : new.program ≡ old.program
+  pub counters : counters_of new ≡ counters_of old
+  pub seats : new.seats.items ≡ old.seats.items
+
+-- An amount was added to counter j of value k of map m by the reader's seat, in one operation, which found n.
+pub record HasAdded (old new : SharedCounters) (m k j amount n : ℕ) : Type 0 where
+  pub is_there : IsCounter old.program.shapes m k j
+  pub reader : new.reader ≡ record old.reader { ops = old.reader.ops ++ Add m k j amount n ∷ [] }
   pub program : new.program ≡ old.program
   pub counters : counters_of new ≡ counters_of old
   pub seats : new.seats.items ≡ old.seats.items

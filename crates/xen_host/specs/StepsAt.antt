@@ -3,6 +3,7 @@
 use Rattle.std.specs.Prelude.{ℕ, ◌≡◌, ◌⊎◌, false, List, [], ◌∷◌, ◌++◌, Option, length, map}
 use Rattle.bpf_note.specs.declared.op.Op.{Op as Operation}
 use Rattle.xen_netif.specs.declared.offload.RxOffload.{RxOffload}
+use Rattle.xen_page.specs.declared.place.Place.{Place}
 use Rattle.xen_steps.specs.Event.{Event, Read}
 use Rattle.xen_rx_fill.specs.Places.{tx_word}
 use Rattle.xen_turns.specs.Program.{event_of}
@@ -11,7 +12,7 @@ use Rattle.xen_host.specs.Asks.{AllInPages, AllSized, Ask, TakeNone, needs_no_an
 use Rattle.xen_host.specs.Buses.{AllHeld}
 use Rattle.xen_host.specs.EngineAt.{EngineAt}
 use Rattle.xen_host.specs.Hosts.{Asked, WasAskedAll, WasGiven, asks_of, events_of}
-use Rattle.xen_host.specs.Rest.{offload_after, no_offload, reads_in}
+use Rattle.xen_host.specs.Rest.{due_in, offload_after, no_offload, reads_in}
 use Rattle.xen_host.specs.Told.{IsToldAt}
 use Rattle.xen_host.specs.UnderWay.{DeliveryGoesAt, IsDeliveringAt, IsTurningAt, IsWaitingAt, TurnGoesAt, WaitGoesAt, first_read, read_by_some}
 
@@ -33,11 +34,11 @@ pub record BeginsAt {H : Type 0} (was : H → Ask → List ℕ → H → Type 0)
 
 -- What was asked last is answered, the program runs as far as it has to, with its operations on counters as `went` says, and the host is
 -- asked for what comes then. With the events of all this, what is under way goes on or is over.
-pub record StepsAt {H : Type 0} (was : H → Ask → List ℕ → H → Type 0) (full : H → Type 0) (gave : H → List ℕ → H → Type 0)
+pub record StepsAt {H : Type 0} (was : H → Ask → List ℕ → H → Type 0) (full : H → Type 0) (gave : H → Place → List ℕ → H → Type 0)
     (went : List (Option Operation) → Type 0) (same : Type 0) (old new : EngineAt) (host host_after : H) : Type 0 where
   pub words : List ℕ
   pub mid : H
-  pub given : WasGiven gave (reads_in old.stage) host words mid
+  pub given : WasGiven gave (due_in old.wires old.state old.stage old.work) (reads_in old.stage) host words mid
   pub first : List Asked
   pub last : Asked
   pub asked : WasAskedAll was mid (first ++ last ∷ []) host_after

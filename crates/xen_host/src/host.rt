@@ -2,6 +2,7 @@
 
 ghost use Rattle.std.specs.Prelude.{◌≡◌, ◌<◌, ◌≤◌, ◌+◌, ◌*◌, ◌++◌, ◌∷◌, [], ℕ, List, IsTrue, drop, false, length, slice_index, take};
 ghost use Rattle.xen_netif.specs.Fragments.{is_in_page};
+ghost use Rattle.xen_page.specs.declared.place.Place.{Place};
 ghost use Rattle.xen_host.specs.Asks.{Ask, op_of};
 ghost use Rattle.xen_host.specs.Asks as ask;
 ghost use Rattle.xen_host.specs.Filling.{packet_words};
@@ -22,8 +23,8 @@ pub trait Host {
     // Which ask takes the host from which state to which. The words of a WRITE stand beside it.
     ghost was_asked: { Self → Ask → List ℕ → Self → Type 0 };
 
-    // Which answers to what was asked last take it from which state to which.
-    ghost has_given: { Self → List ℕ → Self → Type 0 };
+    // Which answers to what was asked last, whose words are from a place on, take it from which state to which.
+    ghost has_given: { Self → Place → List ℕ → Self → Type 0 };
 
     // A step begins: an answer may be taken, or a page written.
     ghost is_fresh: { Self → Type 0 };
@@ -101,33 +102,33 @@ pub trait Host {
         requires { is_free self.old }
         ensures { was_asked self.old (ask.WaitOver awaited) [] self.new };
 
-    /// The word that was asked for last.
-    fn word(&mut self) -> u32
+    /// The word at this place, which was asked for last.
+    fn word(&mut self, at: Place) -> u32
         requires { is_fresh self.old }
-        ensures given { has_given self.old (result ∷ []) self.new }
+        ensures given { has_given self.old at (result ∷ []) self.new }
         ensures fresh { is_fresh self.new }
         ensures free { is_free self.new };
 
-    /// The two words that were.
-    fn two(&mut self) -> [u32; 2]
+    /// The two words that were, from this place on.
+    fn two(&mut self, at: Place) -> [u32; 2]
         requires { is_fresh self.old }
-        ensures given { has_given self.old (slice_index result 0 ∷ slice_index result 1 ∷ []) self.new }
+        ensures given { has_given self.old at (slice_index result 0 ∷ slice_index result 1 ∷ []) self.new }
         ensures fresh { is_fresh self.new }
         ensures free { is_free self.new };
 
-    /// The three words that were.
-    fn three(&mut self) -> [u32; 3]
+    /// The three words that were, from this place on.
+    fn three(&mut self, at: Place) -> [u32; 3]
         requires { is_fresh self.old }
-        ensures given { has_given self.old (slice_index result 0 ∷ slice_index result 1 ∷ slice_index result 2 ∷ []) self.new }
+        ensures given { has_given self.old at (slice_index result 0 ∷ slice_index result 1 ∷ slice_index result 2 ∷ []) self.new }
         ensures fresh { is_fresh self.new }
         ensures free { is_free self.new };
 
-    /// Puts the bytes of a fragment, whose words were, after a packet's bytes.
-    fn page<R: Room>(&mut self, fragment: &Fragment, packet: &mut R)
+    /// Puts the bytes of a fragment, whose words in this frame were, after a packet's bytes.
+    fn page<R: Room>(&mut self, frame: u32, fragment: &Fragment, packet: &mut R)
         requires fresh { is_fresh self.old }
         requires in_page { IsTrue (is_in_page fragment.now) }
         requires room { length (R.held packet.old) + fragment.now.size ≤ 65535 }
-        ensures given { GavePage has_given fragment.now (R.held packet.old) (R.held packet.new) self.old self.new }
+        ensures given { GavePage has_given frame fragment.now (R.held packet.old) (R.held packet.new) self.old self.new }
         ensures length { length (R.held packet.new) ≡ length (R.held packet.old) + fragment.now.size }
         ensures fresh { is_fresh self.new }
         ensures free { is_free self.new };
@@ -239,22 +240,22 @@ impl<'a> Host for Ops<'a> {
     }
 
     #[inline(always)]
-    fn word(&mut self) -> u32 {
+    fn word(&mut self, _at: Place) -> u32 {
         self.words[0]
     }
 
     #[inline(always)]
-    fn two(&mut self) -> [u32; 2] {
+    fn two(&mut self, _at: Place) -> [u32; 2] {
         [self.words[0], self.words[1]]
     }
 
     #[inline(always)]
-    fn three(&mut self) -> [u32; 3] {
+    fn three(&mut self, _at: Place) -> [u32; 3] {
         [self.words[0], self.words[1], self.words[2]]
     }
 
     #[inline(always)]
-    fn page<R: Room>(&mut self, fragment: &Fragment, packet: &mut R) {
+    fn page<R: Room>(&mut self, _frame: u32, fragment: &Fragment, packet: &mut R) {
         let covered = fragment.covered_words();
         let count = (covered.end - covered.start) as usize;
         let front = self.front(count);

@@ -5,9 +5,10 @@ ghost use Rattle.xen_netif.specs.Copy.{Covers, bytes_from, bytes_of};
 ghost use Rattle.xen_page.specs.Access.{Performs};
 ghost use Rattle.xen_steps.specs.Drive.{accesses};
 ghost use Rattle.xen_steps.specs.Pages.{HasRoom};
+ghost use Rattle.xen_steps.specs.Places.{page_word};
 ghost use Rattle.xen_host.specs.Asks.{op_of, writes_at};
 ghost use Rattle.xen_host.specs.Filling.{packet_words};
-ghost use Rattle.xen_host.specs.Buses.{HasRead, IsAlways, IsFilled, IsInBus, IsMade, IsNever, IsSameBus, MayReadRun, MayWrite, ask_of, behind};
+ghost use Rattle.xen_host.specs.Buses.{HasRead, IsAlways, IsFilled, IsInBus, IsMade, IsNever, IsSameBus, MayRead, MayWrite, ask_of, behind as behind_spec};
 
 use crate::copying::push_part;
 use crate::host::Host;
@@ -53,10 +54,142 @@ pub struct OverBus<'a, 'p, B: Bus> {
     pub(crate) bus: &'a mut B,
     /// The ports to which notices go.
     pub(crate) ports: &'p Ports,
-    /// The place of the words of the next answer.
-    pub(crate) at: Place,
     /// The activity that is over, if one is.
     pub(crate) over: Option<Over>,
+}
+
+/// The place of the k-th word from one on.
+#[inline(always)]
+fn behind(at: Place, k: u32) -> Place
+    requires { at.word + k < 1024 }
+    ensures { result ≡ behind_spec at k }
+{
+    Place {
+        frame: at.frame,
+        word: at.word + k,
+    }
+}
+
+/// Returns whether `count` words, from a place on, are words of a page of a bus.
+#[inline(always)]
+fn are_in_bus<B: Bus>(bus: &B, at: Place, count: u32) -> bool
+    requires { count ≤ 1024 }
+    ensures { IsTrue result ↔ IsInBus (B.size bus.now) at count }
+{
+    at.frame < bus.frames() && at.word <= PAGE_WORDS - count
+}
+
+/// The word at a place, which is one of a bus's pages.
+#[inline(always)]
+fn there<B: Bus>(bus: &mut B, at: Place) -> u32
+    requires { IsInBus (B.size bus.old) at 1 }
+    ensures { MayRead B.log B.access_gives B.size bus.old at (result ∷ []) bus.new }
+{
+    bus.read(at)
+}
+
+/// The word at a place.
+#[inline(always)]
+fn word_at<B: Bus>(bus: &mut B, at: Place) -> u32
+    ensures { MayRead B.log B.access_gives B.size bus.old at (result ∷ []) bus.new }
+{
+    if are_in_bus(bus, at, 1) {
+        there(bus, at)
+    } else {
+        0
+    }
+}
+
+/// Fills room with the bytes of words from a place on.
+#[inline(always)]
+fn fill_from<B: Bus>(bus: &mut B, at: Place, count: u32, room: &mut [u8])
+    requires page { count ≤ 1024 }
+    requires room { length room.old ≡ 4 * count }
+    ensures { IsFilled B.log B.access_gives B.size bus.old at count room.new bus.new }
+{
+    if are_in_bus(bus, at, count) {
+        bus.read_run(at, room)
+    } else {
+        room.fill(0)
+    }
+}
+
+/// Puts a fragment's bytes in words of its page, from one place to another, after a packet's bytes. Few fragments have words of which
+/// only a part is theirs, so this is a call of its own.
+#[inline(never)]
+fn page_parts<B: Bus, R: Room>(
+    bus: &mut B,
+    frame: u32,
+    fragment: &Fragment,
+    from: u32,
+    to: u32,
+    packet: &mut R,
+)
+    requires ordered { from ≤ to }
+    requires covers { (place : ℕ) → from ≤ place → place < to → Covers fragment.now place }
+    requires room { HasRoom (length (R.held packet.old)) fragment.now from 0 }
+    ensures room { HasRoom (length (R.held packet.new)) fragment.now to 0 }
+    ensures read { (words : List ℕ) × (length words ≡ to - from) × MayRead B.log B.access_gives B.size bus.old (page_word frame from)
+        words bus.new × ((R.held packet.new) ≡ R.held packet.old ++ bytes_from fragment.now from words) }
+{
+    for place in from..to {
+        let word = word_at(bus, Place { frame, word: place });
+        push_part(fragment, place, word, packet);
+    }
+}
+
+/// So it does, if there are such words.
+#[inline(always)]
+fn page_edge<B: Bus, R: Room>(
+    bus: &mut B,
+    frame: u32,
+    fragment: &Fragment,
+    from: u32,
+    to: u32,
+    packet: &mut R,
+)
+    requires ordered { from ≤ to }
+    requires covers { (place : ℕ) → from ≤ place → place < to → Covers fragment.now place }
+    requires room { HasRoom (length (R.held packet.old)) fragment.now from 0 }
+    ensures room { HasRoom (length (R.held packet.new)) fragment.now to 0 }
+    ensures read { (words : List ℕ) × (length words ≡ to - from) × MayRead B.log B.access_gives B.size bus.old (page_word frame from)
+        words bus.new × ((R.held packet.new) ≡ R.held packet.old ++ bytes_from fragment.now from words) }
+{
+    if from < to {
+        page_parts(bus, frame, fragment, from, to, packet)
+    }
+}
+
+/// Puts `count` words, from a place on, after a packet's bytes.
+#[inline(always)]
+fn page_run<B: Bus, R: Room>(bus: &mut B, at: Place, count: u32, packet: &mut R)
+    requires page { count ≤ 1024 }
+    requires room { 0 < count → length (R.held packet.old) + 4 * count ≤ 65535 }
+    ensures { (words : List ℕ) × (length words ≡ count) × MayRead B.log B.access_gives B.size bus.old at words bus.new ×
+        (R.held packet.new ≡ R.held packet.old ++ bytes_of words) }
+{
+    if count == 0 {
+        return;
+    }
+    packet.push_from(4 * count as usize, &PageRun { at, count }, bus);
+}
+
+/// Words from a place on.
+#[derive(Clone, Copy)]
+struct PageRun {
+    at: Place,
+    count: u32,
+}
+
+impl<B: Bus> Fill<B> for PageRun {
+    ghost fits = { λ run bus count. (run.count ≤ 1024) × (count ≡ 4 * run.count) };
+
+    ghost fills = { λ run old bytes new. IsFilled B.log B.access_gives B.size old run.at run.count bytes new };
+
+    #[inline(always)]
+    fn fill(&self, source: &mut B, room: &mut [u8]) {
+        fill_from(source, self.at, self.count, room)
+    }
 }
 
 impl<'a, 'p, B: Bus> OverBus<'a, 'p, B> {
@@ -70,7 +203,6 @@ impl<'a, 'p, B: Bus> OverBus<'a, 'p, B> {
         OverBus {
             bus,
             ports,
-            at: Place { frame: 0, word: 0 },
             over: None,
         }
     }
@@ -83,89 +215,12 @@ impl<'a, 'p, B: Bus> OverBus<'a, 'p, B> {
         self.over
     }
 
-    /// Returns whether `count` words, from the k-th behind a place on, are words of a page of the bus.
-    #[inline(always)]
-    fn are_in_bus(&self, at: Place, k: u32, count: u32) -> bool
-        requires { k + count ≤ 1024 }
-        ensures { IsTrue result ↔ IsInBus (B.size self.now.bus.now) (behind at k) count }
-    {
-        at.frame < self.bus.frames() && at.word <= PAGE_WORDS - (k + count)
-    }
-
-    /// The k-th word of the next answer, which is a word of the bus's pages.
-    #[inline(always)]
-    fn due(&mut self, k: u32) -> u32
-        requires { IsInBus (B.size self.old.bus.now) (behind self.old.at k) 1 }
-        ensures { MayReadRun B.log B.access_gives B.size self.old k (result ∷ []) self.new }
-    {
-        self.bus.read(Place {
-            frame: self.at.frame,
-            word: self.at.word + k,
-        })
-    }
-
-    /// The k-th word of the next answer.
-    #[inline(always)]
-    fn word_behind(&mut self, k: u32) -> u32
-        requires { k < 1024 }
-        ensures { MayReadRun B.log B.access_gives B.size self.old k (result ∷ []) self.new }
-    {
-        if self.are_in_bus(self.at, k, 1) {
-            self.due(k)
-        } else {
-            0
-        }
-    }
-
-    /// Fills room with the bytes of words of the next answer, from the k-th on.
-    #[inline(always)]
-    fn fill(&mut self, k: u32, count: u32, room: &mut [u8])
-        requires page { k + count ≤ 1024 }
-        requires room { length room.old ≡ 4 * count }
-        ensures { IsFilled B.log B.access_gives B.size self.old k count room.new self.new }
-    {
-        if self.are_in_bus(self.at, k, count) {
-            let from = Place {
-                frame: self.at.frame,
-                word: self.at.word + k,
-            };
-            self.bus.read_run(from, room)
-        } else {
-            room.fill(0)
-        }
-    }
-
-    /// Puts a fragment's bytes in words of its page, from one place to another, after a packet's bytes. The next answer has the page's
-    /// words from `start` on.
-    #[inline(always)]
-    fn page_parts<R: Room>(
-        &mut self,
-        fragment: &Fragment,
-        start: u32,
-        from: u32,
-        to: u32,
-        packet: &mut R,
-    )
-        requires ordered { (start ≤ from) × (from ≤ to) }
-        requires within { to ≤ 1024 }
-        requires covers { (place : ℕ) → from ≤ place → place < to → Covers fragment.now place }
-        requires room { HasRoom (length (R.held packet.old)) fragment.now from 0 }
-        ensures room { HasRoom (length (R.held packet.new)) fragment.now to 0 }
-        ensures read { (words : List ℕ) × (length words ≡ to - from) × MayReadRun B.log B.access_gives B.size self.old (from - start) words
-            self.new × ((R.held packet.new) ≡ R.held packet.old ++ bytes_from fragment.now from words) }
-    {
-        for place in from..to {
-            let word = self.word_behind(place - start);
-            push_part(fragment, place, word, packet);
-        }
-    }
-
     /// Writes a word.
     #[inline(always)]
     fn put(&mut self, at: Place, word: u32)
         ensures { MayWrite B.log B.access_gives B.size self.old at word self.new }
     {
-        if self.are_in_bus(at, 0, 1) {
+        if are_in_bus(self.bus, at, 1) {
             self.bus.write(at, word)
         }
     }
@@ -181,7 +236,7 @@ impl<'a, 'p, B: Bus> OverBus<'a, 'p, B> {
         ensures size { B.size self.new.bus.now ≡ B.size self.old.bus.now }
         ensures wrote { Performs B.log B.access_gives self.old.bus.now (accesses (writes_at at (packet_words bytes.now from count)))
             self.new.bus.now }
-        ensures beside { (self.new.at ≡ self.old.at) × (self.new.over ≡ self.old.over) × IsSameBus self.old self.new }
+        ensures beside { (self.new.over ≡ self.old.over) × IsSameBus self.old self.new }
     {
         let whole = count.min(bytes.len() as u32 / 4 - from);
         let start = 4 * from as usize;
@@ -194,38 +249,6 @@ impl<'a, 'p, B: Bus> OverBus<'a, 'p, B> {
             };
             self.bus.write(last, packet_word(bytes, from + whole));
         }
-    }
-
-    /// Puts `count` words of the next answer, from the k-th on, after a packet's bytes.
-    #[inline(always)]
-    fn page_run<R: Room>(&mut self, k: u32, count: u32, packet: &mut R)
-        requires page { k + count ≤ 1024 }
-        requires room { 0 < count → length (R.held packet.old) + 4 * count ≤ 65535 }
-        ensures { (words : List ℕ) × (length words ≡ count) × MayReadRun B.log B.access_gives B.size self.old k words self.new ×
-            (R.held packet.new ≡ R.held packet.old ++ bytes_of words) }
-    {
-        if count == 0 {
-            return;
-        }
-        packet.push_from(4 * count as usize, &DueRun { k, count }, self);
-    }
-}
-
-/// Words of the next answer, from the k-th on.
-#[derive(Clone, Copy)]
-struct DueRun {
-    k: u32,
-    count: u32,
-}
-
-impl<'a, 'p, B: Bus> Fill<OverBus<'a, 'p, B>> for DueRun {
-    ghost fits = { λ run host count. (run.k + run.count ≤ 1024) × (count ≡ 4 * run.count) };
-
-    ghost fills = { λ run old bytes new. IsFilled B.log B.access_gives B.size old run.k run.count bytes new };
-
-    #[inline(always)]
-    fn fill(&self, source: &mut OverBus<'a, 'p, B>, room: &mut [u8]) {
-        source.fill(self.k, self.count, room)
     }
 }
 
@@ -248,18 +271,14 @@ impl<'a, 'p, B: Bus> Host for OverBus<'a, 'p, B> {
     }
 
     #[inline(always)]
-    fn read(&mut self, at: Place, _count: u32) {
-        self.at = at;
-    }
+    fn read(&mut self, _at: Place, _count: u32) {}
 
     #[inline(always)]
-    fn read_entry(&mut self, at: Place, _reference: u32, _rights: Rights) {
-        self.at = at;
-    }
+    fn read_entry(&mut self, _at: Place, _reference: u32, _rights: Rights) {}
 
     #[inline(always)]
     fn write(&mut self, at: Place, bytes: &[u8], from: u32, count: u32) {
-        if self.are_in_bus(at, 0, count) {
+        if are_in_bus(self.bus, at, count) {
             self.put_packet(at, bytes, from, count)
         }
     }
@@ -271,7 +290,7 @@ impl<'a, 'p, B: Bus> Host for OverBus<'a, 'p, B> {
 
     #[inline(always)]
     fn store_two(&mut self, at: Place, first: u32, second: u32) {
-        if self.are_in_bus(at, 0, 2) {
+        if are_in_bus(self.bus, at, 2) {
             self.bus.write(at, first);
             let next = Place {
                 frame: at.frame,
@@ -282,12 +301,8 @@ impl<'a, 'p, B: Bus> Host for OverBus<'a, 'p, B> {
     }
 
     #[inline(always)]
-    fn push(&mut self, at: Place, word: u32, read: u32) {
+    fn push(&mut self, at: Place, word: u32, _read: u32) {
         self.put(at, word);
-        self.at = Place {
-            frame: at.frame,
-            word: read,
-        };
     }
 
     #[inline(always)]
@@ -313,38 +328,48 @@ impl<'a, 'p, B: Bus> Host for OverBus<'a, 'p, B> {
     }
 
     #[inline(always)]
-    fn word(&mut self) -> u32 {
-        self.word_behind(0)
+    fn word(&mut self, at: Place) -> u32 {
+        word_at(self.bus, at)
     }
 
     #[inline(always)]
-    fn two(&mut self) -> [u32; 2] {
-        if !self.are_in_bus(self.at, 0, 2) {
+    fn two(&mut self, at: Place) -> [u32; 2] {
+        if !are_in_bus(self.bus, at, 2) {
             return [0; 2];
         }
-        let first = self.due(0);
-        let second = self.due(1);
+        let first = there(self.bus, at);
+        let second = there(self.bus, behind(at, 1));
         [first, second]
     }
 
     #[inline(always)]
-    fn three(&mut self) -> [u32; 3] {
-        if !self.are_in_bus(self.at, 0, 3) {
+    fn three(&mut self, at: Place) -> [u32; 3] {
+        if !are_in_bus(self.bus, at, 3) {
             return [0; 3];
         }
-        let first = self.due(0);
-        let second = self.due(1);
-        let third = self.due(2);
+        let first = there(self.bus, at);
+        let second = there(self.bus, behind(at, 1));
+        let third = there(self.bus, behind(at, 2));
         [first, second, third]
     }
 
     #[inline(always)]
-    fn page<R: Room>(&mut self, fragment: &Fragment, packet: &mut R) {
+    fn page<R: Room>(&mut self, frame: u32, fragment: &Fragment, packet: &mut R) {
         let covered = fragment.covered_words();
         let whole = fragment.whole_words();
-        let start = covered.start;
-        self.page_parts(fragment, start, start, whole.start, packet);
-        self.page_run(whole.start - start, whole.end - whole.start, packet);
-        self.page_parts(fragment, start, whole.end, covered.end, packet);
+        page_edge(
+            self.bus,
+            frame,
+            fragment,
+            covered.start,
+            whole.start,
+            packet,
+        );
+        let first = Place {
+            frame,
+            word: whole.start,
+        };
+        page_run(self.bus, first, whole.end - whole.start, packet);
+        page_edge(self.bus, frame, fragment, whole.end, covered.end, packet);
     }
 }

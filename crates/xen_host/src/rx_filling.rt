@@ -7,7 +7,7 @@ ghost use Rattle.xen_netif.specs.Slots.{rx_req_of};
 ghost use Rattle.xen_page.specs.Entry.{entry_of};
 ghost use Rattle.xen_page.specs.Grant.{checked};
 ghost use Rattle.xen_page.specs.declared.entry.Rights.TheVariants.{ReadWrite};
-ghost use Rattle.xen_steps.specs.Places.{available};
+ghost use Rattle.xen_steps.specs.Places.{add32, available};
 ghost use Rattle.xen_steps.specs.Steps.{bind};
 ghost use Rattle.xen_rx_fill.specs.Entries.{entry};
 ghost use Rattle.xen_rx_fill.specs.Packets.{frame_in, response_word, slot_of, takes_extra, target_at, words as packet_size};
@@ -28,8 +28,9 @@ use crate::wires::Wires;
 use crate::words::are_words;
 use xen_netif::RxReq;
 use xen_page::{Entry, Place, Rights};
+use xen_ring::{REQ_PROD, RSP_EVENT};
 use xen_rx_fill::{Grants, Target, Targets, TransmitOutcome, words_of};
-use xen_steps::{requests_shown, rx_entry};
+use xen_steps::{header, requests_shown, rx_entry};
 
 impl Engine {
     /// After what it waited for.
@@ -50,17 +51,17 @@ impl Engine {
     {
         match fill {
             Fill::Producer => {
-                let producer = host.word();
+                let producer = host.word(header(wires.rx(), REQ_PROD));
                 self.found(purpose, producer, wires, packet, host)
             }
             Fill::Slot { left } => {
-                let [first, second] = host.two();
+                let [first, second] = host.two(self.post_place(wires));
                 // Only the proof uses what this call ensures: a word is below 2^32.
                 are_words(&[first, second]);
                 self.after_post(purpose, left, [first, second], wires, packet, host)
             }
-            Fill::Grant { left, id, .. } => {
-                let [first, second] = host.two();
+            Fill::Grant { left, id, at } => {
+                let [first, second] = host.two(at);
                 // Only the proof uses what this call ensures: a word is below 2^32.
                 are_words(&[first, second]);
                 self.after_grant(purpose, left, id, [first, second], wires, packet, host)
@@ -68,7 +69,7 @@ impl Engine {
             Fill::Words { i } => self.write_page(purpose, i, wires, packet, host),
             Fill::Respond { grants, i } => self.reply_from(purpose, grants, i, wires, packet, host),
             Fill::Push { grants } => {
-                let event = host.word();
+                let event = host.word(header(wires.rx(), RSP_EVENT));
                 self.after_reply_event(purpose, grants, event, wires, packet, host)
             }
             Fill::Notice { grants } => self.replied(purpose, grants, wires, packet, host),
@@ -138,8 +139,16 @@ impl Engine {
             fill: Fill::Slot { left },
             purpose,
         };
+        host.read(self.post_place(wires), 2)
+    }
+
+    /// The place of the next rx slot.
+    #[inline(always)]
+    fn post_place<W: Wires>(&self, wires: &W) -> Place
+        ensures { result ≡ rx_slot (W.wiring wires.now).vif (add32 self.now.state.rx_index (length self.now.work.targets)) 0 }
+    {
         let index = self.state.rx_index.wrapping_add(self.work.targets.len());
-        host.read(rx_entry(wires.rx(), index, 0), 2)
+        rx_entry(wires.rx(), index, 0)
     }
 
     /// After a slot.

@@ -89,7 +89,7 @@ impl From<AllocError> for ShareFault {
 }
 
 impl SharedCounters {
-    ghost use Rattle.xen_host.specs.Sharing.{AreNewFor, HasRead, IsGivenBy};
+    ghost use Rattle.xen_host.specs.Sharing.{AreNewFor, HasAdded, HasRead, IsGivenBy};
 
     /// Counters for a program's maps, all 0, for so many queues.
     pub fn make(
@@ -122,6 +122,15 @@ impl SharedCounters {
     {
         self.program.place(m, k, j)?;
         Some(self.counters.load(&mut self.reader, m, k, j))
+    }
+
+    /// Adds to counter `j` of value `k` of map `m` by one atomic step, if there is such a counter, and answers what it was. The sum wraps.
+    pub fn add(&mut self, m: u32, k: u32, j: u32, amount: u64) -> Option<u64>
+        ensures added { IfSome result (HasAdded self.old self.new m k j amount) }
+        ensures none { IfNone result ((IsCounter self.old.program.shapes m k j → ⊥) × (self.new ≡ self.old)) }
+    {
+        self.program.place(m, k, j)?;
+        Some(self.counters.add(&mut self.reader, m, k, j, amount))
     }
 
     /// A seat for a queue.

@@ -122,7 +122,7 @@ impl Engine {
         let producer = self.look(wires.tx(), bus);
         let mut host = OverBus::new(bus, ports);
         self.begin_over(producer, wires, packet, &mut host);
-        match self.step_until_over(TURN_STEPS, wires, packet, counters, &mut host) {
+        match self.turn_until_over(TURN_STEPS, wires, packet, counters, &mut host) {
             Over::Turn(kind) => kind,
             Over::Delivery(_) => unreachable!(),
             Over::Wait(_) => unreachable!(),

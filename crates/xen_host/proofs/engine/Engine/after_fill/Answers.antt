@@ -1,5 +1,7 @@
-use Rattle.std.proofs.Common.{[], ◌∷◌, refl, sym, subst}
+use Rattle.std.proofs.Common.{[], ◌∷◌, refl, sym, ap, ◌∙◌, subst}
 use Rattle.std.specs.Prelude.{slice_index}
+use Rattle.xen_page.specs.declared.place.Place.{Place}
+use Rattle.xen_steps.specs.Places.{page_word}
 use Rattle.xen_host.specs.HostLed.{FillGoesOn}
 use Rattle.xen_host.specs.declared.stage.Fill.{Fill}
 use Rattle.xen_host.proofs.FedLemmas.{words_below}
@@ -12,7 +14,7 @@ returns-in-Producer g c =
     let r = c.found in
     record {
       led = subst (λ (f : Fill). FillGoesOn g.H.Host.was_asked g.H.Host.is_full g.H.Host.has_given f c.args.purpose q (engine_at q.wires (g.R.Room.held r.new.packet) r.new.self) c.args.host.now r.new.host) (sym c.in-Producer.is)
-          (record { words = _; mid = c.word-producer.new.self; given = (refl, c.word-producer.ensures.given, (c.word-producer.type_inv, tt)); led = r.ensures.led });
+          (record { words = _; mid = c.word-producer.new.self; given = (refl, subst (λ (x : Place). g.H.Host.has_given c.args.host.now x (c.word-producer.result ∷ []) c.word-producer.new.self) (c.header.ensures ∙ ap (λ k. page_word k 0) c.rx.ensures) c.word-producer.ensures.given, (c.word-producer.type_inv, tt)); led = r.ensures.led });
     }
 
 pub returns-in-Slot : goal.returns-in-Slot
@@ -21,7 +23,7 @@ returns-in-Slot g c =
     let r = c.after_post in
     record {
       led = subst (λ (f : Fill). FillGoesOn g.H.Host.was_asked g.H.Host.is_full g.H.Host.has_given f c.args.purpose q (engine_at q.wires q.work.packet r.new.self) c.args.host.now r.new.host) (sym c.in-Slot.is)
-          (record { words = _; mid = c.two.new.self; given = (refl, c.two.ensures.given, words_below (slice_index c.two.result 0 ∷ slice_index c.two.result 1 ∷ []) c.are_words.ensures); led = r.ensures.led });
+          (record { words = _; mid = c.two.new.self; given = (refl, subst (λ (x : Place). g.H.Host.has_given c.args.host.now x (slice_index c.two.result 0 ∷ slice_index c.two.result 1 ∷ []) c.two.new.self) c.post_place.ensures c.two.ensures.given, words_below (slice_index c.two.result 0 ∷ slice_index c.two.result 1 ∷ []) c.are_words.ensures); led = r.ensures.led });
     }
 
 pub returns-in-Grant : goal.returns-in-Grant
@@ -57,7 +59,7 @@ returns-in-Push g c =
     let r = c.after_reply_event in
     record {
       led = subst (λ (f : Fill). FillGoesOn g.H.Host.was_asked g.H.Host.is_full g.H.Host.has_given f c.args.purpose q (engine_at q.wires (g.R.Room.held r.new.packet) r.new.self) c.args.host.now r.new.host) (sym c.in-Push.is)
-          (record { words = _; mid = c.word-event.new.self; given = (refl, c.word-event.ensures.given, (c.word-event.type_inv, tt)); led = r.ensures.led });
+          (record { words = _; mid = c.word-event.new.self; given = (refl, subst (λ (x : Place). g.H.Host.has_given c.args.host.now x (c.word-event.result ∷ []) c.word-event.new.self) (c.header-in-Push.ensures ∙ ap (λ k. page_word k 3) c.rx-in-Push.ensures) c.word-event.ensures.given, (c.word-event.type_inv, tt)); led = r.ensures.led });
     }
 
 pub returns-in-Notice : goal.returns-in-Notice

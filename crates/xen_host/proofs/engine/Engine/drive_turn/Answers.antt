@@ -21,8 +21,8 @@ look-producer-requires g c =
     let k = slice_get_within v.owners.now v.tx v.granter c.requires.stands.wired.tx in
     record { frame = omega (arith, c.tx.ensures, c.requires.size, k) }
 
-pub step_until_over-requires : goal.step_until_over-requires
-step_until_over-requires g c =
+pub turn_until_over-requires : goal.turn_until_over-requires
+turn_until_over-requires g c =
     let log = g.B.Bus.log in
     let gives = g.B.Bus.access_gives in
     let size = g.B.Bus.size in
@@ -68,9 +68,9 @@ returns-clause-stands g c =
     let after = before in
     let d = turn_begun log gives size did old e bus before producer made host sized c.new-host.ensures.over seen c.begin_over.ensures.stands c.begin_over.ensures.begun in
     let task = turn in
-    let x = c.step_until_over.ensures.gone in
-    let end = engine_at w (g.R.Room.held c.step_until_over.new.packet) c.step_until_over.new.self in
-    let r = gone_then log gives size did task s w bus before x.0 e end after c.step_until_over.new.counters host c.step_until_over.new.host d x.1 in
+    let x = c.turn_until_over.ensures.gone in
+    let end = engine_at w (g.R.Room.held c.turn_until_over.new.packet) c.turn_until_over.new.self in
+    let r = gone_then log gives size did task s w bus before x.0 e end after c.turn_until_over.new.counters host c.turn_until_over.new.host d x.1 in
     r.stands
 
 pub returns-clause-size : goal.returns-clause-size
@@ -94,11 +94,11 @@ returns-clause-size g c =
     let after = before in
     let d = turn_begun log gives size did old e bus before producer made host sized c.new-host.ensures.over seen c.begin_over.ensures.stands c.begin_over.ensures.begun in
     let task = turn in
-    let x = c.step_until_over.ensures.gone in
-    let end = engine_at w (g.R.Room.held c.step_until_over.new.packet) c.step_until_over.new.self in
-    let r = gone_then log gives size did task s w bus before x.0 e end after c.step_until_over.new.counters host c.step_until_over.new.host d x.1 in
+    let x = c.turn_until_over.ensures.gone in
+    let end = engine_at w (g.R.Room.held c.turn_until_over.new.packet) c.turn_until_over.new.self in
+    let r = gone_then log gives size did task s w bus before x.0 e end after c.turn_until_over.new.counters host c.turn_until_over.new.host d x.1 in
     -- the bus was lent to the host until here
-    let same = c.bus-1.given.1 (sym (c.step_until_over.ensures.loan ∙ c.begin_over.ensures.loan ∙ c.new-host.ensures.loan)) in
+    let same = c.bus-1.given.1 (sym (c.turn_until_over.ensures.loan ∙ c.begin_over.ensures.loan ∙ c.new-host.ensures.loan)) in
     ap size same ∙ r.sized ∙ sym c.requires.size
 
 pub returns-clause-turned : goal.returns-clause-turned
@@ -122,14 +122,14 @@ returns-clause-turned g c =
     let after = before in
     let d = turn_begun log gives size did old e bus before producer made host sized c.new-host.ensures.over seen c.begin_over.ensures.stands c.begin_over.ensures.begun in
     let task = turn in
-    let x = c.step_until_over.ensures.gone in
-    let end = engine_at w (g.R.Room.held c.step_until_over.new.packet) c.step_until_over.new.self in
-    let r = gone_then log gives size did task s w bus before x.0 e end after c.step_until_over.new.counters host c.step_until_over.new.host d x.1 in
-    let m = turn_over log gives size did old bus before x.0 end c.step_until_over.new.counters c.step_until_over.new.host c.step_until_over.result r x.2 in
+    let x = c.turn_until_over.ensures.gone in
+    let end = engine_at w (g.R.Room.held c.turn_until_over.new.packet) c.turn_until_over.new.self in
+    let r = gone_then log gives size did task s w bus before x.0 e end after c.turn_until_over.new.counters host c.turn_until_over.new.host d x.1 in
+    let m = turn_over log gives size did old bus before x.0 end c.turn_until_over.new.counters c.turn_until_over.new.host c.turn_until_over.result r x.2 in
     -- the bus was lent to the host until here
-    let same = c.bus-1.given.1 (sym (c.step_until_over.ensures.loan ∙ c.begin_over.ensures.loan ∙ c.new-host.ensures.loan)) in
+    let same = c.bus-1.given.1 (sym (c.turn_until_over.ensures.loan ∙ c.begin_over.ensures.loan ∙ c.new-host.ensures.loan)) in
     let is : c.in-Turn.kind ≡ m.0 = cc (sym (ap (λ (o : Over). ask_of o) c.in-Turn.is) ∙ m.1) in
-    subst (λ b. HasTurnedAt log gives did old end c.in-Turn.kind bus b before c.step_until_over.new.counters) (sym same) (subst (λ k. HasTurnedAt log gives did old end k bus c.step_until_over.new.host.bus.now before c.step_until_over.new.counters) (sym is) m.2)
+    subst (λ b. HasTurnedAt log gives did old end c.in-Turn.kind bus b before c.turn_until_over.new.counters) (sym same) (subst (λ k. HasTurnedAt log gives did old end k bus c.turn_until_over.new.host.bus.now before c.turn_until_over.new.counters) (sym is) m.2)
 
 pub unreachable-requires : goal.unreachable-requires
 unreachable-requires g c =
@@ -152,10 +152,10 @@ unreachable-requires g c =
     let after = before in
     let d = turn_begun log gives size did old e bus before producer made host sized c.new-host.ensures.over seen c.begin_over.ensures.stands c.begin_over.ensures.begun in
     let task = turn in
-    let x = c.step_until_over.ensures.gone in
-    let end = engine_at w (g.R.Room.held c.step_until_over.new.packet) c.step_until_over.new.self in
-    let r = gone_then log gives size did task s w bus before x.0 e end after c.step_until_over.new.counters host c.step_until_over.new.host d x.1 in
-    let m = turn_over log gives size did old bus before x.0 end c.step_until_over.new.counters c.step_until_over.new.host c.step_until_over.result r x.2 in
+    let x = c.turn_until_over.ensures.gone in
+    let end = engine_at w (g.R.Room.held c.turn_until_over.new.packet) c.turn_until_over.new.self in
+    let r = gone_then log gives size did task s w bus before x.0 e end after c.turn_until_over.new.counters host c.turn_until_over.new.host d x.1 in
+    let m = turn_over log gives size did old bus before x.0 end c.turn_until_over.new.counters c.turn_until_over.new.host c.turn_until_over.result r x.2 in
     absurd (cc (sym (ap (λ (o : Over). ask_of o) c.in-Delivery.is) ∙ m.1))
 
 pub unreachable-requires-in-Wait : goal.unreachable-requires-in-Wait
@@ -179,8 +179,8 @@ unreachable-requires-in-Wait g c =
     let after = before in
     let d = turn_begun log gives size did old e bus before producer made host sized c.new-host.ensures.over seen c.begin_over.ensures.stands c.begin_over.ensures.begun in
     let task = turn in
-    let x = c.step_until_over.ensures.gone in
-    let end = engine_at w (g.R.Room.held c.step_until_over.new.packet) c.step_until_over.new.self in
-    let r = gone_then log gives size did task s w bus before x.0 e end after c.step_until_over.new.counters host c.step_until_over.new.host d x.1 in
-    let m = turn_over log gives size did old bus before x.0 end c.step_until_over.new.counters c.step_until_over.new.host c.step_until_over.result r x.2 in
+    let x = c.turn_until_over.ensures.gone in
+    let end = engine_at w (g.R.Room.held c.turn_until_over.new.packet) c.turn_until_over.new.self in
+    let r = gone_then log gives size did task s w bus before x.0 e end after c.turn_until_over.new.counters host c.turn_until_over.new.host d x.1 in
+    let m = turn_over log gives size did old bus before x.0 end c.turn_until_over.new.counters c.turn_until_over.new.host c.turn_until_over.result r x.2 in
     absurd (cc (sym (ap (λ (o : Over). ask_of o) c.in-Wait.is) ∙ m.1))

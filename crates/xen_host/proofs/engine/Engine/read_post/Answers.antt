@@ -1,5 +1,4 @@
-use Rattle.xen_steps.specs.Places.{rx_entry}
-use Rattle.std.proofs.Common.{length, refl, ap, ◌∙◌, arith}
+use Rattle.std.proofs.Common.{length, refl, ap, arith}
 use Rattle.xen_steps.specs.Steps.{bind}
 use Rattle.xen_host.specs.Asks as ask
 use Rattle.xen_host.proofs.HostLedLemmas.{asks_one}
@@ -28,8 +27,7 @@ returns g c =
           let f = fill.Slot c.args.left in
           let rest = requested w (takes_extra o (length ts)) ts (read_targets w x o c.args.left) in
           let left = bind (posted w i rest) (after_targets w x o q.work.packet) in
-          let place = c.rx_entry.ensures ∙ ap (λ k. rx_entry k (add32 x c.len.result) 0) c.rx.ensures ∙ ap (λ k. rx_slot w (add32 x k) 0) c.len.ensures.value in
           lift_fill _ _ c.args.purpose q ts f left _ _
-          (asks_one _ _ (IsFillOn q ts o f) _ _ left _ _ _ (ask.Read (rx_slot w i 0) 2) _ c.read.ensures (ap (λ (p : Place). ask.Read p 2) place) refl (omega arith, omega arith) refl
+          (asks_one _ _ (IsFillOn q ts o f) _ _ left _ _ _ (ask.Read (rx_slot w i 0) 2) _ c.read.ensures (ap (λ (p : Place). ask.Read p 2) c.post_place.ensures) refl (omega arith, omega arith) refl
           (refl, tt, (refl, asks_post w i rest (after_targets w x o q.work.packet))) refl c.requires.few);
     }

@@ -1,5 +1,4 @@
-use Rattle.xen_steps.specs.Places.{tx_entry}
-use Rattle.std.proofs.Common.{[], ◌∷◌, ◌++◌, length, refl, ap, ◌∙◌, arith}
+use Rattle.std.proofs.Common.{[], ◌∷◌, ◌++◌, length, refl, ap, arith}
 use Rattle.xen_host.specs.Asks as ask
 use Rattle.xen_host.proofs.HostLedLemmas.{asks_one}
 use Rattle.xen_page.specs.declared.place.Place.{Place}
@@ -22,7 +21,6 @@ returns g c =
           let i = add32 q.state.tx_index (length q.work.chain) in
           let left = rest_of_slot w q.state c.args.left q.work.chain (read_slot w i) in
           let judge = λ (slot : Slot). judged (q.work.chain ++ slot ∷ []) (standing (q.work.chain ++ slot ∷ [])) (read_slots w q.state.tx_index c.args.left (q.work.chain ++ slot ∷ [])) in
-          let place = c.tx_entry.ensures ∙ ap (λ k. tx_entry k (add32 q.state.tx_index c.len.result) 0) c.tx.ensures ∙ ap (λ k. tx_slot w.vif (add32 q.state.tx_index k) 0) c.len.ensures.len in
-          asks_one _ _ _ _ _ left _ _ _ (ask.Read (tx_slot w.vif i 0) 3) _ c.read.ensures (ap (λ (p : Place). ask.Read p 3) place) refl (omega arith, omega arith)
+          asks_one _ _ _ _ _ left _ _ _ (ask.Read (tx_slot w.vif i 0) 3) _ c.read.ensures (ap (λ (p : Place). ask.Read p 3) c.slot_place.ensures) refl (omega arith, omega arith)
           refl (record { is_rest = refl; waits = (refl, asks_slot w i judge (after_scan w q.state)); is_here = refl; told = tt }) refl c.requires.wants;
     }

@@ -1,45 +1,51 @@
-use Rattle.std.proofs.Common.{[], ◌∷◌, ◌∙◌, refl, ap, arith}
+use Rattle.std.proofs.Common.{[], ◌∷◌, refl, ap, arith}
 use Rattle.xen_page.specs.declared.place.Place.{Place}
-use Rattle.xen_host.proofs.BusLemmas.{has_read, run_then, unread, zero_words}
+use Rattle.xen_host.proofs.BusLemmas.{run_then, unread, zero_words}
 use Rattle.xen_host.proofs.over_bus.OverBusHost.three.Goals as goal
 
-pub due-first-requires : goal.due-first-requires
-due-first-requires g c = let h = c.are_in_bus.ensures.0 c.if-not-are_in_bus.false in (h.0, omega (arith, h.1))
+pub there-first-requires : goal.there-first-requires
+there-first-requires g c = let h = c.are_in_bus.ensures.0 c.if-not-are_in_bus.false in (h.0, omega (arith, h.1))
 
-pub due-second-requires : goal.due-second-requires
-due-second-requires g c =
-    let h = c.are_in_bus.ensures.0 c.if-not-are_in_bus.false in
-    let r = c.due-first.ensures in
-    let frame = ap (λ (x : Place). x.frame) r.due in
-    let word = ap (λ (x : Place). x.word) r.due in
-    (omega (arith, h.0, r.sized, frame), omega (arith, h.1, word))
+pub behind-requires : goal.behind-requires
+behind-requires g c = let h = c.are_in_bus.ensures.0 c.if-not-are_in_bus.false in omega (arith, h.1)
 
-pub due-third-requires : goal.due-third-requires
-due-third-requires g c =
+pub behind-requires-2 : goal.behind-requires-2
+behind-requires-2 g c = let h = c.are_in_bus.ensures.0 c.if-not-are_in_bus.false in omega (arith, h.1)
+
+pub there-second-requires : goal.there-second-requires
+there-second-requires g c =
     let h = c.are_in_bus.ensures.0 c.if-not-are_in_bus.false in
-    let r = c.due-first.ensures in
-    let s = c.due-second.ensures in
-    let at = s.due ∙ r.due in
-    let frame = ap (λ (x : Place). x.frame) at in
-    let word = ap (λ (x : Place). x.word) at in
-    (omega (arith, h.0, r.sized, s.sized, frame), omega (arith, h.1, word))
+    let frame = ap (λ (x : Place). x.frame) c.behind.ensures in
+    let word = ap (λ (x : Place). x.word) c.behind.ensures in
+    (omega (arith, h.0, c.there-first.ensures.sized, frame), omega (arith, h.1, word))
+
+pub there-third-requires : goal.there-third-requires
+there-third-requires g c =
+    let h = c.are_in_bus.ensures.0 c.if-not-are_in_bus.false in
+    let frame = ap (λ (x : Place). x.frame) c.behind-2.ensures in
+    let word = ap (λ (x : Place). x.word) c.behind-2.ensures in
+    (omega (arith, h.0, c.there-first.ensures.sized, c.there-second.ensures.sized, frame), omega (arith, h.1, word))
 
 pub returns-then-not-are_in_bus-clause-given : goal.returns-then-not-are_in_bus-clause-given
 returns-then-not-are_in_bus-clause-given g c =
-    let log = g.B.Bus.log in
-    let gives = g.B.Bus.access_gives in
-    let size = g.B.Bus.size in
-    let x = c.args.self.now in
-    has_read log gives size (0 ∷ 0 ∷ 0 ∷ []) x x (unread log gives size 0 (0 ∷ 0 ∷ 0 ∷ []) x (zero_words 3) (λ h. let t = c.are_in_bus.ensures.1 h in cc (t, c.if-not-are_in_bus.true)))
+    record {
+      read = unread g.B.Bus.log g.B.Bus.access_gives g.B.Bus.size c.args.at (0 ∷ 0 ∷ 0 ∷ []) c.args.self.now.bus.now (zero_words 3) (λ h. let t = c.are_in_bus.ensures.1 h in cc (t, c.if-not-are_in_bus.true));
+      over = refl;
+      loan = refl;
+    }
 
 pub returns-clause-given : goal.returns-clause-given
 returns-clause-given g c =
     let log = g.B.Bus.log in
     let gives = g.B.Bus.access_gives in
     let size = g.B.Bus.size in
-    let x = c.args.self.now in
-    let a = c.due-first in
-    let b = c.due-second in
-    let d = c.due-third in
-    has_read log gives size (a.result ∷ b.result ∷ d.result ∷ []) x d.new.self (run_then log gives size 0 2 (a.result ∷ b.result ∷ []) (d.result ∷ []) x b.new.self d.new.self refl
-    (run_then log gives size 0 1 (a.result ∷ []) (b.result ∷ []) x a.new.self b.new.self refl a.ensures b.ensures) d.ensures)
+    let old = c.args.self.now.bus.now in
+    let a = c.there-first in
+    let b = c.there-second in
+    let d = c.there-third in
+    let two = run_then log gives size c.args.at c.behind.result (a.result ∷ []) (b.result ∷ []) old a.new.bus b.new.bus c.behind.ensures a.ensures b.ensures in
+    record {
+      read = run_then log gives size c.args.at c.behind-2.result (a.result ∷ b.result ∷ []) (d.result ∷ []) old b.new.bus d.new.bus c.behind-2.ensures two d.ensures;
+      over = refl;
+      loan = refl;
+    }

@@ -13,10 +13,9 @@ returns-then-are_in_bus-clause-asked g c =
     record {
       performed = λ h. subst (λ (l : List ℕ). Performs g.B.Bus.log g.B.Bus.access_gives c.args.self.now.bus.now (accesses (writes_at c.args.at l)) c.put_packet.new.self.bus.now) (sym (taken_words bytes c.args.from n)) p.wrote;
       sized = p.size;
-      due = tt;
       held = words_length bytes c.args.from n;
-      over = p.beside.1;
-      loan = p.beside.2;
+      over = p.beside.0;
+      loan = p.beside.1;
     }
 
 pub returns-else-are_in_bus-clause-asked : goal.returns-else-are_in_bus-clause-asked
@@ -24,7 +23,6 @@ returns-else-are_in_bus-clause-asked g c =
     record {
       performed = λ h. let t = c.are_in_bus.ensures.1 (h.0, omega (arith, h.1)) in absurd (cc (t, c.if-are_in_bus.false));
       sized = refl;
-      due = tt;
       held = words_length c.args.bytes.now c.args.from c.args.count;
       over = refl;
       loan = refl;
