@@ -63,7 +63,7 @@ fn help_lines(topic: Topic) -> &'static str
         }
         Topic::Same => {
             "xdpbox same < SETTINGS\n\
-             The settings have the first program in a table original.\n\
+             The settings have, in a table original, the first program, or an object and the name of its function.\n\
              Prints same, same by counts, same alone or not shown; 1: not shown, or one of both is refused.\n"
         }
         Topic::Filter => {
