@@ -1,5 +1,5 @@
-/* What a program gets at the XDP point, and what it answers: the names and numbers of Linux's uapi/linux/bpf.h; maps and
-   their lookup as libbpf's bpf_helpers.h has them. It stands in for both. */
+/* What a program gets at the XDP point, and what it answers: the names and numbers of Linux's uapi/linux/bpf.h; maps,
+   their lookup and the time as libbpf's bpf_helpers.h has them. It stands in for both. */
 #ifndef XDP_H
 #define XDP_H
 
@@ -21,5 +21,6 @@ enum bpf_map_type { BPF_MAP_TYPE_HASH = 1, BPF_MAP_TYPE_ARRAY = 2, BPF_MAP_TYPE_
 #define __type(name, kind) typeof(kind) *name
 
 static void *(*bpf_map_lookup_elem)(void *map, const void *key) = (void *)1;
+static unsigned long long (*bpf_ktime_get_ns)(void) = (void *)5;
 
 #endif

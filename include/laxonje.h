@@ -237,6 +237,12 @@ enum laxonje_sharing {
 	LAXONJE_SHARES_NOTHING   /* there is no queue, or there are no counters */
 };
 
+/* The answer of laxonje_counters_add. */
+enum laxonje_addition {
+	LAXONJE_ADDED,     /* the counter has the amount more */
+	LAXONJE_NO_COUNTER /* there is no such counter, or there are no counters */
+};
+
 enum laxonje_op_kind {
 	LAXONJE_OP_READ = 1, /* read `count` words of `frame`, from `word` on, into the lent words from `lent` on */
 	LAXONJE_OP_WRITE,    /* write `count` of the lent words, from `lent` on, into `frame`, from `word` on */
@@ -493,6 +499,15 @@ struct laxonje_map laxonje_map_size(struct laxonje_program *program, uint32_t nu
  * program. The maps of a program that laxonje_load loaded have no names. */
 size_t laxonje_map_named(struct laxonje_program *program, const uint8_t *name, size_t name_bytes);
 
+/* Which of the program's words is the time that it reads, in nanoseconds: counter 0 of entry 0 of its map `bpf_ktime_get_ns`, as
+ * tools/settings-from-c has calls for the time. A host writes the time there before it has packets judged. LAXONJE_NOWHERE if the program asks
+ * for no time, or there is none. */
+static inline size_t laxonje_clock(struct laxonje_program *program);
+
+/* 1 if the program wants to run in one queue at a time, of those that share its counters: it has a map `bpf_spin_lock`, as
+ * tools/settings-from-c has locks. A host with several threads takes a turn of such a queue under a lock of its own. Else 0. */
+static inline uint32_t laxonje_runs_alone(struct laxonje_program *program);
+
 /* Copies out the name of the map of this number, from 0, as far as there is room, and answers how many bytes it has, 1 to 32: UTF-8, without
  * a zero at its end. 0 if it has no name, if there is no such map, or no program. */
 size_t laxonje_map_name(struct laxonje_program *program, uint32_t number, uint8_t *out, size_t out_bytes);
@@ -616,6 +631,10 @@ uint32_t laxonje_queue_pass(struct laxonje_queue *queue, struct laxonje_queue *t
  * counters that are read one after the other are of two moments. */
 uint64_t laxonje_counters_at(struct laxonje_shared *counters, uint32_t map, uint32_t entry, uint32_t counter);
 
+/* Adds to a counter of an entry of a map, each from 0, by one atomic step of the same history, while queues on other threads go on. The sum
+ * wraps. The answer is of enum laxonje_addition. */
+uint32_t laxonje_counters_add(struct laxonje_shared *counters, uint32_t map, uint32_t entry, uint32_t counter, uint64_t amount);
+
 /* Frees the counters of a handle. Queues that share them go on, and the last that is freed frees the counters' memory. */
 void laxonje_counters_free(struct laxonje_shared *counters);
 
@@ -644,6 +663,19 @@ static inline void laxonje_program_delete(struct laxonje_program **program)
 	laxonje_free(*program);
 	free(*program);
 	*program = NULL;
+}
+
+static inline size_t laxonje_clock(struct laxonje_program *program)
+{
+	static const char name[] = "bpf_ktime_get_ns";
+	size_t map = laxonje_map_named(program, (const uint8_t *)name, sizeof name - 1);
+	return map == LAXONJE_NOWHERE ? LAXONJE_NOWHERE : laxonje_place(program, (uint32_t)map, 0, 0);
+}
+
+static inline uint32_t laxonje_runs_alone(struct laxonje_program *program)
+{
+	static const char name[] = "bpf_spin_lock";
+	return laxonje_map_named(program, (const uint8_t *)name, sizeof name - 1) != LAXONJE_NOWHERE;
 }
 
 static inline struct laxonje_queue *laxonje_queue_new(void)

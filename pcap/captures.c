@@ -167,12 +167,35 @@ static bool fill(struct captures *captures)
 	return got == 1;
 }
 
+static uint64_t time_of(const struct pcap_pkthdr *header)
+{
+	return header->ts.tv_sec < 0 ? 0 : (uint64_t)header->ts.tv_sec * SECOND + (uint64_t)header->ts.tv_usec; /* which are nanoseconds */
+}
+
+/* Gives the program the time of a packet, if it asks for it, and answers how many packets have that time: the time never goes back. */
+static size_t begin_time(const struct batch *batch, size_t first, const struct report *report)
+{
+	size_t next = first;
+
+	if (report->clock == LAXONJE_NOWHERE)
+		return batch->count - first;
+	uint64_t *clock = &report->counters[report->clock], time = time_of(&batch->headers[first]);
+
+	*clock = time > *clock ? time : *clock;
+	while (next < batch->count && time_of(&batch->headers[next]) <= *clock)
+		next++;
+	return next - first;
+}
+
 static void run(struct batch *batch, struct report *report)
 {
 	uint64_t start = nanoseconds();
 
-	laxonje_run_batch(report->program, report->counters, laxonje_counters(report->program), batch->bytes, batch->length, batch->packets,
-	                  batch->count, batch->results, batch->count, report->settings.ifindex, 0);
+	for (size_t first = 0, count; first < batch->count; first += count) {
+		count = begin_time(batch, first, report);
+		laxonje_run_batch(report->program, report->counters, laxonje_counters(report->program), batch->bytes, batch->length,
+		                  batch->packets + first, count, batch->results + first, count, report->settings.ifindex, 0);
+	}
 	report->nanoseconds += nanoseconds() - start;
 	for (size_t i = 0; i < batch->count; i++) {
 		struct sum *sum = &report->by_action[batch->results[i].action];

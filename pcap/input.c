@@ -7,8 +7,6 @@
 #include <time.h>
 #include <unistd.h>
 
-enum { SECOND = 1000000000 };
-
 static volatile sig_atomic_t is_ended;
 static uint64_t last; /* when reading ends after a signal, in nanoseconds */
 

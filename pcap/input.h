@@ -15,6 +15,8 @@ struct input {
 	uint64_t next; /* when `due` is called next, in nanoseconds */
 };
 
+enum { SECOND = 1000000000 }; /* in nanoseconds */
+
 uint64_t nanoseconds(void);
 
 /* From now on the first SIGINT or SIGTERM ends the input: what comes within a second is still read. A second one ends the program. */

@@ -102,6 +102,7 @@ static enum status load(const struct words *words, struct report *report)
 	if (report->settings.begins)
 		fputs("laxonje-pcap: counters begin with 0 here: the settings' values aren't looked at\n", stderr);
 	report->counters = calloc(laxonje_counters(report->program) + 1, sizeof *report->counters);
+	report->clock = laxonje_clock(report->program);
 	return report->counters ? DONE : failed(MEMORY, "memory");
 }
 

@@ -22,7 +22,7 @@ static void each_counter(FILE *to, const struct report *report, print_counter *p
 		struct laxonje_map size = laxonje_map_size(report->program, map);
 
 		for (uint32_t i = 0; i < size.entries * size.counters; i++, word++)
-			if (report->counters[word]) {
+			if (report->counters[word] && word != report->clock) {
 				struct counter counter = {map, i / size.counters, i % size.counters, size.counters > 1, is_first, report->counters[word]};
 
 				print(to, report, &counter);

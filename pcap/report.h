@@ -19,6 +19,7 @@ struct report {
 	uint64_t nanoseconds; /* that the runs took */
 	uint64_t not_judged;  /* packets */
 	uint64_t *counters;
+	size_t clock; /* which of them is the time, which the program doesn't count; LAXONJE_NOWHERE if it asks for none */
 	struct laxonje_program *program;
 	struct settings settings;
 };

@@ -1,11 +1,11 @@
-/* Queues on threads that share one program's counters: what they counted is exact, while another thread reads it. For the thread sanitizer. */
+/* Queues on threads that share one program's counters: what they counted is exact, while another thread reads and adds. For the thread sanitizer. */
 #include <laxonje_drive.h>
 
 #include <pthread.h>
 #include <stdatomic.h>
 #include <stdio.h>
 
-enum { TX, RX, TABLE, DATA, FRAMES, GUEST = 5, PORT = 7, FRAME_BYTES = 14, RING_SLOTS = 256, QUEUES = 8, TURNS = 20000, READS = 1000 };
+enum { TX, RX, TABLE, DATA, FRAMES, GUEST = 5, PORT = 7, FRAME_BYTES = 14, RING_SLOTS = 256, QUEUES = 8, TURNS = 20000, READS = 1000, ADDED = 7 };
 
 /* Adds 5 twice to the first of two counters of a map's only entry, and once to the second, and drops the packet. */
 static const uint8_t counting[] = { 0xbf, 0xa2, 0, 0, 0, 0, 0, 0, 0x07, 2, 0, 0, 0xfc, 0xff, 0xff, 0xff, 0x62, 10, 0xfc, 0xff, 0, 0, 0, 0,
@@ -75,7 +75,7 @@ static void *turns(void *given)
 	return NULL;
 }
 
-/* A thread that reads a counter, which only rises. */
+/* A thread that reads the first counter, which only rises, and adds to the second. */
 struct reader {
 	struct laxonje_shared *counters;
 	unsigned wrong;
@@ -88,6 +88,7 @@ static void *reads(void *given)
 	for (unsigned read = 0; read < READS; read++) {
 		uint64_t now = laxonje_counters_at(reader->counters, 0, 0, 0);
 		reader->wrong += now < last || now % 5;
+		reader->wrong += laxonje_counters_add(reader->counters, 0, 0, 1, ADDED) != LAXONJE_ADDED;
 		last = now;
 	}
 	return NULL;
@@ -120,6 +121,13 @@ static void refuses(struct laxonje_program *program, struct served *served, stru
 	is("counters of no program", laxonje_counters_new(NULL, 1) == NULL, 1);
 	is("no such counter", laxonje_counters_at(counters, 1, 0, 0), 0);
 	is("no counters", laxonje_counters_at(NULL, 0, 0, 0), 0);
+	is("an amount for a map that isn't there", laxonje_counters_add(counters, 1, 0, 0, 1), LAXONJE_NO_COUNTER);
+	is("an amount for an entry that isn't there", laxonje_counters_add(counters, 0, 1, 0, 1), LAXONJE_NO_COUNTER);
+	is("an amount for a counter that isn't there", laxonje_counters_add(counters, 0, 0, 2, 1), LAXONJE_NO_COUNTER);
+	is("an amount for no counters", laxonje_counters_add(NULL, 0, 0, 0, 1), LAXONJE_NO_COUNTER);
+	is("an amount that wraps", laxonje_counters_add(counters, 0, 0, 1, UINT64_MAX), LAXONJE_ADDED);
+	is("what it wraps to", laxonje_counters_at(counters, 0, 0, 1), UINT64_MAX);
+	is("an amount that wraps back", laxonje_counters_add(counters, 0, 0, 1, 1), LAXONJE_ADDED);
 	is("a seat that is passed", laxonje_queue_pass(served->drive.queue, none.drive.queue), LAXONJE_SHARES_NOW);
 	is("words of a queue that has passed it", laxonje_queue_counters(served->drive.queue), 2);
 	is("a seat that isn't there", laxonje_queue_pass(served->drive.queue, none.drive.queue), LAXONJE_SHARES_ALREADY);
@@ -156,7 +164,7 @@ int main(void)
 	ends(reading);
 	is("what a reader saw", reader.wrong, 0);
 	is("the first counter", laxonje_counters_at(counters, 0, 0, 0), (uint64_t)QUEUES * TURNS * 10);
-	is("the second counter", laxonje_counters_at(counters, 0, 0, 1), (uint64_t)QUEUES * TURNS * 5);
+	is("the second counter", laxonje_counters_at(counters, 0, 0, 1), (uint64_t)QUEUES * TURNS * 5 + READS * ADDED);
 	laxonje_counters_delete(&counters);
 	for (size_t i = 0; i < QUEUES; i++) {
 		is("turns", served[i].wrong, 0);

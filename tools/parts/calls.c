@@ -42,6 +42,7 @@ HELD(laxonje_queue_share);
 HELD(laxonje_queue_pass);
 HELD(laxonje_counters_make);
 HELD(laxonje_counters_at);
+HELD(laxonje_counters_add);
 HELD(laxonje_counters_free);
 
 static const struct laxonje_verdict no_out = { LAXONJE_NULL, 0, 0 }, no_program = { LAXONJE_EMPTY, 0, 0 };
@@ -247,6 +248,11 @@ uint32_t laxonje_counters_make(struct laxonje_program *program, size_t queues, s
 uint64_t laxonje_counters_at(struct laxonje_shared *counters, uint32_t map, uint32_t entry, uint32_t counter)
 {
 	return counters ? held_laxonje_counters_at(counters, map, entry, counter) : 0;
+}
+
+uint32_t laxonje_counters_add(struct laxonje_shared *counters, uint32_t map, uint32_t entry, uint32_t counter, uint64_t amount)
+{
+	return counters ? held_laxonje_counters_add(counters, map, entry, counter, amount) : LAXONJE_NO_COUNTER;
 }
 
 void laxonje_counters_free(struct laxonje_shared *counters)

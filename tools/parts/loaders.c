@@ -2,6 +2,8 @@
  * ctypes does. tools/parts/pack-host compiles this into each archive. To a host in C the headers' own come first. */
 #define laxonje_program_new inline_program_new
 #define laxonje_program_delete inline_program_delete
+#define laxonje_clock inline_clock
+#define laxonje_runs_alone inline_runs_alone
 #define laxonje_queue_new inline_queue_new
 #define laxonje_queue_delete inline_queue_delete
 #define laxonje_counters_new inline_counters_new
@@ -22,6 +24,8 @@
 #include <laxonje_drive.h>
 #undef laxonje_program_new
 #undef laxonje_program_delete
+#undef laxonje_clock
+#undef laxonje_runs_alone
 #undef laxonje_queue_new
 #undef laxonje_queue_delete
 #undef laxonje_counters_new
@@ -43,6 +47,8 @@
 /* Each has the type of the header's own. */
 extern __typeof__(inline_program_new) laxonje_program_new;
 extern __typeof__(inline_program_delete) laxonje_program_delete;
+extern __typeof__(inline_clock) laxonje_clock;
+extern __typeof__(inline_runs_alone) laxonje_runs_alone;
 extern __typeof__(inline_queue_new) laxonje_queue_new;
 extern __typeof__(inline_queue_delete) laxonje_queue_delete;
 extern __typeof__(inline_counters_new) laxonje_counters_new;
@@ -69,6 +75,16 @@ struct laxonje_program *laxonje_program_new(void)
 void laxonje_program_delete(struct laxonje_program **program)
 {
 	inline_program_delete(program);
+}
+
+size_t laxonje_clock(struct laxonje_program *program)
+{
+	return inline_clock(program);
+}
+
+uint32_t laxonje_runs_alone(struct laxonje_program *program)
+{
+	return inline_runs_alone(program);
 }
 
 struct laxonje_queue *laxonje_queue_new(void)

@@ -70,9 +70,10 @@ impl Front {
             self.send(index);
         }
         let end = first + count;
-        for (ring, frame) in [(TX, TX), (RX, RX)] {
+        // buffers first: the host may still be looking for packets, and delivers what it finds
+        for ring in [RX, TX] {
             store(&self.pages, ring, 3, end); // the event index: told once all have come
-            store(&self.pages, frame, 0, end);
+            store(&self.pages, ring, 0, end);
         }
         if self.events.send(self.number).is_err() {
             return count;

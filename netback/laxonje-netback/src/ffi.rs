@@ -213,6 +213,7 @@ pub struct timespec {
     pub seconds: c_long,
     pub nanoseconds: c_long,
 }
+pub const CLOCK_MONOTONIC: c_int = 1;
 pub const CLOCK_THREAD_CPUTIME_ID: c_int = 3;
 
 /// `struct iovec`, `struct msghdr`, `struct cmsghdr` and `struct timeval` of the C library.

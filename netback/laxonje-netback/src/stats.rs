@@ -1,6 +1,6 @@
 //! What is counted of a queue, and how it is told: as text, and as JSON.
 use crate::log::plain;
-use laxonje::{Halt, MapSize, Program, Refusal};
+use laxonje::{Halt, MapSize, Program, Refusal, CLOCK_MAP};
 use std::fmt::Write;
 use std::sync::atomic::{AtomicU64, Ordering::Relaxed};
 
@@ -162,7 +162,7 @@ pub struct MapCounts {
 }
 
 impl MapCounts {
-    /// The maps of a program with these of its counters.
+    /// The maps of a program with these of its counters, but for that of the time, which nothing counts.
     pub fn of(program: &Program, counters: &[u64]) -> Vec<MapCounts> {
         let value = |map: u32, entry: u32, counter: u32| {
             let place = program.place(map, entry, counter)?;
@@ -175,7 +175,8 @@ impl MapCounts {
             let MapSize { entries, counters } = *size;
             MapCounts { name: name.clone(), entries, counters, values: counts(map, entries, counters) }
         };
-        (0..).zip(program.maps().iter().zip(program.map_names())).map(one).collect()
+        let maps = (0..).zip(program.maps().iter().zip(program.map_names()));
+        maps.filter(|(_, (_, name))| *name != CLOCK_MAP).map(one).collect()
     }
 }
 

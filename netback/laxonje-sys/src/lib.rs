@@ -137,6 +137,9 @@ pub const LAXONJE_SHARES_ALREADY: u32 = 4;
 pub const LAXONJE_SHARES_MAPS: u32 = 5;
 pub const LAXONJE_SHARES_NOTHING: u32 = 6;
 
+pub const LAXONJE_ADDED: u32 = 0;
+pub const LAXONJE_NO_COUNTER: u32 = 1;
+
 /// What an op asks for.
 pub const LAXONJE_OP_READ: u32 = 1;
 pub const LAXONJE_OP_WRITE: u32 = 2;
@@ -405,5 +408,6 @@ extern "C" {
     pub fn laxonje_queue_share(queue: *mut laxonje_queue, counters: *mut laxonje_shared) -> u32;
     pub fn laxonje_queue_pass(queue: *mut laxonje_queue, to: *mut laxonje_queue) -> u32;
     pub fn laxonje_counters_at(counters: *mut laxonje_shared, map: u32, entry: u32, counter: u32) -> u64;
+    pub fn laxonje_counters_add(counters: *mut laxonje_shared, map: u32, entry: u32, counter: u32, amount: u64) -> u32;
     pub fn laxonje_counters_free(counters: *mut laxonje_shared);
 }

@@ -253,6 +253,11 @@ impl SharedHandle {
         // SAFETY: the module's reason.
         unsafe { sys::laxonje_counters_at(self.0.get(), map, entry, counter) }
     }
+
+    pub fn add(&mut self, map: u32, entry: u32, counter: u32, amount: u64) -> u32 {
+        // SAFETY: the module's reason.
+        unsafe { sys::laxonje_counters_add(self.0.get(), map, entry, counter, amount) }
+    }
 }
 
 impl Drop for SharedHandle {

@@ -104,9 +104,9 @@ pub use loads::read_words;
 pub use offload::{Accepts, Offload};
 pub use outcome::{Awaited, DeliverError, Delivery, Flags, Grant, ReplaceError, Stopped, Turn, TurnRun};
 pub use program::{
-    build, check, check_version, proved, Action, LoadError, MapSize, Outcome, Packet, Program, Run, VersionError, MOST_BYTES,
+    build, check, check_version, proved, Action, LoadError, MapSize, Outcome, Packet, Program, Run, VersionError, CLOCK_MAP, MOST_BYTES,
 };
 pub use queue::Queue;
 pub use segments::{OfferError, Offers, SegmentKind, Segments};
 pub use setup::{Extent, Indices, MakeError, Setup, TABLE_FRAMES};
-pub use shared::{Counters, ShareError, MOST_SHARES};
+pub use shared::{Counters, NoCounter, ShareError, MOST_SHARES};

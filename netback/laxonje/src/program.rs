@@ -6,10 +6,17 @@ use alloc::vec;
 use alloc::vec::Vec;
 use core::fmt;
 use core::ops::Range;
+use core::time::Duration;
 use laxonje_sys as sys;
 
 /// The most bytes of a packet.
 pub const MOST_BYTES: usize = sys::LAXONJE_PACKET;
+
+/// The name of the map whose first counter a program reads as the time, as `tools/settings-from-c` has calls for it.
+pub const CLOCK_MAP: &str = "bpf_ktime_get_ns";
+
+/// The name of the map that a program has if it is to run in one queue at a time, as `tools/settings-from-c` has locks.
+const ONE_QUEUE_MAP: &str = "bpf_spin_lock";
 
 /// The size of an array map: entries, and counters of 64 bits of each.
 #[derive(Clone, Copy, Debug, PartialEq, Eq)]
@@ -123,6 +130,11 @@ fn accepted(verdict: sys::laxonje_verdict) -> Result<u32, LoadError> {
         (sys::LAXONJE_MAP, _) => Err(LoadError::Map(verdict.at)),
         (_, fault) => Err(LoadError::Settings(Fault(fault))),
     }
+}
+
+/// A time as programs get it.
+pub(crate) fn nanoseconds(time: Duration) -> u64 {
+    u64::try_from(time.as_nanos()).unwrap_or(u64::MAX)
 }
 
 fn sizes(maps: &[MapSize]) -> Vec<sys::laxonje_map> {
@@ -264,6 +276,17 @@ impl Program {
     /// Which of these words a counter is, each number from 0.
     pub fn place(&self, map: u32, entry: u32, counter: u32) -> Option<usize> {
         Some(self.handle.place(map, entry, counter)).filter(|place| *place != sys::LAXONJE_NOWHERE)
+    }
+
+    /// Which of these words is the time that it reads, in nanoseconds, if it asks for it: a host writes it there before runs. A queue is given it
+    /// by [`Queue::set_time`](crate::Queue::set_time), and queues that share counters by [`Counters::set_time`](crate::Counters::set_time).
+    pub fn clock(&self) -> Option<usize> {
+        self.place(self.map_named(CLOCK_MAP)?, 0, 0)
+    }
+
+    /// Whether it wants to run in one queue at a time, of those that share its counters: what it does with these is one step then.
+    pub fn runs_alone(&self) -> bool {
+        self.map_named(ONE_QUEUE_MAP).is_some()
     }
 
     /// Runs it on a packet where it lies. `None`, and nothing has changed, if there are fewer counters than it has, or more than

@@ -5,13 +5,14 @@ use crate::guest::{Guest, PAGE_BYTES};
 use crate::handle::SharedHandle;
 use crate::offload::{Accepts, Offload};
 use crate::outcome::{Awaited, DeliverError, Delivery, Flags, Grant, ReplaceError, Stopped, Turn, TurnRun};
-use crate::program::{Action, MapSize, Program, MOST_BYTES};
+use crate::program::{nanoseconds, Action, MapSize, Program, MOST_BYTES};
 use crate::segments::{OfferError, Offers, Segments};
 use crate::setup::{Indices, MakeError, Setup};
 use crate::shared::ShareError;
 use alloc::string::String;
 use alloc::vec::Vec;
 use core::fmt;
+use core::time::Duration;
 use laxonje_sys as sys;
 
 /// The fewest bytes of a packet that is delivered: an Ethernet header.
@@ -23,13 +24,18 @@ pub struct Queue {
     maps: Vec<MapSize>,
     names: Vec<String>,
     counters: Vec<u64>,
+    /// Which of them is the time, if the program asks for it.
+    clock: Option<usize>,
+    runs_alone: bool,
 }
 
 impl Queue {
     /// Makes a queue that stands between two turns. It has the same program, with counters that are 0.
     pub fn new(program: &Program, setup: &Setup) -> Result<Queue, MakeError> {
         let driver = Driver::new(&program.handle, setup)?;
-        Ok(Queue { driver, maps: program.maps().to_vec(), names: program.map_names().to_vec(), counters: program.new_counters() })
+        let (maps, names) = (program.maps().to_vec(), program.map_names().to_vec());
+        let (counters, clock, runs_alone) = (program.new_counters(), program.clock(), program.runs_alone());
+        Ok(Queue { driver, maps, names, counters, clock, runs_alone })
     }
 
     /// Takes a turn: one packet at most.
@@ -140,6 +146,8 @@ impl Queue {
             self.maps = program.maps().to_vec();
             self.names = program.map_names().to_vec();
             self.counters = program.new_counters();
+            self.clock = program.clock();
+            self.runs_alone = program.runs_alone();
         }
         Ok(())
     }
@@ -151,6 +159,24 @@ impl Queue {
 
     pub(crate) fn share_by(&mut self, counters: &mut SharedHandle) -> Result<(), ShareError> {
         self.driver.share(counters)
+    }
+
+    /// Whether its program wants that no other queue that shares its counters takes a turn at the same time. The host sees to that.
+    pub fn runs_alone(&self) -> bool {
+        self.runs_alone
+    }
+
+    /// Whether its program asks for the time.
+    pub fn asks_for_time(&self) -> bool {
+        self.clock.is_some()
+    }
+
+    /// The time that its program gets from its next turn on, if it asks for it, up to the next call: 0 before the first. A queue that shares
+    /// counters gets that of [`Counters::set_time`](crate::Counters::set_time).
+    pub fn set_time(&mut self, time: Duration) {
+        if let Some(word) = self.clock.and_then(|clock| self.counters.get_mut(clock)) {
+            *word = nanoseconds(time);
+        }
     }
 
     /// The program's counters: [`Program::place`] says which is where. Of a queue that shares counters these are those that it had before.

@@ -1,10 +1,11 @@
 //! Counters that queues share.
 use crate::handle::SharedHandle;
-use crate::program::{MapSize, Program};
+use crate::program::{nanoseconds, MapSize, Program, CLOCK_MAP};
 use crate::queue::Queue;
 use alloc::string::String;
 use alloc::vec::Vec;
 use core::fmt;
+use core::time::Duration;
 use laxonje_sys as sys;
 
 /// The most queues that share counters.
@@ -15,7 +16,23 @@ pub struct Counters {
     handle: SharedHandle,
     maps: Vec<MapSize>,
     names: Vec<String>,
+    /// The map that the program reads the time from, if it asks for it, and what was added there so far.
+    clock: Option<u32>,
+    time: u64,
 }
+
+/// There is no such counter.
+#[derive(Clone, Copy, Debug, PartialEq, Eq)]
+pub struct NoCounter;
+
+impl fmt::Display for NoCounter {
+    fn fmt(&self, to: &mut fmt::Formatter<'_>) -> fmt::Result {
+        to.write_str("there is no such counter")
+    }
+}
+
+#[cfg(feature = "std")]
+impl std::error::Error for NoCounter {}
 
 /// Why a queue doesn't share counters, or there are none to share.
 #[derive(Clone, Copy, Debug, PartialEq, Eq)]
@@ -70,12 +87,30 @@ impl Counters {
     pub fn new(program: &Program, queues: usize) -> Result<Counters, ShareError> {
         let mut handle = SharedHandle::none();
         ShareError::of(handle.make(&program.handle, queues))?;
-        Ok(Counters { handle, maps: program.maps().to_vec(), names: program.map_names().to_vec() })
+        let (maps, names) = (program.maps().to_vec(), program.map_names().to_vec());
+        Ok(Counters { handle, maps, names, clock: program.map_named(CLOCK_MAP), time: 0 })
     }
 
     /// A counter, by one atomic load, while queues on other threads go on: 0 if there is no such counter.
     pub fn at(&mut self, map: u32, entry: u32, counter: u32) -> u64 {
         self.handle.at(map, entry, counter)
+    }
+
+    /// Adds to a counter, by one atomic addition, while queues on other threads go on.
+    pub fn add(&mut self, map: u32, entry: u32, counter: u32, amount: u64) -> Result<(), NoCounter> {
+        match self.handle.add(map, entry, counter, amount) {
+            sys::LAXONJE_ADDED => Ok(()),
+            _ => Err(NoCounter),
+        }
+    }
+
+    /// The time that programs get by these counters, if they ask for it: that of the latest call, and 0 before the first. It doesn't go back.
+    pub fn set_time(&mut self, time: Duration) {
+        let now = nanoseconds(time);
+        let later = self.clock.zip(now.checked_sub(self.time));
+        if later.map_or(false, |(map, by)| self.add(map, 0, 0, by).is_ok()) {
+            self.time = now;
+        }
     }
 
     /// All of them, in the places that [`Program::place`] says, each by a load of its own.

@@ -205,7 +205,7 @@ impl Served {
             1 => drop(self.queue.relist(program)),
             2 => assert!(self.queue.offer(Offers { tcpv4: random.one_in(2), tcpv6: true }).is_ok() != self.abandoned),
             3 => assert!(self.queue.accept(Accepts { checksum: true, ..Accepts::default() }).is_ok() != self.abandoned),
-            4 => drop(counters.map(|counters| (self.queue.share(counters), counters.all()))),
+            4 => drop(counters.map(|counters| (self.queue.share(counters), counters.add(random.word(), 0, 0, 7), counters.all()))),
             _ => assert!(self.queue.packet(&mut vec![0; random.length()]) <= MOST_BYTES),
         }
         let _ = (self.queue.flags(), self.queue.segments(), self.queue.last_grant(), format!("{:?}", self.queue));

@@ -2,11 +2,12 @@
 mod memory;
 
 use laxonje::{
-    Action, Awaited, Counters, DeliverError, Delivery, Extent, Guest, Halt, Indices, MakeError, Program, Queue, Refusal, ReplaceError,
-    Setup, ShareError, Stopped, Turn, TurnRun, MOST_SHARES,
+    Action, Awaited, Counters, DeliverError, Delivery, Extent, Guest, Halt, Indices, MakeError, NoCounter, Program, Queue, Refusal,
+    ReplaceError, Setup, ShareError, Stopped, Turn, TurnRun, MOST_SHARES,
 };
 use memory::{answers, setup, udp, Memory, DATA, RX, TX};
 use std::thread;
+use std::time::Duration;
 
 const OKAY: i16 = 0;
 const ERROR: i16 = -1;
@@ -49,6 +50,60 @@ fn a_packet_passes_and_is_counted() {
     assert_eq!(queue.counters()[program.place(0, 17, 0).unwrap()], 1);
     assert_eq!(queue.turn(&mut guest), Turn::Idle);
     assert_eq!(queue.indices(), Ok(Indices { tx: 1, rx: 0 }));
+}
+
+/// Drops packets in even seconds, as examples/host/clock.c, and passes others.
+const ODD_SECONDS: &str =
+    "program = [\"bfa2000000000000\", \"07020000fcffffff\", \"620afcff00000000\", \"18110000000000000000000000000000\",
+    \"8500000001000000\", \"1500040000000000\", \"7900000000000000\", \"3700000000ca9a3b\", \"5700000001000000\", \"0700000001000000\",
+    \"9500000000000000\"]\nmap = [{ name = \"bpf_ktime_get_ns\", entries = 1 }]";
+
+#[test]
+fn a_program_gets_the_time_that_its_queue_is_given() {
+    let (program, other) = (Program::from_settings(ODD_SECONDS.as_bytes()).unwrap(), counts());
+    assert_eq!((program.clock(), other.clock()), (Some(0), None));
+    let mut guest = Memory::new();
+    let mut queue = guest.queue(&other, Indices::default());
+    queue.set_time(Duration::MAX);
+    assert!(!queue.asks_for_time() && queue.counters().iter().all(|count| *count == 0));
+    let reference = guest.grant(0, false);
+    guest.fill(0, &udp(60));
+    let mut index = 0;
+    let mut turn = |queue: &mut Queue| {
+        guest.send(index, reference, 0, 60);
+        index += 1;
+        action(queue.turn(&mut guest))
+    };
+    queue.replace(&program).unwrap();
+    assert!(queue.asks_for_time());
+    assert_eq!(turn(&mut queue), Action::Drop, "the time is 0 before it is set");
+    for (milliseconds, wanted) in
+        [(999, Action::Drop), (1000, Action::Pass), (1999, Action::Pass), (1000, Action::Pass), (2000, Action::Drop)]
+    {
+        queue.set_time(Duration::from_millis(milliseconds));
+        assert_eq!(turn(&mut queue), wanted, "{milliseconds}");
+    }
+    // a program with the same maps goes on with the time, which isn't added up
+    queue.set_time(Duration::from_secs(3));
+    queue.replace(&program).unwrap();
+    assert_eq!((turn(&mut queue), queue.counters()), (Action::Pass, &[3_000_000_000][..]));
+    queue.set_time(Duration::MAX);
+    assert_eq!(queue.counters(), [u64::MAX]);
+    queue.replace(&other).unwrap();
+    queue.set_time(Duration::from_secs(1));
+    assert!(!queue.asks_for_time() && queue.counters().iter().all(|count| *count == 0));
+}
+
+#[test]
+fn a_queue_says_whether_its_program_runs_alone() {
+    let text = COUNT.to_owned() + "\n[[map]]\nname = \"bpf_spin_lock\"\nentries = 1\n";
+    let (alone, other) = (Program::from_settings(text.as_bytes()).unwrap(), counts());
+    assert!(alone.runs_alone() && !other.runs_alone());
+    let mut queue = Memory::new().queue(&alone, Indices::default());
+    for (program, wanted) in [(&alone, true), (&other, false), (&alone, true)] {
+        queue.replace(program).unwrap();
+        assert_eq!(queue.runs_alone(), wanted);
+    }
 }
 
 #[test]
@@ -280,6 +335,12 @@ fn queues_on_threads_share_counters_and_lose_none() {
     });
     assert_eq!(counters.at(0, 17, 0), u64::from(TURNS) * MOST_SHARES as u64);
     assert_eq!((counters.at(0, 6, 0), counters.at(1, 0, 0)), (0, 0));
+    for (map, entry, counter) in [(1, 0, 0), (0, 256, 0), (0, 0, 1)] {
+        assert_eq!(counters.add(map, entry, counter, 5), Err(NoCounter));
+    }
+    assert_eq!(counters.add(0, 6, 0, 5), Ok(()));
+    assert_eq!(counters.add(0, 6, 0, u64::MAX - 4), Ok(()), "modulo 2^64");
+    counters.set_time(Duration::MAX);
     assert_eq!((counters.all()[17], counters.all().iter().sum()), (counters.at(0, 17, 0), counters.at(0, 17, 0)));
     let (guest, queue) = &mut served[0];
     assert_eq!(queue.counters().iter().sum::<u64>(), 0);
@@ -290,6 +351,27 @@ fn queues_on_threads_share_counters_and_lose_none() {
     assert!(counters.fit(&program) && !counters.fit(&answers(2)));
     queue.replace(&answers(2)).unwrap();
     assert_eq!(late.share(&mut counters), Err(ShareError::Seats));
+}
+
+#[test]
+fn queues_that_share_counters_get_one_time_that_does_not_go_back() {
+    let program = Program::from_settings(ODD_SECONDS.as_bytes()).unwrap();
+    let mut counters = Counters::new(&program, 2).unwrap();
+    let mut served: Vec<_> = (0..2).map(|_| Memory::new()).map(|guest| (guest.queue(&program, Indices::default()), guest)).collect();
+    served.iter_mut().for_each(|(queue, _)| queue.share(&mut counters).unwrap());
+    for (index, (milliseconds, wanted)) in (0..).zip([(999, Action::Drop), (1000, Action::Pass), (999, Action::Pass), (2000, Action::Drop)])
+    {
+        counters.set_time(Duration::from_millis(milliseconds));
+        for (queue, guest) in &mut served {
+            queue.set_time(Duration::from_secs(9));
+            let reference = guest.grant(0, false);
+            guest.send(index, reference, 0, 60);
+            assert_eq!(action(queue.turn(guest)), wanted, "{milliseconds}");
+        }
+    }
+    assert_eq!(counters.at(0, 0, 0), 2_000_000_000);
+    counters.set_time(Duration::MAX);
+    assert_eq!(counters.at(0, 0, 0), u64::MAX);
 }
 
 #[test]

@@ -166,10 +166,11 @@ impl Serving {
             let place = Place { domain: self.domain, device: connect.device, queue: number, connection: connect.connection };
             let (stalled, log) = (Arc::clone(&stalled), log.clone());
             let (notifies, scatters) = (connect.notifies, connect.scatters);
-            workers.push(Worker { place, guest, events, queue, tap: Tap::of(tap), totals, stalled, log, notifies, scatters });
+            let (tap, counters) = (Tap::of(tap), SharedCounters::default());
+            workers.push(Worker { place, guest, events, queue, counters, tap, totals, stalled, log, notifies, scatters });
         }
         let counters = SharedCounters::of(program, workers.len());
-        workers.iter_mut().for_each(|worker| counters.share(&mut worker.queue));
+        workers.iter_mut().for_each(|worker| worker.share(counters.clone()));
         self.start(connect.device, workers, counters)
     }
 

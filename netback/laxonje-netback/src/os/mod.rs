@@ -8,7 +8,7 @@ mod socket;
 mod tap;
 mod wait;
 
-pub use clock::thread_time;
+pub use clock::{monotonic_time, thread_time};
 pub use lock::lock;
 pub use memory::{limit_memory, look_for_memory};
 pub use privileges::{

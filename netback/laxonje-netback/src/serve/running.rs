@@ -105,7 +105,8 @@ impl Running {
 
     /// Asks the guest for a notice of its next packet. Returns whether there is one by now.
     fn arm(&mut self) -> Result<bool, Ended> {
-        let turn = self.worker.queue.turn(&mut self.worker.guest);
+        self.worker.give_time();
+        let turn = self.worker.turn();
         let more = turn != Turn::Idle;
         self.after_turn(turn)?;
         self.send_notice()?;
@@ -175,17 +176,16 @@ impl Running {
                     let Worker { queue, guest, .. } = &self.worker;
                     let _ = to.send(Told { counters: queue.counters().to_vec(), rings: Some(guest.rings()) });
                 }
-                Order::Replace(program, counters) => self.replace(&program, &counters),
+                Order::Replace(program, counters) => self.replace(&program, counters),
             }
         }
         true
     }
 
-    fn replace(&mut self, program: &Program, counters: &SharedCounters) {
-        let Worker { queue, log, .. } = &mut self.worker;
-        match queue.replace(program) {
-            Ok(()) => counters.share(queue), // one that has kept its counters shares these already
-            Err(why) => log.line(&format!("the filter isn't replaced: {why}")),
+    fn replace(&mut self, program: &Program, counters: SharedCounters) {
+        match self.worker.queue.replace(program) {
+            Ok(()) => self.worker.share(counters), // one that has kept its counters shares these already
+            Err(why) => self.worker.log.line(&format!("the filter isn't replaced: {why}")),
         }
     }
 
@@ -233,9 +233,10 @@ impl Running {
             return Ok(false);
         }
         let end = self.worker.guest.fetch().map_err(Ended::Failed)?;
+        self.worker.give_time();
         let mut count = 0;
         while !self.worker.guest.is_done(end) && count < BUDGET {
-            let turn = self.worker.queue.turn(&mut self.worker.guest);
+            let turn = self.worker.turn();
             if turn == Turn::Idle {
                 break;
             }

@@ -4,11 +4,11 @@ use super::counting::SharedCounters;
 use super::guest::{XenGuest, COPIES_BYTES, OWN_DOMAIN, RX_RING, TABLE_FRAMES, TX_RING};
 use super::running::Running;
 use crate::log::Log;
-use crate::os::{restrict_to_packets, Tap};
+use crate::os::{monotonic_time, restrict_to_packets, Tap};
 use crate::panics::{caught, PACKET_THREAD};
 use crate::stats::{Rings, Totals};
 use crate::xen::{Events, Grants};
-use laxonje::{Halt, MakeError, Program, Queue, Setup};
+use laxonje::{Halt, MakeError, Program, Queue, Setup, Turn};
 use std::io::{self, Write};
 use std::mem::size_of;
 use std::os::unix::net::UnixStream;
@@ -120,6 +120,8 @@ pub struct Worker {
     pub guest: XenGuest<Grants>,
     pub events: Events,
     pub queue: Queue,
+    /// What it counts by, if the queues of its device share that.
+    pub counters: SharedCounters,
     pub tap: Tap,
     pub totals: Arc<Totals>,
     /// How many queues of the device are stalled for so long that its carrier is away.
@@ -155,6 +157,26 @@ pub fn make_queue(program: &Program, guest: &XenGuest<Grants>, domain: u16, ifin
 }
 
 impl Worker {
+    /// Gives the filter the time of the turns that follow, if it asks for it.
+    pub fn give_time(&mut self) {
+        if self.queue.asks_for_time() {
+            let time = monotonic_time();
+            self.queue.set_time(time);
+            self.counters.set_time(time);
+        }
+    }
+
+    /// Takes a turn: one packet at most.
+    pub fn turn(&mut self) -> Turn {
+        self.counters.turn(&mut self.queue, &mut self.guest)
+    }
+
+    /// From now on it counts by these.
+    pub fn share(&mut self, counters: SharedCounters) {
+        counters.share(&mut self.queue);
+        self.counters = counters;
+    }
+
     /// Starts the thread, which gives up the system calls that it doesn't need first.
     pub fn start(mut self, reports: Reports) -> io::Result<Handle> {
         self.open_batch();

@@ -4,6 +4,9 @@ use crate::serve::counting::SharedCounters;
 use crate::serve::Told;
 use crate::stats::{add, text, Counts, DeviceStats, MapCounts};
 use laxonje::MOST_SHARES;
+use std::sync::mpsc::channel;
+use std::thread;
+use std::time::Duration;
 
 const COUNT_PROTOCOLS: &[u8] = include_bytes!("../../../../../../examples/count-protocols/settings.toml");
 const DATA: u32 = 20;
@@ -90,6 +93,83 @@ fn queues_without_a_share_count_for_themselves() {
         shared.add_to(&mut told);
         assert!(stats(&program, &benches, &told).ends_with(&format!("  counter protocols 17 0 {count}\n")));
     }
+}
+
+#[test]
+fn queues_whose_filter_asks_for_the_time_share_it_and_nobody_is_told_it() {
+    let program = Program::from_settings(with_map("bpf_ktime_get_ns").as_bytes()).unwrap();
+    let clock = program.clock().unwrap();
+    let (mut benches, mut shared) = queues(&program, 2);
+    let time = |shared: &SharedCounters| {
+        let mut told = [Some(Told { counters: Vec::new(), rings: None })];
+        shared.add_to(&mut told);
+        told[0].as_ref().unwrap().counters[clock]
+    };
+    for (seconds, wanted) in [(7, 7), (9, 9), (8, 9)] {
+        shared.set_time(Duration::from_secs(seconds));
+        assert_eq!(time(&shared), wanted * 1_000_000_000);
+    }
+    // a program with the same maps gets the time, and not twice as much
+    replace(&mut benches, &mut shared, &program);
+    shared.set_time(Duration::from_secs(9));
+    assert_eq!(time(&shared), 9_000_000_000);
+    benches.iter_mut().for_each(|bench| bench.send_udp(1));
+    let mut told: Vec<_> = benches.iter().map(|bench| Some(bench.told())).collect();
+    shared.add_to(&mut told);
+    let said = stats(&program, &benches, &told);
+    assert!(said.ends_with("  counter protocols 17 0 2\n") && !said.contains("ktime"), "{said}");
+    // another one's counters begin at 0
+    let (plain, none) = (self::program(), SharedCounters::default());
+    replace(&mut benches, &mut shared, &plain);
+    shared.set_time(Duration::from_secs(10));
+    none.set_time(Duration::from_secs(10));
+    replace(&mut benches, &mut shared, &program);
+    assert_eq!(time(&shared), 0);
+    shared.set_time(Duration::from_secs(11));
+    assert_eq!(time(&shared), 11_000_000_000);
+}
+
+/// Settings of one more map, which no program uses.
+fn with_map(name: &str) -> String {
+    String::from_utf8_lossy(COUNT_PROTOCOLS).into_owned() + &format!("\n[[map]]\nname = \"{name}\"\nentries = 1\n")
+}
+
+#[test]
+fn one_queue_at_a_time_takes_a_turn_if_the_filter_wants_that() {
+    let (alone, plain) = (with_map("bpf_spin_lock"), with_map("bpf_spin_locks"));
+    for (first, second, waits) in [(&alone, &alone, true), (&plain, &alone, true), (&plain, &plain, false), (&alone, &plain, false)] {
+        let [first, second] = [first, second].map(|text| Program::from_settings(text.as_bytes()).unwrap());
+        let mut shared = SharedCounters::of(&first, 2);
+        shared.replace(&second, 2);
+        let held = shared.alone();
+        let (to, from) = channel();
+        thread::scope(|scope| {
+            scope.spawn(|| {
+                let mut bench = Bench::of(Way::Copy, &first);
+                bench.queue.replace(&second).unwrap();
+                shared.share(&mut bench.queue);
+                to.send(None).unwrap();
+                to.send(Some(shared.turn(&mut bench.queue, &mut bench.guest))).unwrap();
+            });
+            assert_eq!(from.recv(), Ok(None));
+            let turn = from.recv_timeout(Duration::from_millis(if waits { 200 } else { 20_000 }));
+            assert_eq!(turn.is_err(), waits);
+            drop(held);
+            assert_eq!(turn.or_else(|_| from.recv()), Ok(Some(Turn::Idle)));
+        });
+    }
+    // a queue by itself waits for nobody, and a panic leaves the turn to others
+    let none = SharedCounters::default();
+    assert!(none.alone().is_none() && none.alone().is_none());
+    let shared = SharedCounters::of(&Program::from_settings(alone.as_bytes()).unwrap(), 2);
+    let panicked = thread::scope(|scope| {
+        let body = || {
+            let _held = shared.alone();
+            panic!("planted")
+        };
+        scope.spawn(body).join()
+    });
+    assert!(panicked.is_err() && shared.alone().is_some());
 }
 
 /// The orders that the queues of a device get: another program, and what they share then.
