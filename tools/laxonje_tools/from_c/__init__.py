@@ -6,6 +6,7 @@
     calls     functions and helpers whose calls are written out
     helpers   instructions that do what a helper does
     tables    hash maps to which a program adds rows
+    stale     rows of these that are used after an update
     frames    how much of the stack a function uses
     absent    what isn't here, with Linux's answer where there is none of it either
     own_device  redirects to the device that a packet came from

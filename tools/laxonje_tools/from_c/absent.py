@@ -10,7 +10,7 @@ if TYPE_CHECKING:
     from collections.abc import Mapping
 
 # what a command may say is left out; the first two have the kinds of maps below, by their numbers in Linux's uapi/linux/bpf.h
-LEFT_OUT = DEVICES, EVENTS, PRINTS, LOCKS = "devices", "events", "prints", "locks"
+LEFT_OUT = DEVICES, EVENTS, LOCKS = "devices", "events", "locks"
 DEVICE_MAPS = 14, 25  # by their number or a hash of it, of which each may be sent a copy
 KINDS = {14: DEVICES, 15: DEVICES, 16: DEVICES, 17: DEVICES, 18: DEVICES, 25: DEVICES, 4: EVENTS, 27: EVENTS}
 LOOKUP, REDIRECT, REDIRECT_MAP = 1, 23, 51

@@ -9,7 +9,8 @@ import struct
 from functools import partial
 from typing import TYPE_CHECKING, AbstractSet, Callable, Iterator, NamedTuple, Optional
 
-from .absent import DEVICES, LOCKS, PRINTS, REDIRECT, REDIRECT_MAP, SENT_BACK
+from .absent import DEVICES, LOCKS, REDIRECT, REDIRECT_MAP, SENT_BACK
+from .calls_apart import with_calls_apart
 from .elf import SLOT_BYTES
 from .frames import below_frames, check_frames, frame_of, move_frame, named_by
 from .helpers import END_FIELD, START_FIELD, action_in_flags, compared_with_mtu, copied, redirected, updated, words_of
@@ -17,11 +18,13 @@ from .lines import (
     CALL, EXIT, JUMP, MOV_CONSTANT, SAVED, STACK_BYTES, Fault, Line, constant_in, lines_of, map_in, packed, put_all, read_later, set_in,
     stack_place_in, writes, written,
 )  # fmt: skip
+from .one_queue import HOSTS, ONE_QUEUE
 from .own_device import sent_back
-from .repeated import EACH, LOOP, NAMES, check_flags, for_each, repeated
+from .repeated import EACH, LOOP, NAMES, check_flags, for_each, repeated, with_kept
 from .sequences import answered, sequence_of
+from .stale import check_rows
 from .sums import summed_of
-from .tables import HASHES, OF_ROWS, Writing, table_of, with_row
+from .tables import HASHES, LOOKUP, OF_ROWS, Writing, changes_rows, parts_stored, table_of, with_row
 
 if TYPE_CHECKING:
     from collections.abc import Mapping
@@ -36,6 +39,7 @@ SUB, LOAD_WORD, LOAD_DOUBLE, STORE_DOUBLE, STORE_DOUBLE_CONSTANT = 0x1F, 0x61, 0
 UPDATE, ANY, THERE = 2, 0, 2  # the latter two are flags: BPF_ANY, BPF_EXIST
 LOCK, UNLOCK, PRINTK, CPU, CSUM_DIFF, CHECK_MTU, VPRINTK, BUFF_LEN, LOAD_BYTES, STORE_BYTES = 93, 94, 6, 8, 28, 163, 177, 188, 189, 190
 WITHOUT_LOCK = "the lock is left out: while another queue judges too, what it guards isn't done in one step"
+ONE_AT_A_TIME = f"the lock is left out: {HOSTS}"
 TO_ITS_DEVICE = "bpf_redirect to the device that the packet came from gives XDP_TX"
 OF_ODD_SIZES = "bpf_csum_diff of a size that is no multiple of 4 gives -EINVAL, as in Linux before 6.13"
 OF_ITS_DEVICE = "bpf_check_mtu answers for the packet's own device, with an MTU of {}; any other device isn't there (-ENODEV)"
@@ -77,7 +81,8 @@ class Array(NamedTuple):
 class Calls:
     """The functions of a file, and of a call the one that it leads to. `absent`: what is left out. `maps`: arrays and hash maps by their
     names. `frames`: by name how much of the stack a function uses, None of an object file. `mtu`:
-    that of the device that packets come from, None if it isn't said; `clock`: the nanoseconds between two calls for the time, the same."""
+    that of the device that packets come from, None if it isn't said; `clock`: the nanoseconds between two calls for the time, None if the
+    host writes it."""
 
     def __init__(
         self,
@@ -92,6 +97,7 @@ class Calls:
         self.functions, self.relocations, self.absent, self.frames = functions, relocations, absent, frames
         self.arrays = {name: row for name, row in maps.items() if not row.is_hash}
         self.hashes, self.tables = {name: row for name, row in maps.items() if row.is_hash}, {}
+        self.looked_up, self.changed = {}, {}  # by the last line in the place of a call the table
         self.mtu, self.clock, self.notes, self.sent_back, self.maps = mtu, clock, [], set(), {}
         self.blank = set()  # words of the stack that a call may leave as they are, and that clang may load before it looks at the answer
 
@@ -101,6 +107,7 @@ class Calls:
         is_shown = self.frames is not None or below_frames(lines) is None
         if not is_shown and used > own:
             check_frames(lines)
+        check_rows(lines, self.looked_up, self.changed)
         for line in lines:
             if line.row is not None and self.absent.has(line.row.name):
                 line.put(MOV_CONSTANT, line.destination, 0, 0, self.absent.flags_of(line.row.name))
@@ -115,13 +122,23 @@ class Calls:
             if (here.section, here.place) in seen:
                 continue
             seen.add((here.section, here.place))
-            lines = lines_of(here.code, list(self.relocations(here)))
+            lines = self.lines_in(here)
             for line in lines:
                 is_update = (line.opcode, line.source, line.immediate) == (CALL, 0, UPDATE) and line.row is None
                 found |= {map_in(lines, line, 1)} & self.hashes.keys() if is_update else set()
                 place = (line.row.section, line.row.place) if line.row is not None else None
                 todo += [other for other in (self.called(here, line), self.function_at(place)) if other is not None]
         return found
+
+    def lines_in(self, function: Function) -> list[Line]:
+        """A function's lines, with calls of which each has one map, and one constant, where it needs them."""
+        return with_calls_apart(lines_of(function.code, list(self.relocations(function))), self.is_known)
+
+    def is_known(self, lines: list[Line], call: Line) -> bool:
+        """Whether the lines in front of a call say what it needs."""
+        needs_map = call.immediate in OF_ROWS and (self.tables or call.immediate != LOOKUP)
+        needs_constant = call.immediate in (UPDATE, LOAD_BYTES, STORE_BYTES)
+        return (not needs_map or map_in(lines, call, 1) is not None) and (not needs_constant or constant_in(lines, call, 4) is not None)
 
     def function_at(self, place: Optional[tuple[str, int]]) -> Optional[Function]:
         """The function that stands there, as (section, place); None if there is none."""
@@ -133,7 +150,7 @@ class Calls:
 
     def inlined(self, function: Function, depth: int, above: int, origin: Optional[int] = None) -> Inlined:
         """A function's lines without calls. `depth`: how many calls lead to it; `above`: the stack that they use."""
-        lines = lines_of(function.code, list(self.relocations(function)))
+        lines = self.lines_in(function)
         used, needed = above + self.frame(function), read_later(lines)
         deepest = [used]
         if depth:
@@ -148,7 +165,7 @@ class Calls:
                 if called is not None:
                     inner = self.call(line, called, depth, used, needed[line])
                 elif again is not None:
-                    inner = self.again(line, lines, used, partial(self.call, function=again, depth=depth, needed=needed[line]))
+                    inner = with_kept(self.again(line, lines, used, partial(self.call, function=again, depth=depth, needed=frozenset())), needed[line])
                 else:
                     inner = Inlined(self.helped(line, lines, used), used)
                 out += inner.lines
@@ -233,7 +250,7 @@ class Calls:
             return put_all(line, [(MOV_CONSTANT, 0)])
         sequence = sequence_of(number, self.clock)
         if sequence is not None:
-            self.notes.append((line.origin, sequence.note))
+            self.notes += [] if any(sequence.note == words for _, words in self.notes) else [(line.origin, sequence.note)]
             self.maps[sequence.map] = None
             return answered(line, sequence, above)
         constant, named = (partial(of, lines, line) for of in (constant_in, map_in))
@@ -249,10 +266,12 @@ class Calls:
         if number == REDIRECT_MAP and DEVICES in self.absent.left_out:
             self.notes.append((line.origin, "bpf_redirect_map gives the action in its flags, as in Linux while the map is empty"))
             return action_in_flags(line)
-        if number in (LOCK, UNLOCK) and LOCKS in self.absent.left_out:
-            self.notes.append((line.origin, WITHOUT_LOCK))
+        if number in (LOCK, UNLOCK):
+            is_alone = LOCKS in self.absent.left_out
+            self.maps.update({} if is_alone else {ONE_QUEUE: None})
+            self.notes.append((line.origin, WITHOUT_LOCK if is_alone else ONE_AT_A_TIME))
             return put_all(line, [(MOV_CONSTANT, 0)])
-        if number in (PRINTK, VPRINTK) and PRINTS in self.absent.left_out:
+        if number in (PRINTK, VPRINTK):
             self.notes.append((line.origin, "what it prints is left out, and the answer is 0"))
             return put_all(line, [(MOV_CONSTANT, 0)])
         if number == CHECK_MTU and self.mtu is not None:
@@ -262,8 +281,9 @@ class Calls:
             return put_all(line, [(LOAD_WORD, 0, 1, END_FIELD), (LOAD_WORD, 1, 1, START_FIELD), (SUB, 0, 1)])
         if number in (LOAD_BYTES, STORE_BYTES):
             size = constant(4)
-            self.blank |= words_of(stack_place_in(lines, line, 3), size or 0) if number == LOAD_BYTES else set()
-            return copied(line, size, number == STORE_BYTES)
+            place = stack_place_in(lines, line, 3)
+            self.blank |= words_of(place, -(place or 0) if size is None else size) if number == LOAD_BYTES else set()
+            return copied(line, size, number == STORE_BYTES, place)
         if number == UPDATE and map_in(lines, line, 1) in self.arrays and constant_in(lines, line, 4) in (ANY, THERE):
             return updated(line, self.arrays[map_in(lines, line, 1)].parts, above)
         if number == CSUM_DIFF:
@@ -277,10 +297,13 @@ class Calls:
         number = line.immediate
         if name is None:
             raise Fault(f"calls {OF_ROWS[number]} of one map or another, and the program adds rows to {', '.join(self.tables)}: call it in each branch")
-        table = self.tables[name]
+        table, self.maps[ONE_QUEUE] = self.tables[name], None
         if number == UPDATE and not any(table.note in words for _, words in self.notes):
             self.notes.append((line.origin, table.note))
-        return with_row(Writing(line, table, above), number, flags, self.hashes[name].parts)
+        made = with_row(Writing(line, table, above), number, flags, parts_stored(table, self.hashes[name].parts))
+        self.looked_up.update({made[-1]: name} if number == LOOKUP else {})
+        self.changed.update({made[-1]: name} if changes_rows(table, number, flags) else {})
+        return made
 
 
 def has_calls(code: bytes) -> Iterator[int]:

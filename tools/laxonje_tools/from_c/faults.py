@@ -23,9 +23,13 @@ INLINED_LATER = ("memcmp", "memcpy", "memmove", "memset")
 ARRAYS, PER_CPU, KEYED = (2, 6), (5, 6, 10), {1: EXACT, 5: EXACT, 9: EXACT, 10: EXACT, 11: PREFIX}
 
 NO_ROWS = (
-    "a program adds no row and takes none away: keep state by address in a BPF_MAP_TYPE_ARRAY, under a hash of the address, as"
-    " examples/straightened/budget-by-source does; or --tables keeps the rows of a hash map in an array, which may be full sooner than in"
-    " Linux; the rows of a list are given by --list"
+    "a program adds rows to an LRU hash and to a hash of at most 16384 entries: make it one; --tables takes a larger hash, which is full"
+    " sooner than in Linux; or keep state by address in a BPF_MAP_TYPE_ARRAY, under a hash of the address, as"
+    " examples/straightened/budget-by-source does; the rows of a list are given by --list"
+)
+OTHERS_ROWS = (
+    "a program takes rows away only from a hash to which it adds some, of more than 16384 entries with --tables: those of a list are the"
+    " host's, given by --list"
 )
 LISTED = f"{NO_ROWS}; or make it a BPF_MAP_TYPE_HASH, if it is such a list"
 NO_REDIRECT = (
@@ -67,12 +71,6 @@ MAP_TYPES = {
     32: ("CGRP_STORAGE", NO_STATE),
     33: ("ARENA", NO_STATE),
 }
-NO_CLOCK = (
-    "there is no clock: count here, and judge rates in the host, which reads the counters; or --clock N answers with a"
-    " time that goes on by N nanoseconds at each call"
-)
-NO_PRINTS = "nothing is printed: --without-prints leaves it out, or count it in a map instead"
-NO_LOCKS = "--without-locks leaves it out, which is right while one queue judges at a time; or count by additions alone, `*value += n`"
 NO_RESIZE = "a packet keeps its length: pass it on as it is, or write over its bytes"
 NO_KERNEL = "there is no kernel to ask"
 NO_SOCKETS = "there is no socket here: --without-devices answers as Linux does where there is none"
@@ -80,10 +78,8 @@ NO_HELPER = "docs/FROM-C.md has the helpers that there are"
 # the helpers of Linux's uapi/linux/bpf.h that XDP programs call
 HELPERS = {
     2: ("bpf_map_update_elem", NO_ROWS),
-    3: ("bpf_map_delete_elem", NO_ROWS),
+    3: ("bpf_map_delete_elem", OTHERS_ROWS),
     4: ("bpf_probe_read", NO_KERNEL),
-    5: ("bpf_ktime_get_ns", NO_CLOCK),
-    6: ("bpf_trace_printk", NO_PRINTS),
     12: ("bpf_tail_call", NO_TAIL_CALLS),
     23: ("bpf_redirect", NO_REDIRECT),
     25: ("bpf_perf_event_output", NO_EVENTS),
@@ -98,25 +94,18 @@ HELPERS = {
     87: ("bpf_map_push_elem", NO_STATE),
     88: ("bpf_map_pop_elem", NO_STATE),
     89: ("bpf_map_peek_elem", NO_STATE),
-    93: ("bpf_spin_lock", NO_LOCKS),
-    94: ("bpf_spin_unlock", NO_LOCKS),
     99: ("bpf_skc_lookup_tcp", NO_SOCKETS),
     100: ("bpf_tcp_check_syncookie", NO_SOCKETS),
     110: ("bpf_tcp_gen_syncookie", NO_SOCKETS),
     112: ("bpf_probe_read_user", NO_KERNEL),
     113: ("bpf_probe_read_kernel", NO_KERNEL),
-    118: ("bpf_jiffies64", NO_CLOCK),
-    125: ("bpf_ktime_get_boot_ns", NO_CLOCK),
     130: ("bpf_ringbuf_output", NO_EVENTS),
     131: ("bpf_ringbuf_reserve", NO_EVENTS),
     132: ("bpf_ringbuf_submit", NO_EVENTS),
     133: ("bpf_ringbuf_discard", NO_EVENTS),
-    160: ("bpf_ktime_get_coarse_ns", NO_CLOCK),
     163: ("bpf_check_mtu", "there is no device to ask: --mtu N answers for the packet's own device with this MTU; or compare data_end - data with a number"),
     164: ("bpf_for_each_map_elem", "count the loop by a constant, in C"),
-    177: ("bpf_trace_vprintk", NO_PRINTS),
     195: ("bpf_map_lookup_percpu_elem", "bpf_map_lookup_elem: the counters are shared by all queues"),
-    208: ("bpf_ktime_get_tai_ns", NO_CLOCK),
 }
 
 

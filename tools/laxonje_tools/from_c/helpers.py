@@ -16,11 +16,22 @@ STORE_BYTE, STORE_HALF, STORE_WORD, STORE_DOUBLE = 0x73, 0x6B, 0x63, 0x7B
 DOUBLE = 8  # bytes
 COPIES = {1: (LOAD_BYTE, STORE_BYTE), 2: (LOAD_HALF, STORE_HALF), 4: (LOAD_WORD, STORE_WORD), 8: (LOAD_DOUBLE, STORE_DOUBLE)}  # by size
 IF_ABOVE, IF_ABOVE_CONSTANT, IF_NOT_CONSTANT, IF_EQUAL, IF_EQUAL_CONSTANT, IF_AT_MOST_SIGNED = 0x2D, 0x25, 0x55, 0x1D, 0x15, 0xD5
+IF_AT_LEAST, IF_AT_LEAST_CONSTANT = 0x3D, 0x35
 LOOKUP, TOO_BIG = 1, -7  # the latter is E2BIG
 TOO_FAR, TOO_LONG, MOST_OFFSET = -14, -22, 0xFFFF  # of Linux: EFAULT, EINVAL, and the offset from which on it is the former
 NO_FLAGS, NO_DEVICE, TOO_LARGE, HEADER_BYTES = -22, -19, 1, 14  # of Linux: EINVAL, ENODEV, BPF_MTU_CHK_RET_FRAG_NEEDED; of Ethernet
 MOST_COPIED = 128  # bytes
 START_FIELD, END_FIELD = 0, 4  # of the context
+PLACED = [  # what leaves the place of bytes of a packet in registers 1 and 2, and its end in 5, or an answer in 0
+    (MOV_32, 2, 2),
+    (MOV_CONSTANT, 0, 0, 0, TOO_FAR),
+    (IF_ABOVE_CONSTANT, 2, 0, 0, MOST_OFFSET),
+    (MOV_CONSTANT, 0, 0, 0, TOO_LONG),
+    (LOAD_WORD, 5, 1, END_FIELD),
+    (LOAD_WORD, 1, 1, START_FIELD),
+    (ADD, 1, 2),
+    (MOV_64, 2, 1),
+]
 
 
 def words_of(place: Optional[int], size: int) -> set[int]:
@@ -28,29 +39,42 @@ def words_of(place: Optional[int], size: int) -> set[int]:
     return set() if place is None else {at // DOUBLE * DOUBLE for at in range(place, place + size)}
 
 
-def copied(line: Line, size: Optional[int], is_store: bool) -> list[Line]:
-    """bpf_xdp_load_bytes and bpf_xdp_store_bytes: (context, offset, buffer, size)."""
+def copied(line: Line, size: Optional[int], is_store: bool, place: Optional[int] = None) -> list[Line]:
+    """bpf_xdp_load_bytes and bpf_xdp_store_bytes: (context, offset, buffer, size). `place`: of the buffer on the stack, None if it isn't
+    known there."""
+    if size is None and place is not None:
+        return copied_in_loop(line, is_store, -place)
     if size is None or not 0 < size <= MOST_COPIED:
         name = "bpf_xdp_store_bytes" if is_store else "bpf_xdp_load_bytes"
-        raise Fault(f"calls {name} of a size that isn't a constant of 1 to {MOST_COPIED}: use a constant, or compare and read through data")
-    rows = [
-        (MOV_32, 2, 2),
-        (MOV_CONSTANT, 0, 0, 0, TOO_FAR),
-        (IF_ABOVE_CONSTANT, 2, 0, 0, MOST_OFFSET),
-        (MOV_CONSTANT, 0, 0, 0, TOO_LONG),
-        (LOAD_WORD, 5, 1, END_FIELD),
-        (LOAD_WORD, 1, 1, START_FIELD),
-        (ADD, 1, 2),
-        (MOV_64, 2, 1),
-        (ADD_CONSTANT, 2, 0, 0, size),
-        (IF_ABOVE, 2, 5),
-    ]
+        raise Fault(
+            f"calls {name} of a size that is no constant of 1 to {MOST_COPIED}, and not with a buffer on the stack: use a constant, or compare and"
+            " read through data"
+        )
+    rows = [*PLACED, (ADD_CONSTANT, 2, 0, 0, size), (IF_ABOVE, 2, 5)]
     to, source = (1, 3) if is_store else (3, 1)
     for at in range(size):
         rows += [(LOAD_BYTE, 0, source, at), (STORE_BYTE, to, 0, at)]
     out = put_all(line, [*rows, (MOV_CONSTANT, 0), (JUMP,)])
     for row in out[2], out[9]:
         row.target = out[-1]
+    return out
+
+
+def copied_in_loop(line: Line, is_store: bool, most: int) -> list[Line]:
+    """The same of as many bytes as a register says: a loop of at most so many steps, since Linux lets no program reach past the stack's end;
+    if these are many, what bounds the size bounds the steps. Each byte is compared with the packet's end too."""
+    to, source = (1, 3) if is_store else (3, 1)
+    begin = [*PLACED, (ADD, 2, 4), (IF_ABOVE, 2, 5), (MOV_CONSTANT, 2)]
+    bound = [(IF_AT_LEAST_CONSTANT, 2, 0, 0, most)] if most <= MOST_COPIED else []
+    copy = [(MOV_64, 0, 1), (ADD_CONSTANT, 0, 0, 0, 1), (IF_ABOVE, 0, 5), (LOAD_BYTE, 0, source), (STORE_BYTE, to, 0)]
+    head = [(IF_AT_LEAST, 2, 4), *bound, *copy]
+    step = [(ADD_CONSTANT, register, 0, 0, 1) for register in (1, 3, 2)]
+    out = put_all(line, [*begin, *head, *step, (JUMP,), (MOV_CONSTANT, 0, 0, 0, TOO_LONG), (JUMP,), (MOV_CONSTANT,), (JUMP,)])
+    first, too_long = len(begin), len(begin) + len(head) + len(step) + 1
+    beyond = [9, *range(first + 1, first + 1 + len(bound)), first + 3 + len(bound)]
+    targets = (2, -1), (first, too_long + 2), (too_long - 1, first), (too_long + 1, -1), *((at, too_long) for at in beyond)
+    for at, other in targets:
+        out[at].target = out[other]
     return out
 
 

@@ -9,6 +9,7 @@ from typing import TYPE_CHECKING, AbstractSet, Callable, Iterable, Iterator, Map
 
 from laxonje_tools.straight.command import FUSED
 from laxonje_tools.straight.counts import fused
+from laxonje_tools.straight.parts import CARRIES
 from laxonje_tools.straight.settings import instructions_of
 
 from .elf import MAP_ADDRESS, SLOT_BYTES, Relocation
@@ -286,6 +287,8 @@ def as_it_is(line: Line, low: int) -> list[tuple]:
 def of_counter(line: Line, low: int, whole: int) -> list[tuple]:
     """An access to a number, of so many bytes, that has its counter alone: to all of the counter."""
     size, kind = size_of(line), line.opcode & 7
+    if is_atomic(line) and low + size < whole:
+        raise Fault(CARRIES)
     if kind == LOADS and whole < COUNTER_BYTES:
         back = ARSH_CONSTANT if line.opcode >> 5 == WITH_SIGN else RSH_CONSTANT
         cut = (LSH_CONSTANT, line.destination, 0, 0, 64 - 8 * (low + size)), (back, line.destination, 0, 0, 64 - 8 * size)

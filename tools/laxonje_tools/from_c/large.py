@@ -50,17 +50,25 @@ class InRows(NamedTuple):
         named = {row.name: row.numbers for row in maps_in(sections)}
         types = Types(sections[".BTF"].data) if ".BTF" in sections else None
         named.update((name, types.numbers_of(name)) for name in self.globals if types)
-        return [line for name, layout in self.layouts.items() for line in comments_of(layout, named.get(name, []))]
+        keys = {name: table.keys_name for name, table in self.made.tables.items()}
+        return [line for name, layout in self.layouts.items() for line in comments_of(layout, named.get(name, []), keys.get(name))]
 
 
-def comments_of(layout: Layout, numbers: list[Number]) -> Iterator[str]:
+def comments_of(layout: Layout, numbers: list[Number], keys: Optional[str]) -> Iterator[str]:
+    """`keys`: the map that has the keys of a table."""
     name, each, is_one = layout.shape.name, len(layout.cells), layout.shape.entries == 1
-    first = "row " if is_one else f"row {each}*key + "
+    first = "row " if is_one else f"row {each}*{'key' if keys is None else 'K'} + "
+    where = "" if keys is None else f", where row K of {keys} has its key"
     if layout.unit:
-        yield f"map {name}: byte B of a value lies in {first}B/{layout.unit}: there are {each} rows for each value"
+        yield f"map {name}: byte B of a value lies in {first}B/{layout.unit}{bits_of(layout.unit)}{where}: there are {each} rows for each value"
     for at, cell in enumerate(layout.others, layout.words):
         inside = [row.name for row in numbers if cell.place <= row.place < cell.end]
-        yield f"map {name}: {', '.join(dict.fromkeys(inside)) or f'byte {cell.place} of a value'} is {first}{at}"
+        yield f"map {name}: {', '.join(dict.fromkeys(inside)) or f'byte {cell.place} of a value'} is {first}{at}{bits_of(cell.size)}{where}"
+
+
+def bits_of(size: int) -> str:
+    """Which bits of a row's counter so many bytes have: above these stands what atomic additions carry."""
+    return f", bits 0 to {8 * size - 1}" if size < COUNTER_BYTES else ""
 
 
 def large_values(
@@ -76,14 +84,16 @@ def large_values(
         for row in maps_in(sections)
         if row.type in ARRAYS and row.value_bytes > least and row.name in named
     ]
+    filled = [table for table in made.tables.values() if table.declared.value_bytes > MOST_WHOLE]
+    of_tables = [Shape(row.name, table.rows, row.value_bytes, cells_in(row.numbers), row.type not in PER_CPU) for table in filled for row in [table.declared]]
     variables = {found: size for found, size in variables_in(sections, changed).items() if size > least}
     of_maps = [shape for shape in of_maps if shape.entries and (not is_again or shape.entries * shape.bytes <= MOST_ENTRIES * COUNTER_BYTES)]
     types = Types(sections[".BTF"].data) if ".BTF" in sections else None
     of_globals = [Shape(name, 1, size, cells_in(types.numbers_of(name)) if types else ()) for (_, _, name), size in variables.items()]
-    if not of_maps and not of_globals:
+    if not of_maps and not of_globals and not of_tables or is_again and not of_maps and not of_globals:
         return None
-    arrays = {row.name for row in maps_in(sections) if row.type in ARRAYS}
-    found, layouts = in_rows(made, [*of_maps, *of_globals], arrays, lambda row: in_variable(sections, variables, row))
+    arrays = {row.name for row in maps_in(sections) if row.type in ARRAYS or row.name in made.tables}
+    found, layouts = in_rows(made, [*of_maps, *of_tables, *of_globals], arrays, lambda row: in_variable(sections, variables, row))
     begun = {name: beginning_of(sections, section, place, layouts[name]) for section, place, name in variables}
     return InRows(found, layouts, begun)
 

@@ -3,7 +3,7 @@ from __future__ import annotations
 
 from typing import TYPE_CHECKING, Iterator
 
-from .absent import REDIRECT
+from .absent import DROPPED, REDIRECT
 from .lines import CALL, following_in, reads, writes
 
 if TYPE_CHECKING:
@@ -53,14 +53,21 @@ def held_behind(line: Line, held: Held) -> Held:
 
 
 def is_returned(lines: list[Line], call: Line) -> bool:
-    """Whether nothing is made of a call's answer but that the function returns it."""
+    """Whether nothing is made of a call's answer but that the function returns it, or in its place a constant that is another action:
+    to return XDP_REDIRECT itself sends the packet too."""
     following, seen = following_in(lines), set()
     todo = list(following[call])
     while todo:
         line = todo.pop()
-        if reads(line, ANSWER):
+        if line in seen:
+            continue
+        seen.add(line)
+        if reads(line, ANSWER) or writes(line, ANSWER) and not is_other_action(line):
             return False
-        if line not in seen and not writes(line, ANSWER):
-            seen.add(line)
-            todo += following[line]
+        todo += [] if writes(line, ANSWER) else following[line]
     return True
+
+
+def is_other_action(line: Line) -> bool:
+    """Whether a line gives a register a constant that isn't XDP_REDIRECT."""
+    return line.opcode in MOV_CONSTANTS and line.immediate != DROPPED

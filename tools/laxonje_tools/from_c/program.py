@@ -6,7 +6,7 @@ from typing import TYPE_CHECKING, Callable, Iterable, Iterator, NamedTuple, Opti
 
 from laxonje_tools.output import fail, stop_on
 
-from . import btf, constants, elf, faults
+from . import btf, constants, elf, faults, one_queue, sequences
 from .absent import Absent, kinds_of
 from .calls import Array, Calls, Fault, Replaced, has_calls
 from .changed import stored_to
@@ -17,7 +17,7 @@ from .large import large_values
 from .lines import STACK_BYTES, packed
 from .maps import SizedMap, maps_of, notes_of, settings_of
 from .memory import COUNTER_BYTES, faults_of_memory, memory_of
-from .tables import HASHES
+from .tables import may_be_table
 from .values import SIZES, Constant, set_values, values_of
 from .zeros import with_additions
 
@@ -73,8 +73,8 @@ class Asked(NamedTuple):
     """What a command asks for: a file, maps whose sizes it gives, which function, if the file has several, numbers of
     constants, as (name, number), what is left out, in the words of `absent`, entries of declared maps, as (name, number),
     files with the rows of maps, and with what their counters begin with, as (name, path), the MTU of the packets' device, and the
-    nanoseconds between two calls for the time. `tables`: whether hash maps to which the program adds rows are tables; `zeros`: whether the
-    stack begins with zeros."""
+    nanoseconds between two calls for the time, None if the host writes it. `tables`: whether large hash maps to which the program adds rows
+    are tables too; `zeros`: whether the stack begins with zeros."""
 
     source: str
     maps: Iterable[SizedMap] = ()
@@ -217,7 +217,8 @@ def with_rows(given: Given, is_again: bool) -> Optional[Filter]:
         "numbers": numbers_of(sections, declared, memory.maps),
         "stack": made.stack,
         "laid": [] if large is None else large.comments(sections),
-        "filled": [table.comment for table in made.tables.values()],
+        "alone": sorted(made.tables),
+        "filled": [*(table.comment for table in made.tables.values()), *sequences.comments_of(made.maps), *one_queue.comments_of(made.maps)],
     }
     per_cpu = {row.name for row in declared if row.type in faults.PER_CPU}
     narrow = {row.name for row in declared if row.has_parts} | (set() if large is None else large.narrow)
@@ -234,8 +235,8 @@ def without_calls(
     if next(has_calls(function.code), None) is None and not any(found.has(row.name) for row in relocations):
         return Replaced(function.code, relocations, range(len(function.code) // 8), [], [], stack_of(function.code, function.name, frames))
     entries = {**dict(asked.entries), **{name: number for name, number, _ in asked.maps}}
-    declared = [row for row in btf.maps_in(sections) if row.type in faults.ARRAYS or asked.tables and row.type in HASHES]
-    declared = [row._replace(entries=entries.get(row.name, row.entries)) for row in declared]
+    declared = [row._replace(entries=entries.get(row.name, row.entries)) for row in btf.maps_in(sections)]
+    declared = [row for row in declared if row.type in faults.ARRAYS or may_be_table(row, asked.tables)]
     maps = {row.name: Array(parts_of_value(row), row.entries, row) for row in declared}
     functions = list(elf.functions_of(sections))
     calls = Calls(functions, lambda of: relocations_in(sections, of), found, maps, frames, asked.mtu, asked.clock)

@@ -2,9 +2,11 @@
 keys are an array of their own.
 
 A row lies in one of the few places that its key's hash gives. What the program looks up is found there; what it adds takes the first
-place that is free. If there is none, a new row takes the place of another one in an LRU hash, and in another hash it isn't added: Linux does
-so if the whole map is full. A command has to say that it is wanted. The last counter of a key has a bit, or a counter behind it, that says
-that there is a row."""
+place that is free. If there is none, a new row takes the place of another one in an LRU hash, as in Linux, which drops rows as well before the
+map is full. In another hash it isn't added, which Linux does only if the whole map is full. By chance that is rare in a table of four rows for
+each entry; of a larger map a command has to say that it is wanted. A count of the rows sees to it that there are never more than in Linux.
+The last counter of a key has a bit, or a counter behind it, that says that there is a row. One queue at a time judges: two that add rows at
+one place would mix them."""
 from __future__ import annotations
 
 from dataclasses import dataclass, field
@@ -13,6 +15,7 @@ from typing import TYPE_CHECKING, Iterator, NamedTuple, Optional
 from .elf import MAP_ADDRESS, SLOT_BYTES, Relocation
 from .faults import ARRAYS, COUNTER_BYTES, INDEX_BYTES, MOST_COUNTERS, MOST_ENTRIES, PER_CPU
 from .lines import CALL, JUMP, MOV_CONSTANT, STACK_BYTES, WIDE, Fault, Line, packed
+from .one_queue import HOSTS
 from .sequences import low_half
 
 if TYPE_CHECKING:
@@ -25,18 +28,21 @@ OF_ROWS = {LOOKUP: "bpf_map_lookup_elem", UPDATE: "bpf_map_update_elem", DELETE:
 HASHES, DROPPING = (1, 5, 9, 10), (9, 10)  # kinds of maps: hashes, and those of them that drop rows
 ANY, NOT_THERE, THERE = 0, 1, 2  # flags: BPF_ANY, BPF_NOEXIST, BPF_EXIST
 FULL, IS_THERE, IS_NONE = -7, -17, -2  # of Linux: E2BIG, EEXIST, ENOENT
+MOST_CONSTANT = (1 << 31) - 1  # of an instruction
 PLACES, MOST_EACH, LEAST_ROWS = 4, 4, 256  # of a hash; rows of the table for each entry; rows of a table
 FRAME, DOUBLE = 10, COUNTER_BYTES
 MOV_64, ADD_CONSTANT, ADD, OR, AND_CONSTANT, LSH_CONSTANT, RSH_CONSTANT, MUL, XOR = 0xBF, 0x07, 0x0F, 0x4F, 0x57, 0x67, 0x77, 0x2F, 0xAF
 LOADS, STORES = {1: 0x71, 2: 0x69, 4: 0x61, 8: 0x79}, {1: 0x73, 2: 0x6B, 4: 0x63, 8: 0x7B}  # by size
 LOAD, STORE, STORE_CONSTANT = LOADS[DOUBLE], STORES[DOUBLE], 0x7A
-IF_EQUAL_CONSTANT, IF_NOT_CONSTANT, IF_NOT = 0x15, 0x55, 0x5D
+IF_EQUAL_CONSTANT, IF_NOT_CONSTANT, IF_NOT, IF_AT_LEAST_CONSTANT, ADD_ATOMICALLY = 0x15, 0x55, 0x5D, 0x35, 0xDB
+MOST_VALUE = 512  # bytes: as many as lie on the stack
 FACTOR, UPPER_HALF, FURTHER = 0x9E3779B97F4A7C15, 32, 24  # of SplitMix64, as `sequences` has it; and of the hash by what a place is chosen
 NOTE = (
-    "the rows that it adds to {} lie in a table of {} rows, of which each key has {}: if other keys have these, {}. So it is full sooner than in"
-    " Linux, or later; and while another queue judges too, two rows that are added at once may get mixed"
+    "the rows that it adds to {} lie in a table of {} rows, of which each key has {}: if other keys have these, {}"
+    f". {HOSTS}"
 )
-DROPS, REFUSES = "a new row takes the place of one of them", "bpf_map_update_elem gives -E2BIG"
+DROPS = "a new row takes the place of one of them. So it is full sooner than in Linux, or later"
+REFUSES = "bpf_map_update_elem gives -E2BIG, as it does if there are as many rows as in Linux. So it may be full sooner"
 
 
 class Table(NamedTuple):
@@ -68,8 +74,14 @@ class Table(NamedTuple):
 
     @property
     def maps(self) -> list[tuple[str, int, int]]:
-        """That of the keys, if it is one of its own: its name, entries and counters."""
-        return [(self.keys_name, self.rows, self.bytes // DOUBLE)] if self.is_apart else []
+        """That of the keys, if it is one of its own, and that of the count, if there is one: names, entries and counters."""
+        of_keys = [(self.keys_name, self.rows, self.bytes // DOUBLE)] if self.is_apart else []
+        return of_keys if self.drops else [*of_keys, (self.count_name, 1, 1)]
+
+    @property
+    def count_name(self) -> str:
+        """Of the map that has the count of rows."""
+        return f"{self.declared.name}.rows"
 
     @property
     def key(self) -> int:
@@ -119,17 +131,40 @@ class Table(NamedTuple):
         return array._replace(value_bytes=self.bytes, numbers=[*self.declared.numbers, *of_key])
 
 
+def may_be_table(declared: MapOfC, is_asked: bool) -> bool:
+    """Whether a map becomes a table if the program adds rows to it. `is_asked`: a command asks for tables."""
+    if declared.type not in HASHES:
+        return False
+    return is_asked or declared.type in DROPPING or MOST_EACH * declared.entries <= MOST_ENTRIES
+
+
 def table_of(declared: MapOfC) -> Table:
     """The table for a map."""
-    wanted = min(MOST_ENTRIES, max(LEAST_ROWS, MOST_EACH * declared.entries))
-    made = Table(declared, 1 << (wanted - 1).bit_length())
     most = DOUBLE * MOST_COUNTERS
-    if not 0 < declared.key_bytes < most or not 0 < declared.value_bytes <= most:
+    if not 0 < declared.key_bytes < most or not 0 < declared.value_bytes <= MOST_VALUE:
         raise Fault(
             f"adds rows to {declared.name}, of which the key has {declared.key_bytes} bytes and the value {declared.value_bytes}: at most"
-            f" {most - 1} and {most}"
+            f" {most - 1} and {MOST_VALUE}"
         )
-    return made
+    fitting = MOST_ENTRIES if declared.value_bytes <= most else MOST_ENTRIES // most_rows(declared)
+    wanted = max(LEAST_ROWS, MOST_EACH * declared.entries)
+    return Table(declared, min(1 << (wanted - 1).bit_length(), 1 << fitting.bit_length() - 1))
+
+
+def most_rows(declared: MapOfC) -> int:
+    """How many rows of its map a value takes at most that has more than settings can have: one for each number, or for each eight bytes."""
+    numbers = declared.numbers
+    return max(len(numbers), declared.counters) + sum(number.size < DOUBLE for number in numbers)
+
+
+def parts_stored(table: Table, parts: list[tuple[int, int]]) -> list[tuple[int, int]]:
+    """The parts of a value that are stored one by one, as (place, size): its numbers, but whole counters if more of these are smaller than
+    there are counters for, and a value isn't several rows."""
+    declared = table.declared
+    is_one = declared.value_bytes <= DOUBLE * MOST_COUNTERS and not declared.value_bytes % DOUBLE
+    if not is_one or declared.counters + sum(size < DOUBLE for _, size in parts) <= MOST_COUNTERS:
+        return parts
+    return [(at, DOUBLE) for at in range(0, declared.value_bytes, DOUBLE)]
 
 
 @dataclass
@@ -194,6 +229,19 @@ class Writing:
         self.out.append(Line(packed(WIDE, 1) + bytes(SLOT_BYTES), self.line.origin, address))
         self.put((MOV_64, 2, FRAME), (ADD_CONSTANT, 2, 0, 0, self.index), (CALL, 0, 0, 0, LOOKUP))
 
+    def count(self) -> None:
+        """The count of rows at register 0, or the end with -E2BIG, which there never is."""
+        address = Relocation(0, MAP_ADDRESS, self.table.count_name, 0)
+        self.put((STORE_CONSTANT, FRAME, 0, self.other), (MOV_64, 2, FRAME), (ADD_CONSTANT, 2, 0, 0, self.other))
+        self.out.append(Line(packed(WIDE, 1) + bytes(SLOT_BYTES), self.line.origin, address))
+        self.put((CALL, 0, 0, 0, LOOKUP), (MOV_64, 1, 0), (MOV_CONSTANT, 0, 0, 0, FULL))
+        self.jump("end", IF_EQUAL_CONSTANT, 1)
+
+    def counted(self, change: int) -> None:
+        """The count, changed by a number."""
+        self.count()
+        self.put((MOV_CONSTANT, 2, 0, 0, change), (ADD_ATOMICALLY, 1, 2))
+
     def begin(self) -> None:
         """The key's words, and the index of the first of its places."""
         for number in range(self.table.words):
@@ -240,14 +288,18 @@ class Writing:
             self.further(number, PLACES)
 
     def claim(self) -> None:
-        """Leads to `write`, with the index of a free row, or goes on."""
+        """Leads to `claimed`, with the index of a free row, or goes on."""
+        if not self.table.drops:
+            self.count()
+            self.put((LOAD, 1, 1))
+            self.jump("end", IF_AT_LEAST_CONSTANT, 1, 0, 0, min(self.table.declared.entries, MOST_CONSTANT))
         self.put((LOAD, 1, FRAME, self.index), (AND_CONSTANT, 1, 0, 0, -PLACES), (STORE, FRAME, 1, self.index))
         for number in range(PLACES):
             following = f"taken {number}"
             self.row(of_keys=True)
             self.jump(following, IF_EQUAL_CONSTANT, 0)
             self.put((LOAD, 1, 0, self.table.mark), *([(RSH_CONSTANT, 1, 0, 0, 8 * self.table.rest)] if self.table.rest else []))
-            self.jump("write", IF_NOT_CONSTANT, 1, 0, 0, 1)
+            self.jump("claimed", IF_NOT_CONSTANT, 1, 0, 0, 1)
             self.mark(following)
             self.further(number, PLACES)
 
@@ -278,6 +330,11 @@ def with_row(writing: Writing, helper: int, flags: Optional[int], parts: list[tu
     return deleted(writing) if helper == DELETE else looked_up(writing)
 
 
+def changes_rows(table: Table, helper: int, flags: Optional[int]) -> bool:
+    """Whether a call changes a row in whose place there is another one in Linux then: not if each processor has values of its own."""
+    return helper == UPDATE and flags != NOT_THERE and table.declared.type not in PER_CPU
+
+
 def looked_up(writing: Writing) -> list[Line]:
     """bpf_map_lookup_elem: (map, key). If there is no row, it is looked up where the table ends."""
     writing.begin()
@@ -304,10 +361,13 @@ def updated(writing: Writing, flags: Optional[int], parts: list[tuple[int, int]]
         writing.claim()
         if writing.table.drops:
             writing.put((LOAD, 1, FRAME, writing.other), (STORE, FRAME, 1, writing.index))
-            writing.jump("write")
+            writing.mark("claimed")
         else:
             writing.put((MOV_CONSTANT, 0, 0, 0, FULL))
             writing.jump("end")
+            writing.mark("claimed")
+            writing.counted(1)
+        writing.jump("write")
     writing.mark("there")
     if flags == NOT_THERE:
         writing.put((MOV_CONSTANT, 0, 0, 0, IS_THERE))
@@ -326,5 +386,8 @@ def deleted(writing: Writing) -> list[Line]:
     writing.mark("there")
     writing.row(of_keys=True)
     writing.jump("end", IF_EQUAL_CONSTANT, 0)
-    writing.put((MOV_CONSTANT, 1), (STORE, 0, 1, writing.table.mark), (MOV_CONSTANT,))
+    writing.put((MOV_CONSTANT, 1), (STORE, 0, 1, writing.table.mark))
+    if not writing.table.drops:
+        writing.counted(-1)
+    writing.put((MOV_CONSTANT,))
     return writing.lines()

@@ -20,7 +20,7 @@ from .settings import as_text, instructions_of, relocations_of, without_rows
 from .shown import ALONE, BY_COUNTS, PROVED, NoComparison, Rewriting, question, shown
 from .split import with_split
 from .verifier import StillRefused, Verdict, verdict
-from .ways import by_copies, by_place, in_rows, reread, searched_again, searches, uncounted, without_counts
+from .ways import by_copies, by_place, by_ways, in_rows, reread, searched_again, searches, uncounted, without_counts
 from .written_out import More, written_out
 
 if TYPE_CHECKING:
@@ -58,7 +58,8 @@ class Straight:
     """A program that is accepted and the same. `labels`: of each slot the kind, and a slot of the original. `notes`: what its author
     should know. `how`: it was shown to be the same. `asked`: what `xdpbox same` was asked of it, None of a program with tests in front of
     accesses that is accepted as it is. `moved`: by map the parts of values that have a counter of their own. `written_out`: settings
-    with the program written out, if it is the same as that; `labels` are of them then. `guards`: how many such tests there are."""
+    with the program written out, if it is the same as that; `labels` are of them then. `guards`: how many such tests there are. `sets_parts`:
+    whether a number of fewer than eight bytes is stored, so that no form is shown in a better way."""
 
     words: list
     relocations: list
@@ -69,6 +70,7 @@ class Straight:
     moved: dict = field(default_factory=dict)
     written_out: Optional[dict] = None
     guards: int = 0
+    sets_parts: bool = False
 
     def comment(self, settings: dict) -> str:
         """The lines that settings with this program have."""
@@ -97,7 +99,8 @@ class Wanted(NamedTuple):
     """`guard`: an access that nothing shows to lie in the packet may get a test in front of it that ends the program. `per_cpu`: whether
     a store's slot is to a per-CPU map. `at_once`: whether the first searches alone are made, since another form is shown, or may be.
     `asked`: how many slots the results had that weren't shown to be the same. `splits`: whether accesses to several numbers are split.
-    `at_size`: whether there are no more searches if the first ones find programs that are too large, since another form may be smaller."""
+    `at_size`: whether there are no more searches if the first ones find programs that are too large, since another form may be smaller.
+    `better`: whether another form is shown alone, and so only what is shown in a better way is wanted."""
 
     guard: bool = False
     per_cpu: Callable = lambda slot: False
@@ -105,6 +108,7 @@ class Wanted(NamedTuple):
     asked: Optional[list[int]] = None
     splits: bool = False
     at_size: bool = False
+    better: bool = False
 
     @property
     def is_enough(self) -> bool:
@@ -128,11 +132,11 @@ def better_of(forms: list[dict], xdpbox: str, wanted: Wanted = Wanted()) -> tupl
         try:
             at_once = wanted.at_once or any(row.how == ALONE for _, row in found)
             at_size = not found and settings is not forms[-1]
-            found.append((settings, straightened(settings, xdpbox, wanted._replace(at_once=at_once, at_size=at_size))))
+            found.append((settings, straightened(settings, xdpbox, wanted._replace(at_once=at_once, at_size=at_size, better=bool(found)))))
         except Refused as refused:
             refusals.append(refused)
             others += [settings] if refused.cause == SIZE and at_size else []
-        if found and found[-1][1].how in ENOUGH:
+        if found and (found[-1][1].how in ENOUGH or found[-1][1].sets_parts):
             break
     if not found and others:
         return better_of(others, xdpbox, wanted)
@@ -235,7 +239,8 @@ def taken_by_place(
 
 def taken_best(xdpbox: str, settings: dict, result: Result, wanted: Wanted) -> tuple[Optional[Straight], Optional[Fail]]:
     """A result that is shown to be the same, in one of its forms, or what is missing to that."""
-    other = without_counts(settings, xdpbox, result)
+    is_written_out = any(result.moved.values()) or bool(result.found.parts or result.found.keys)  # beside that alone it is shown
+    other = None if is_written_out else without_counts(settings, xdpbox, result)
     program = None if other is None else taken(xdpbox, settings, other, wanted)[0]
     program = program or taken_written_out(xdpbox, settings, result, wanted)
     if program is not None:
@@ -247,17 +252,17 @@ def taken_best(xdpbox: str, settings: dict, result: Result, wanted: Wanted) -> t
 
     def first_shown(*makers: Callable[..., Iterator[Result]]) -> Optional[Straight]:
         """The first of other forms that is shown to be the same."""
-        for other in (other for forms in makers if not wanted.is_enough for other in forms(settings, xdpbox, result)):
+        for other in (other for forms in makers if not (is_written_out or wanted.is_enough) for other in forms(settings, xdpbox, result)):
             program, fault = taken(xdpbox, settings, other, wanted)
             if program is not None:
                 return program
             faults.append(fault)
         return None
 
-    program = first_shown(in_rows, by_copies, uncounted)
+    program = first_shown(in_rows, by_copies, *([uncounted] if other is None else []))
     for more in (More(words=True), More(*(True for _ in More._fields))):
         program = program or taken_written_out(xdpbox, settings, result, wanted, more)
-    program = program or first_shown(reread)
+    program = program or first_shown(by_ways, reread)
     return (None, plainest_of(faults)) if program is None else (program, None)
 
 
@@ -271,14 +276,14 @@ def taken_written_out(xdpbox: str, settings: dict, result: Result, wanted: Wante
     read first: so nothing is said of several queues then. What a count adds is the difference from what was loaded, so that no count
     of another queue is lost. `more`: what is written out beside."""
     other = written_out(settings, instructions_of(settings), result, more)
-    if other is None or any(row.get("values") and result.moved.get(row["name"]) for row in settings["map"]):
+    if other is None or other.has_stores and wanted.better or any(row.get("values") and result.moved.get(row["name"]) for row in settings["map"]):
         return None
     for found in searched_again(other.settings, xdpbox, result):
         program, _ = taken(xdpbox, other.settings, found, wanted)
         if program is None or found.moved:
             continue
         how, notes = ALONE if other.has_stores else program.how, list(notes_of(result, wanted.per_cpu))
-        return replace(program, how=how, notes=notes, moved=result.moved, written_out=other.settings)
+        return replace(program, how=how, notes=notes, moved=result.moved, written_out=other.settings, sets_parts=other.has_stores)
     return None
 
 

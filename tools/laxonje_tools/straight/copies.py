@@ -16,14 +16,15 @@ from .constants import FAR, Address, Constants, is_number
 from .counters import counters
 from .graph import Fail, NoBound, TooMany, live_registers, loops, slots_that_reach, steering_registers, successors
 from .instructions import FRAME_POINTER, REGISTERS, reads, writes
-from .kinds import accesses_elsewhere
+from .kinds import accesses_elsewhere, accesses_in_packets
+from .remembered import MOST_KEPT
 from .stack_words import live_words
 
 if TYPE_CHECKING:
     from .instructions import Code
     from .marks import MarksOfCopies
 
-MOST_COPIES = 6000
+MOST_COPIES, MADE = 6000, []  # the latter: the last graphs with which a search began
 MOST_DISTANCE = 65535  # of an address in a packet from its start
 # which numbers are told apart: those that steer a loop or make an address, in slots from which a loop can be reached;
 # those that count a loop's steps; all in slots from which a loop can be reached; all
@@ -66,12 +67,19 @@ class Trips(NamedTuple):
     registers: set
 
 
+class Way(NamedTuple):
+    """What is passed on a way to a slot behind which each way has a copy of its own: by its number the copy in front of that."""
+
+    copy: int
+
+
 @dataclass(eq=False, repr=False)
 class Copy:
     slot: int  # of the program as it was
     phase: Phase
     constants: Constants
     key: tuple
+    number: int  # of copies that were made before
     ways: list = field(default_factory=list)  # (0 fallen through or 1 jumped, Copy)
     before: list = field(default_factory=list)  # (Copy, way)
 
@@ -113,7 +121,8 @@ class Copies:
         self.code, self.numbers, self.marks = code, numbers, marks
         self.wide, self.cases, self.trips, self.nones = marks.wide, marks.cases, marks.trips, marks.nones
         self.live, self.elsewhere = live_registers(code), accesses_elsewhere(code)
-        self.words = live_words(code)
+        self.words, self.parted = live_words(code), marks.parted
+        self.parting = slots_that_reach(code, accesses_in_packets(code)) if self.parted else ()
         self.needed = {slot: live | {FRAME_POINTER} for slot, live in self.live.items()}
         self.named = {slot: row.counter for row in marks.differences.values() if row.told for slot in row.known}
         self.mattering = {slot: slots_that_reach(code, {slot}) for slot in marks.trips}
@@ -136,7 +145,7 @@ class Copies:
         told = self.told_by_cases(slot) if phase == TESTS else ALL_TOLD
         if slot in self.trips:
             told = Telling(set(told.registers) - self.trips[slot].registers, None)
-        names = [name for name, slots in self.mattering.items() if slot in slots] if constants.passed else ()
+        names = self.names_at(slot, constants) if constants.passed else ()
         constants = constants.kept(self.needed[slot], *told, names).with_stack(self.words[slot])
         if phase == TESTS and slot not in self.wide and slot not in self.cases:
             phase = PLAIN
@@ -148,9 +157,14 @@ class Copies:
             return known
         if len(self.by_key) >= MOST_COPIES:
             raise TooMany(f"a loop has no bound, or a large one: more than {MOST_COPIES} copies of its slots", slot)
-        fresh = self.by_key[key] = Copy(slot, phase, constants, key)
+        fresh = self.by_key[key] = Copy(slot, phase, constants, key, len(self.by_key))
         self.todo.append(fresh)
         return fresh
+
+    def names_at(self, slot: int, constants: Constants) -> list:
+        """Of what is passed what matters at a slot."""
+        ways = [name for name, _ in constants.passed if isinstance(name, Way) and slot in self.parting]
+        return [name for name, slots in self.mattering.items() if slot in slots] + ways
 
     def told_by_cases(self, slot: int) -> Telling:
         """What is told apart before a slot, and the numbers whose cases reach it."""
@@ -200,9 +214,10 @@ class Copies:
         ]
         if ways and not short:
             raise Fail("this loop would run too often", slot)
+        rows = [(way, after, constants.passing(Way(here.number)) if after in self.parted else constants) for way, after in short]
         if self.nones and instruction.is_branch:
-            return [(way, self.copy(after, TESTS, constants.after_none(instruction, way))) for way, after in short]
-        return [(way, self.copy(after, TESTS, constants)) for way, after in short]
+            return [(way, self.copy(after, TESTS, known.after_none(instruction, way))) for way, after, known in rows]
+        return [(way, self.copy(after, TESTS, known)) for way, after, known in rows]
 
     def constants_after(self, here: Copy) -> Constants:
         """The constants after a copy's instruction."""
@@ -252,7 +267,12 @@ def wanted_before(copies: Copies, here: Copy, after: AbstractSet[int]) -> Abstra
 
 
 def copies_of(code: Code, numbers: str, marks: MarksOfCopies, last: Optional[Copies]) -> Copies:
-    """The graph of copies: the last one of a search, if the program and these marks are what they were."""
-    if last is not None and last.code is code and (last.numbers, last.marks) == (numbers, marks):
-        return last
-    return Copies(code, numbers, marks)
+    """The graph of copies: the last one of a search, or the first of another one, if the program and these marks are what they were."""
+    for other in [*([] if last is None else [last]), *MADE]:
+        if other.code is code and (other.numbers, other.marks) == (numbers, marks):
+            return other
+    made = Copies(code, numbers, marks)
+    if last is None:
+        MADE.insert(0, made)
+        del MADE[MOST_KEPT:]
+    return made

@@ -89,12 +89,13 @@ class Emitter:
     kept     by the slots of loads of counters what is kept of them, and in `again` which loads read that again
     moved    by map the parts of its values that have a counter of their own
 
-    `reached`: by map the accesses in its values; those of None may be in any. `key_sizes`: by map how many bytes a lookup reads. `lies`:
+    `reached`: by map the accesses in its values; those of None may be in any. `key_sizes`: by map how many bytes a lookup reads; `with_parts`: of
+    which maps a load may take a part of a counter. `lies`:
     of the original's slots where accesses in values lie; `keys`: which keys are copied."""
 
-    def __init__(self, copies: Copies, addresses: Addresses, marks: Marks, key_sizes: dict[str, int]) -> None:
+    def __init__(self, copies: Copies, addresses: Addresses, marks: Marks, key_sizes: dict[str, int], with_parts: AbstractSet[str]) -> None:
         self.copies, self.addresses, self.end, self.context, self.key_sizes = copies, addresses, THE_END, CONTEXT_SLOT, key_sizes
-        self.marks, self.reached, self.lies, self.keys = marks, {}, {}, {}
+        self.marks, self.reached, self.lies, self.keys, self.with_parts = marks, {}, {}, {}, with_parts
         self.known = {slot: row.counter for row in marks.differences.values() for slot in row.known}
         self.own = OwnStack(copies, shared_slots(copies, addresses))
         self.out, self.labels, self.jumps, self.places = [], [], [], {}
@@ -332,14 +333,15 @@ class Emitter:
         """The offset of an access, with what was added to its map's value, and where the number lies in the result's."""
         if not (insn.is_load or insn.is_store):
             return insn.offset
-        base, is_set = here.constants.registers.get(insn.base), here.slot in self.marks.differences or here.slot in self.marks.adds
+        base, carries = here.constants.registers.get(insn.base), here.slot in self.marks.adds
         if is_address(base, VALUE):
             name, part = base.map, Part(insn.offset + base.offset, insn.size)
         elif self.is_elsewhere(here, insn.base) or insn.is_load and here.slot in self.copies.elsewhere:
             return insn.offset
         else:
             name, part = None, Part(insn.offset, insn.size)
-        self.reached.setdefault(name, set()).add(Access(part, here.slot, is_set))
+        access = Access(part, here.slot, carries or here.slot in self.marks.differences, carries)
+        self.reached.setdefault(name, set()).add(access)
         place = place_of(self.marks.moved, name, part)
         self.lies.setdefault(here.slot, set()).add(Lying(place - part.place, place % COUNTER_BYTES))
         return place

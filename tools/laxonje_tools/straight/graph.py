@@ -22,6 +22,7 @@ from .instructions import (
     reads,
     writes,
 )
+from .remembered import remembered
 
 if TYPE_CHECKING:
     from .instructions import Code, Instruction
@@ -65,11 +66,18 @@ def successors(code: Code, slot: int) -> list[int]:
     return [slot + instruction.slots]
 
 
+@remembered
+def following(code: Code) -> dict[int, list[int]]:
+    """For each slot, the slots to which control may go."""
+    return {slot: successors(code, slot) for slot in code}
+
+
+@remembered
 def predecessors(code: Code) -> dict[int, list[int]]:
     """For each slot, the slots from which control may come."""
     before = {slot: [] for slot in code}
-    for slot in code:
-        for after in successors(code, slot):
+    for slot, ways in following(code).items():
+        for after in ways:
             if after not in code:
                 raise Fail(f"slot {slot} leads to slot {after}, which isn't there", slot)
             before[after].append(slot)
@@ -78,21 +86,23 @@ def predecessors(code: Code) -> dict[int, list[int]]:
 
 def backwards(code: Code, step: Callable[[int, frozenset[int]], AbstractSet[int]]) -> dict[int, AbstractSet[int]]:
     """The least sets, one per slot, with `step(slot, the set after it)` as the set before it."""
-    sets, before, todo = {slot: frozenset() for slot in code}, predecessors(code), list(code)
+    sets, before, ways, todo = {slot: frozenset() for slot in code}, predecessors(code), following(code), list(code)
     while todo:
         slot = todo.pop()
-        now = step(slot, frozenset().union(*(sets[after] for after in successors(code, slot))))
+        now = step(slot, frozenset().union(*(sets[after] for after in ways[slot])))
         if now != sets[slot]:
             sets[slot] = now
             todo += before[slot]
     return sets
 
 
+@remembered
 def live_registers(code: Code) -> dict[int, AbstractSet[int]]:
     """The registers that may still be read, before each slot."""
     return backwards(code, lambda slot, needed: reads(code[slot]) | (needed - writes(code[slot])))
 
 
+@remembered
 def loops(code: Code) -> set[int]:
     """The slots from which control can come back to them: Tarjan's strong components, without recursion."""
     number, lowest, path, open_slots, inside = {}, {}, [], set(), set()
@@ -136,6 +146,7 @@ def slots_that_reach(code: Code, goals: Iterable[int]) -> set[int]:
     return reached
 
 
+@remembered
 def steering_registers(code: Code) -> dict[int, AbstractSet[int]]:
     """The registers, before each slot, whose numbers may decide a jump in a loop or before one, or become part of an
     address. Numbers in others needn't be told apart: they are sums, flags and the answer."""

@@ -21,6 +21,7 @@ from .instructions import (
 from .parts import COUNTER_BYTES, Access, parts_by_counter, place_of
 
 if TYPE_CHECKING:
+    from .parts import Part
     from .copies import Copy
     from .emit import Emitter
 
@@ -54,20 +55,23 @@ def write_key(emitter: Emitter, here: Copy) -> None:
     key = key_of(emitter, here, known.map)
     names = [(KEY_SLOT, key.size, at) for at in key.words]
     places = {name: emitter.own[name] for name in reversed(names)}  # one behind the other
-    base = here.constants.registers[KEY_ARGUMENT].offset if key.parts else 0
+    address = here.constants.registers.get(KEY_ARGUMENT)
+    base = address.offset if is_address(address, VALUE) else 0
     emitter.keys.setdefault(slot, set()).add(key)
     for fields in copied_key(key, [places[name] for name in names], base):
         emitter.put_own(slot, *fields, copy=here if fields[0] & 7 == LDX else None)
 
 
 def key_of(emitter: Emitter, here: Copy, name: str) -> Key:
-    """The key of a lookup in a map."""
+    """The key of a lookup in a map. One that is a part of a counter which can be loaded by itself is as one in the packet."""
     address, size, parts = here.constants.registers.get(KEY_ARGUMENT), emitter.key_sizes[name], []
     if not is_address(address, VALUE):
         return Key(name, size)
     words = [(address.offset + at, min(COUNTER_BYTES, size - at)) for at in range(0, size, COUNTER_BYTES)]
     for part in [part for word in words for part in parts_by_counter(*word)]:
         emitter.reached.setdefault(address.map, set()).add(Access(part, here.slot, False))
+        if address.map in emitter.with_parts and address.map not in emitter.marks.moved and part.size == size < COUNTER_BYTES and is_aligned(part):
+            return Key(name, size)
         place = place_of(emitter.marks.moved, address.map, part)
         parts.append((part.place - address.offset, part.size, place - address.offset))
     return Key(name, size, tuple(parts), address.offset % COUNTER_BYTES)
@@ -77,18 +81,23 @@ def copied_key(key: Key, places: list[int], base: int = 0) -> Iterator[tuple]:
     """What leaves a copy of a key on the stack, and its address. The registers behind the arguments are free, since a call leaves
     nothing in them. `places`: of the stack, of each word; `base`: how far the key is past what its register has."""
     for at, place in zip(key.words, places):
-        yield from word_of_value(key, at, base) if key.parts else word_of_packet(at, key.size)
+        yield from word_of_value(key, at, base) if key.parts else word_of_packet(at, key.size, base)
         yield STORE_DOUBLE, FRAME_POINTER, WORD_REGISTER, place
     yield MOVE_REGISTER, KEY_ARGUMENT, FRAME_POINTER
     yield ADD_CONSTANT, KEY_ARGUMENT, 0, 0, places[0]
 
 
-def word_of_packet(at: int, size: int) -> Iterator[tuple]:
+def is_aligned(part: Part) -> bool:
+    """Whether it is loaded at once."""
+    return part.size in dict(LOADS) and part.place % part.size == 0
+
+
+def word_of_packet(at: int, size: int, base: int) -> Iterator[tuple]:
     """Eight bytes of a key in the packet, or those that are left."""
     first, *rest = parts_of_word(at, size)
-    yield first.load, WORD_REGISTER, KEY_ARGUMENT, first.place
+    yield first.load, WORD_REGISTER, KEY_ARGUMENT, base + first.place
     for part in rest:
-        yield part.load, PART_REGISTER, KEY_ARGUMENT, part.place
+        yield part.load, PART_REGISTER, KEY_ARGUMENT, base + part.place
         yield from added_to_word(part.place - at)
 
 

@@ -6,7 +6,7 @@ from __future__ import annotations
 
 from typing import TYPE_CHECKING, Optional
 
-from .graph import successors
+from .graph import following
 from .instructions import (
     ADD,
     ALU64,
@@ -21,6 +21,7 @@ from .instructions import (
     WIDE_LOAD,
     writes,
 )
+from .remembered import remembered
 
 if TYPE_CHECKING:
     from .instructions import Code, Instruction
@@ -119,14 +120,16 @@ class Kinds(dict):
         )
 
 
+@remembered
 def kinds_before(code: Code, zeros: bool = False) -> dict[int, Kinds]:
     """The kinds before each slot that can be reached. `zeros`: whether an address on some ways that is 0 on others is one."""
+    ways = following(code)
     before, todo = {0: Kinds({CONTEXT_ARGUMENT: (CONTEXT, None), FRAME_POINTER: (FRAME, 0)}, zeros)}, [0]
     while todo:
         slot = todo.pop()
-        following = before[slot].after(slot, code[slot])
-        for after in successors(code, slot):
-            met = before[after].met(following) if after in before else following
+        kinds = before[slot].after(slot, code[slot])
+        for after in ways[slot]:
+            met = before[after].met(kinds) if after in before else kinds
             if met != before.get(after):
                 before[after] = met
                 todo.append(after)
@@ -143,3 +146,9 @@ def accesses_elsewhere(code: Code) -> set[int]:
     before = kinds_before(code)
     stores = {slot for slot, kinds in before.items() if code[slot].is_store and kinds.is_elsewhere(code[slot])}
     return stores | {slot for slot, kinds in before.items() if code[slot].is_load and kinds.get(code[slot].source, ("",))[0] == CONSTANT}
+
+
+def accesses_in_packets(code: Code) -> set[int]:
+    """The slots of accesses that may be in the packet."""
+    accesses = ((slot, kinds.get(code[slot].base, ("",))) for slot, kinds in kinds_before(code).items() if code[slot].is_load or code[slot].is_store)
+    return {slot for slot, kind in accesses if kind[0] not in (VALUE, FRAME, CONTEXT, CONSTANT)}

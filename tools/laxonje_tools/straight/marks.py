@@ -19,6 +19,7 @@ class MarksOfCopies(NamedTuple):
     differences: dict
     nones: bool
     values: int
+    parted: AbstractSet[int]
 
 
 class Anew(NamedTuple):
@@ -33,13 +34,15 @@ class Form(NamedTuple):
     each index into a value is told apart by all places of the value, and not by the numbers that the verifier names, which are those of
     one of its notes. `in_rows`: whether a masked number is told apart where it is one of a row, so that tests of all of them leave no
     other number. `by_copies`: whether a register of which a masked copy is compared is made anew of that, and a number that is cut to 32
-    bits is kept in front of it. `rereads`: whether a store of a whole counter that is no count adds the difference from
+    bits is kept in front of it. `by_ways`: whether what stands behind all loops, and where addresses that ways disagree on meet, is copied
+    for each of these ways. `rereads`: whether a store of a whole counter that is no count adds the difference from
     what stands there then."""
 
     fuses: bool = True
     by_place: bool = False
     in_rows: bool = False
     by_copies: bool = False
+    by_ways: bool = False
     rereads: bool = False
 
 
@@ -53,6 +56,7 @@ class Marks:
     cases: dict = field(default_factory=dict)  # by slot
     blurred: dict = field(default_factory=dict)  # by slot
     values: int = 0  # what is followed of lookups: RESULTS, MAPS, or nothing
+    parted: set = field(default_factory=set)  # slots behind which each way to them has a copy of its own
     nones: bool = False  # whether ways on which a lookup found nothing are kept apart
     counts: list = field(default_factory=list)  # slots of stores
     differences: dict = field(default_factory=dict)  # by the slot of a store
@@ -70,7 +74,12 @@ class Marks:
 
     def of_copies(self) -> MarksOfCopies:
         """Those of copies as they are now: later marks don't change these."""
-        return MarksOfCopies(dict(self.wide), dict(self.cases), dict(self.trips), dict(self.differences), self.nones, self.values)
+        rows = dict(self.wide), dict(self.cases), dict(self.trips), dict(self.differences)
+        return MarksOfCopies(*rows, self.nones, self.values, set(self.parted))
+
+    def met(self) -> set[int]:
+        """The slots where addresses are made anew."""
+        return {key if isinstance(key, int) else key[0] for key, _ in self.meetings}
 
 
 class Found(NamedTuple):
@@ -88,7 +97,8 @@ class Result:
     """A program that the verifier accepts. `labels`: of its slots. `code`, `counts`, `differences`: of the original.
     `moved`: by map the parts of values that have a counter of their own. `way`: of the search, which numbers it tells apart and
     what it marks. `has_rows`: whether a masked number can be told apart where it is one of a row. `found`: where its
-    accesses in values lie. `masks`: the slots of masks whose numbers would be one of a row between two shifts."""
+    accesses in values lie. `masks`: the slots of masks whose numbers would be one of a row between two shifts. `meets`: the slots
+    behind all loops where addresses that ways disagree on are made anew."""
 
     words: list
     relocations: list
@@ -101,6 +111,7 @@ class Result:
     has_rows: bool = False
     found: Optional[Found] = None
     masks: AbstractSet[int] = frozenset()
+    meets: AbstractSet[int] = frozenset()
 
     @property
     def text(self) -> tuple:

@@ -3,7 +3,7 @@ from __future__ import annotations
 
 from typing import TYPE_CHECKING, Iterator, NamedTuple, Optional, Sequence
 
-from .graph import live_registers, successors
+from .graph import live_registers, predecessors, successors
 from .instructions import ALU64, AND, AND_CONSTANT, ARSH, JGE, JGT, JLE, JLT, JMP, JMP32, LSH, MOVE_REGISTER, RSH, compute, writes
 
 if TYPE_CHECKING:
@@ -113,27 +113,36 @@ def in_shifts(mask: Instruction) -> Iterator[tuple]:
 
 
 class Bounded(NamedTuple):
-    """A masked copy of a register that a jump compares with a constant: the jump, what comes behind it where it isn't above, and both
-    registers."""
+    """A copy, perhaps a masked one, of a register, of which a jump compares one with a constant: the jump, what comes behind it where that
+    isn't above, the register that it doesn't compare, and the one that it does."""
 
     jump: int
     after: int
     register: int
-    copy: int
+    compared: int
 
 
 def bounded_copies(code: Code) -> Iterator[Bounded]:
-    """The masked copies that are compared. Each register is needed later: the verifier knows what the jump says of the copy alone."""
-    live = live_registers(code)
-    for slot in code:
-        copy, mask, jump = (code.get(slot + at) for at in range(3))
-        if copy.opcode != MOVE_REGISTER or mask is None or jump is None or (mask.opcode, mask.destination) != (AND_CONSTANT, copy.destination):
+    """The copies that are compared, or of what is. Each register is needed later: the verifier knows what the jump says of the compared one
+    alone."""
+    live, before = live_registers(code), predecessors(code)
+    for slot, move in code.items():
+        if move.opcode != MOVE_REGISTER:
             continue
-        below = {JGT: 0, JGE: 0, JLT: 1, JLE: 1}.get(jump.operation) if jump.is_branch and not jump.by_register else None
-        if below is not None and jump.destination == copy.destination:
-            after = successors(code, slot + 2)[below]
-            if copy.source in live[after]:
-                yield Bounded(slot + 2, after, copy.source, copy.destination)
+        mask = code.get(slot + 1)
+        is_masked = mask is not None and (mask.opcode, mask.destination) == (AND_CONSTANT, move.destination)
+        at = slot + 2 if is_masked else slot + 1
+        after = bounded_by(code, at) if at in code and before[at] == [at - 1] else None
+        for register, compared in [(move.source, move.destination), (move.destination, move.source)][: 1 if is_masked else 2]:
+            if after is not None and code[at].destination == compared and register in live[after]:
+                yield Bounded(at, after, register, compared)
+
+
+def bounded_by(code: Code, jump: int) -> Optional[int]:
+    """What comes behind a jump where the register that it compares with a constant isn't above it."""
+    insn = code[jump]
+    below = {JGT: 0, JGE: 0, JLT: 1, JLE: 1}.get(insn.operation) if insn.is_branch and not insn.by_register else None
+    return None if below is None else successors(code, jump)[below]
 
 
 def cuts(code: Code) -> Iterator[int]:

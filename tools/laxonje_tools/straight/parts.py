@@ -11,6 +11,7 @@ from .graph import SHARED, Fail
 
 COUNTER_BYTES, MOST_COUNTERS = 8, 8
 EACH_WHOLE = "make each of them a __u64"
+CARRIES = "an atomic addition of four bytes may change those above them in the same number: add to all of it, or make it a __u32"
 
 
 class Part(NamedTuple):
@@ -70,11 +71,13 @@ class SharedCounter(Fail):
 
 
 class Access(NamedTuple):
-    """An access in a map's value. `slot`: of the original. `is_set`: whether its difference is added."""
+    """An access in a map's value. `slot`: of the original. `is_set`: whether its difference is added, or what it adds is; `carries`: the latter,
+    of four bytes, which leaves what is carried in the bytes above them."""
 
     part: Part
     slot: int
     is_set: bool
+    carries: bool = False
 
 
 class Lying(NamedTuple):
@@ -120,11 +123,15 @@ def check_parts(settings: dict, moved: Moved, reached: dict[Optional[str], set[A
     for name in sorted(reached, key=str):
         accesses = reached[name] | reached.get(None, set())
         own, wanted = moved.get(name, {}), {}
-        for row in sorted(row for row in accesses if row.is_set):
+        wholes = {row.part for row in accesses if is_whole(settings, name, row, accesses)}
+        parts = [row.part for row in accesses if row.part not in wholes]
+        for row in sorted(row for row in accesses if row.is_set and row.part not in wholes):
             try:
-                whole = stored_below(declared(settings, name), row, [other.part for other in accesses])
+                whole = stored_below(declared(settings, name), row, parts)
             except Fail as fault:
-                raise SharedCounter(fault, several_in(declared(settings, name), accesses)) from fault
+                several = several_in(declared(settings, name), accesses)
+                are_alike = all(alike_in(declared(settings, other), rows, several) for other, rows in reached.items() if other != name)
+                raise SharedCounter(fault, several if are_alike else {}) from fault
             if whole is not None and whole not in own:
                 wanted.setdefault(whole, row.slot)
         if any(part.meets(other) for part in own for other in wanted):
@@ -135,11 +142,23 @@ def check_parts(settings: dict, moved: Moved, reached: dict[Optional[str], set[A
             raise NeedsCounters(name, wanted, min(wanted.values()))
 
 
+def is_whole(settings: dict, name: Optional[str], store: Access, accesses: Iterable[Access]) -> bool:
+    """Whether a store is of all numbers of a counter, in a map that one queue at a time changes, and no other is of a number below another
+    one, or of a bit field."""
+    if name not in settings.get("alone", ()) or not store.is_set or store.part.size != COUNTER_BYTES:
+        return False
+    beside = (row.part for row in accesses if row.is_set and row.part.meets(store.part))
+    has_bits = any(row["bits"] and store.part.meets(part_of(row)) for row in declared(settings, name))
+    return not has_bits and all(part.end == store.part.end for part in beside)
+
+
 def stored_below(rows: list[dict], store: Access, reached: list[Part]) -> Optional[Part]:
     """The number that a store is to, if it may change what lies above it in the counter; or None. Fail if no number
     holds all that is reached at once with it. `rows`: as they are declared."""
     numbers = [part_of(row) for row in rows]
     whole = number_of(rows, store, joined(store.part, reached), reached)
+    if store.carries and whole.end > store.part.end:
+        raise Fail(CARRIES, store.slot, SHARED)
     above = (part for part in [*numbers, *reached] if part.place >= whole.end)
     return whole if any(part.counter == whole.counter for part in above) else None
 
@@ -171,11 +190,13 @@ def number_of(rows: list[dict], store: Access, whole: Part, reached: list[Part])
 
 def several_in(rows: list[dict], accesses: Iterable[Access]) -> dict[int, list[Part]]:
     """By the slots of accesses to several numbers these, from where each access begins; none if something reaches bytes of no number, or
-    if a number isn't whole in such an access. Bytes between two numbers may be stored, and may not be loaded."""
-    numbers, found = [part_of(row) for row in rows], {}
+    if a number isn't whole in such an access, or two have a byte in common. Bytes between two numbers may be stored, and may not be
+    loaded."""
+    numbers, found = sorted({part_of(row) for row in rows}), {}
     for access in accesses:
         inside = [part for part in numbers if access.part.meets(part)]
-        is_of_several = len(inside) > 1 and all(access.part.holds(part) for part in inside)
+        are_apart = all(one.end <= other.place for one, other in zip(inside, inside[1:]))
+        is_of_several = len(inside) > 1 and are_apart and all(access.part.holds(part) for part in inside)
         if is_of_several and (access.is_set or sum(part.size for part in inside) == access.part.size):
             parts = [Part(part.place - access.part.place, part.size) for part in inside]
             if found.setdefault(access.slot, parts) != parts:
@@ -183,6 +204,14 @@ def several_in(rows: list[dict], accesses: Iterable[Access]) -> dict[int, list[P
         elif len(inside) != 1 or not inside[0].holds(access.part):
             return {}
     return {} if any(row["bits"] for row in rows) else found
+
+
+def alike_in(rows: list[dict], accesses: Iterable[Access], several: dict[int, list[Part]]) -> bool:
+    """Whether each of these accesses, which are in another map, or in one that isn't known, has the same parts there: bytes between two
+    numbers of one map may be a number of the other."""
+    numbers = sorted({part_of(row) for row in rows})
+    there = ((several[row.slot], row.part) for row in accesses if row.slot in several)
+    return all(parts == [Part(at.place - part.place, at.size) for at in numbers if part.meets(at)] for parts, part in there)
 
 
 def shared(rows: list[dict], store: Access) -> Fail:
@@ -216,6 +245,7 @@ def moved_with(settings: dict, moved: Moved, needs: NeedsCounters) -> Moved:
             f"{len(parts)} numbers of {needs.name} are stored below another one of their counter, and each needs one of its"
             f" own: its {counters} and these are more than {MOST_COUNTERS}: {EACH_WHOLE}, or use more than one map",
             needs.slot,
+            SHARED,
         )
     if any(part.counter != (part.end - 1) // COUNTER_BYTES for part in parts):
         raise Fail(f"a number of {needs.name} lies in two counters: don't pack the struct", needs.slot, SHARED)
@@ -238,6 +268,12 @@ def places_of(settings: dict, moved: Moved) -> Iterator[str]:
         named = {part_of(part): part["name"] for part in whole}
         unnamed = {part: f"the number at byte {part.place}" for part in own if part not in named}
         for part, name in sorted({**named, **unnamed}.items()):
-            at = place_of(moved, row["name"], part)
-            low, counter = 8 * (at % COUNTER_BYTES), at // COUNTER_BYTES
-            yield f"map {row['name']}: {name} is bits {low} to {low + 8 * part.size - 1} of counter {counter}"
+            yield f"map {row['name']}: {name} is {bits_of(place_of(moved, row['name'], part), part.size)}"
+
+
+def bits_of(place: int, size: int) -> str:
+    """Where bytes of a value lie, in words. They may begin in one counter and end in the next."""
+    counter, low, above = place // COUNTER_BYTES, 8 * (place % COUNTER_BYTES), 8 * (place % COUNTER_BYTES + size - COUNTER_BYTES)
+    if above > 0:
+        return f"bits {low} to {8 * COUNTER_BYTES - 1} of counter {counter}, and above these bits 0 to {above - 1} of counter {counter + 1}"
+    return f"bits {low} to {low + 8 * size - 1} of counter {counter}"

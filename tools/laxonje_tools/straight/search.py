@@ -33,14 +33,14 @@ from .constants import MAPS, RESULTS
 from .copies import Cases, Wide, copies_of
 from .counts import difference, fused
 from .emit import Emitter, Kind, Needs
-from .graph import SIZE, Fail, NoBound, TooMany
+from .graph import SIZE, Fail, NoBound, TooMany, loops, slots_that_reach
 from .indices import bound_index, places_in_value
 from .instructions import MASK_32
 from .marks import Anew, Form, Found, Marks, Result
 from .masks import bounded_copies, cuts, in_shifts, masked, row_before
 from .keys import KEY_ARGUMENT
 from .parts import COUNTER_BYTES, NeedsCounters, check_parts, has_parts, moved_with, with_counters
-from .settings import instructions_of, key_sizes, text_of, without_rows
+from .settings import instructions_of, key_sizes, text_of, with_parts, without_rows
 from .steps import Steps, refusal
 from .verifier import StillRefused, verdict
 
@@ -73,9 +73,10 @@ class Search:
         self.settings, self.xdpbox, self.numbers, self.way = without_rows(settings), xdpbox, numbers, way
         self.form, self.has_rows, self.masks = form, False, set()
         self.code = instructions_of(settings)
+        self.near = slots_that_reach(self.code, loops(self.code))
         self.marks = Marks()
         if form.by_copies:
-            self.marks.anew = {(row.jump, row.after): Anew(row.register, row.copy) for row in bounded_copies(self.code)}
+            self.marks.anew = {(row.jump, row.after): Anew(row.register, row.compared) for row in bounded_copies(self.code)}
             self.marks.cuts = set(cuts(self.code))
         for row in settings.get("again", []):
             self.marks.again[row["slot"]] = name = "counted", row["slot"]
@@ -101,6 +102,10 @@ class Search:
     def mark_meetings(self, rows: Iterable[tuple[Copy, Place]]) -> bool:
         """Marks meetings, (copy, place) each: whether one is new. If several copies of a slot are marked, all are."""
         self.is_by_way = True
+        meets = {here.slot for here, _ in rows} - self.near if self.form.by_ways else set()
+        if not meets <= self.marks.parted:
+            self.marks.parted |= meets
+            return True
         fresh = {self.mark(*row) for row in rows if not self.is_marked(*row)}
         self.marks.meetings |= fresh
         for key, kept in fresh:
@@ -153,7 +158,7 @@ class Search:
             return None
         self.addresses = Addresses(self.copies, self.is_marked, self.is_restarted)
         try:
-            emitter = Emitter(self.copies, self.addresses, marks, key_sizes(self.settings))
+            emitter = Emitter(self.copies, self.addresses, marks, key_sizes(self.settings), with_parts(self.settings))
         except Needs as needs:
             self.mark_meetings(needs.meetings)
             return None
@@ -178,7 +183,7 @@ class Search:
         marks = self.marks
         way = self.numbers, self.way
         rows = words, relocations, self.labels, self.code, sorted(marks.counts), marks.differences, marks.moved, way, self.has_rows
-        return Result(*rows, self.found, self.masks)
+        return Result(*rows, self.found, self.masks, marks.met() - self.near)
 
     # --- what a refusal asks for; each answers whether there is a new mark
 

@@ -6,19 +6,35 @@ import tomllib
 from typing import TYPE_CHECKING
 
 from .instructions import FAR_JUMP, JUMP, WIDE_LOAD, Instruction, Table
+from .remembered import MOST_KEPT
 
 if TYPE_CHECKING:
     from .instructions import Code
 
 INDEX_BYTES, LENGTH_BYTES = 4, 4  # of an array's key, and of a prefix's length
-OF_THE_TOOLS = "constants", "tables", "globals", "numbers", "begin", "stack", "again", "laid", "filled"  # keys that no printed settings have
+OF_THE_TOOLS = "constants", "tables", "globals", "numbers", "begin", "stack", "again", "laid", "filled", "alone"  # keys that no printed settings have
 OF_THE_PROGRAM = "program", "reloc", *OF_THE_TOOLS
 CONSTANTS = "constants"  # the key of a map that is read at its address
 COPY, TRUE, FALSE = "copy", "true", "false"  # a slot's kind, and TOML's words
 
 
+MADE = []  # the last programs, each with what it was made of
+
+
 def instructions_of(settings: dict) -> Code:
     """The instructions of a program by their slots."""
+    made_of = {key: list(settings.get(key, [])) for key in ("program", "reloc", "tables", "globals")}
+    made_of["constants"] = settings.get("constants")
+    code = next((code for other, code in MADE if other == made_of), None)
+    if code is None:
+        code = instructions_in(settings)
+        MADE.insert(0, (made_of, code))
+        del MADE[MOST_KEPT:]
+    return code
+
+
+def instructions_in(settings: dict) -> Code:
+    """The same, made anew."""
     data = bytes.fromhex("".join(settings["program"]))
     maps = {row["slot"]: row["map"] for row in settings.get("reloc", [])}
     code, slot = {}, 0
@@ -113,6 +129,11 @@ def key_sizes(settings: dict) -> dict[str, int]:
     """By map how many bytes a lookup reads as its key: a prefix has its length in front of its data."""
     maps = settings.get("map", [])
     return {row["name"]: row.get("size", INDEX_BYTES) + (LENGTH_BYTES if row.get("key") == "prefix" else 0) for row in maps}
+
+
+def with_parts(settings: dict) -> frozenset[str]:
+    """The maps of which a load may take a part of a counter."""
+    return frozenset(row["name"] for row in settings.get("map", []) if row.get("parts"))
 
 
 def without_rows(settings: dict) -> dict:

@@ -6,7 +6,7 @@ from typing import TYPE_CHECKING, Iterator, NamedTuple, Optional
 
 from .graph import live_registers
 from .accesses import LSH_CONSTANT
-from .instructions import ACCESS_SIZES, ALU64, BY_REGISTER, FRAME_POINTER, MOVE_REGISTER, OR, STX, Instruction
+from .instructions import ACCESS_SIZES, ALU64, BY_REGISTER, FRAME_POINTER, LOAD_WORD, MOVE_REGISTER, OR, STX, Instruction
 from .lines import Line, in_place_of, jump_target
 from .masks import RSH_CONSTANT
 from .parts import COUNTER_BYTES
@@ -16,8 +16,6 @@ if TYPE_CHECKING:
     from .parts import Part
 
 SIZE_BITS = {size: bits for bits, size in ACCESS_SIZES.items()}  # by the bytes of an access those of its opcode that say so
-
-
 OR_REGISTER = ALU64 | BY_REGISTER | OR
 
 
@@ -59,21 +57,22 @@ def stores_of(insn: Instruction, parts: list[Part], free: int) -> Iterator[Instr
             yield Instruction(MOVE_REGISTER, free, insn.source)
             yield Instruction(RSH_CONSTANT, free, 0, 0, 8 * part.place)
             source = free
-        yield Instruction(opcode_of(insn, part), insn.destination, source, insn.offset + part.place)
+        yield Instruction(opcode_of(insn.opcode, part), insn.destination, source, insn.offset + part.place)
 
 
 def loads_of(insn: Instruction, parts: list[Part], whole: int, one: int) -> Iterator[Instruction]:
-    """The loads that bring what one brings, from the uppermost part on. `whole`, `one`: registers for all of it, and for one part."""
+    """The loads that bring what one brings, from the uppermost part on, which alone may have a sign. `whole`, `one`: registers for all of it,
+    and for one part."""
     *below, last = parts
-    yield Instruction(opcode_of(insn, last), whole, insn.source, insn.offset + last.place)
+    yield Instruction(opcode_of(insn.opcode, last), whole, insn.source, insn.offset + last.place)
     for part in reversed(below):
         yield Instruction(LSH_CONSTANT, whole, 0, 0, 8 * part.size)
-        yield Instruction(opcode_of(insn, part), one, insn.source, insn.offset + part.place)
+        yield Instruction(opcode_of(LOAD_WORD, part), one, insn.source, insn.offset + part.place)
         yield Instruction(OR_REGISTER, whole, one)
     if whole != insn.destination:
         yield Instruction(MOVE_REGISTER, insn.destination, whole)
 
 
-def opcode_of(insn: Instruction, part: Part) -> int:
+def opcode_of(opcode: int, part: Part) -> int:
     """That of an access of the same kind to a part."""
-    return insn.opcode & ~SIZE_BITS[COUNTER_BYTES] | SIZE_BITS[part.size]
+    return opcode & ~SIZE_BITS[COUNTER_BYTES] | SIZE_BITS[part.size]

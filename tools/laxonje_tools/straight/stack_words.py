@@ -10,6 +10,7 @@ from typing import TYPE_CHECKING, AbstractSet, NamedTuple, Optional
 from .graph import backwards, predecessors
 from .instructions import FRAME_POINTER, LOAD_DOUBLE, STORE_DOUBLE, STORE_DOUBLE_CONSTANT, STX
 from .kinds import FRAME, kinds_before, stores_elsewhere
+from .remembered import remembered
 
 if TYPE_CHECKING:
     from .instructions import Code, Instruction
@@ -28,6 +29,7 @@ class Place(NamedTuple):
         return self.offset < other.offset + other.size and other.offset < self.offset + self.size
 
 
+@remembered
 def live_words(code: Code) -> dict[int, AbstractSet[int]]:
     """The words of the stack, by their offsets from its end, that may still be loaded, before each slot."""
     kinds = kinds_before(code)

@@ -43,11 +43,13 @@ def uncounted(settings: dict, xdpbox: str, result: Result) -> Iterator[Result]:
 
 def searched_again(settings: dict, xdpbox: str, result: Result) -> Iterator[Result]:
     """What the same search finds of the program written out: with counts, and with each count as a difference; then the same with masked
-    numbers told apart where they are of a row."""
+    numbers told apart where they are of a row, and with registers made anew of copies that were compared."""
     for in_rows in (False, True) if result.has_rows or result.masks else (False,):
         for fuses in (True, False):
             with contextlib.suppress(Fail):
                 yield Search(settings, xdpbox, *result.way, Form(fuses, in_rows=in_rows)).run()
+    if any(bounded_copies(instructions_of(settings))):
+        yield from by_copies(settings, xdpbox, result)
 
 
 def by_place(settings: dict, xdpbox: str, result: Result) -> Optional[Result]:
@@ -68,11 +70,19 @@ def in_rows(settings: dict, xdpbox: str, result: Result) -> Iterator[Result]:
 
 
 def by_copies(settings: dict, xdpbox: str, result: Result) -> Iterator[Result]:
-    """What the same search finds if registers are made anew of masked copies that were compared, and numbers kept that are cut."""
+    """What the same search finds if registers are made anew of copies that were compared, and numbers kept that are cut."""
     code = instructions_of(settings)
     if [*bounded_copies(code), *cuts(code)]:
         with contextlib.suppress(Fail):
             yield Search(settings, xdpbox, *result.way, Form(by_copies=True)).run()
+
+
+def by_ways(settings: dict, xdpbox: str, result: Result) -> Iterator[Result]:
+    """What the same search finds if what stands behind all loops is copied for each way on which an address is another one: with counts, and
+    with each count as a difference."""
+    for fuses in (True, False) if result.meets else ():
+        with contextlib.suppress(Fail):
+            yield Search(settings, xdpbox, *result.way, Form(fuses, by_ways=True)).run()
 
 
 def reread(settings: dict, xdpbox: str, result: Result) -> Iterator[Result]:

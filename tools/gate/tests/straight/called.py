@@ -13,13 +13,18 @@ from tests.straight.calling import MTU, NANOSECONDS, Calling
 from tests.straight.objects import object_of
 
 TOOLS = pathlib.Path(__file__).resolve().parents[3]
-PLACES = (TOOLS / f"gate/tests/straight/{name}.c" for name in "calls absent mtu sequences repeated frames sums each macros".split())
-SOURCE, ABSENT, ASKS_MTU, SEQUENCES, REPEATED, FRAMES_DOWN, SUMS, EACH_VALUE, MACROS = PLACES
+PLACES = (TOOLS / f"gate/tests/straight/{name}.c" for name in "calls absent mtu sequences repeated frames sums each macros copied".split())
+SOURCE, ABSENT, ASKS_MTU, SEQUENCES, REPEATED, FRAMES_DOWN, SUMS, EACH_VALUE, MACROS, COPIED = PLACES
+HOSTS_TIME = 9_000_000_000_000_123  # nanoseconds
 FOLDS_SUMS = [6, 13]  # Linux from which on bpf_csum_diff gives 16 bits
 HEADERS = "#include <linux/bpf.h>\n#include <bpf/bpf_helpers.h>\n"
 # what can't be written out: in front of the function, in it, and what is said
 REFUSED = {
-    "a size that isn't constant": ("", "char a[8]; return bpf_xdp_load_bytes(ctx, 0, a, ctx->rx_queue_index & 7);", "of a size that isn't a constant of 1 to 128"),
+    "a size that isn't constant": (
+        "struct { __uint(type, BPF_MAP_TYPE_ARRAY); __uint(max_entries, 1); __type(key, __u32); __type(value, char[64]); } m SEC(\".maps\");\n",
+        "__u32 i = 0; char *a = bpf_map_lookup_elem(&m, &i); return a && bpf_xdp_load_bytes(ctx, 0, a, 1 + (ctx->rx_queue_index & 7)) ? XDP_DROP : XDP_PASS;",
+        "of a size that is no constant of 1 to 128, and not with a buffer on the stack",
+    ),
     "a function that calls itself": (
         "__attribute__((noinline)) int g(int n) { return n ? g(n - 1) * 3 + 1 : 0; }\n",
         "return g(ctx->rx_queue_index) & 2;",
@@ -30,13 +35,17 @@ REFUSED = {
         "volatile char a[300]; a[ctx->rx_queue_index & 255] = 1; return g(a[1]) + a[2];",
         "would need more than 512 bytes of the stack",
     ),
-    "a print": ("", 'bpf_printk("seen"); return XDP_PASS;', "--without-prints leaves it out"),
     "a redirect": ("", "return bpf_redirect(7, 0);", "--without-devices answers as Linux does where there is none"),
     "a redirect to another device": ("", "return bpf_redirect(ctx->rx_queue_index, 0);", "--without-devices answers as Linux does where there is none"),
     "a redirect with flags": ("", "return bpf_redirect(ctx->ingress_ifindex, 1);", "--without-devices answers as Linux does where there is none"),
     "a redirect whose answer is compared": (
         "",
         "return bpf_redirect(ctx->ingress_ifindex, 0) == XDP_REDIRECT ? XDP_PASS : XDP_DROP;",
+        "--without-devices answers as Linux does where there is none",
+    ),
+    "a redirect whose answer is written as a constant": (
+        "",
+        "bpf_redirect(ctx->ingress_ifindex, 0); return XDP_REDIRECT;",
         "--without-devices answers as Linux does where there is none",
     ),
     "a map of sockets": (
@@ -128,13 +137,29 @@ def repeated_tests(clang, xdpbox, folder):
     yield f"bpf_loop on {len(given)} packets", differing(xdpbox, settings, one, given, wanted)
 
 
+def copied_tests(clang, xdpbox, folder):
+    """Copies of as many bytes as a register says, by an interpreter that makes them."""
+    run = settings_from(clang, xdpbox, COPIED)
+    if run.returncode:
+        yield "copies of bounded sizes are written out", run.stderr
+        return
+    settings, data = tomllib.loads(run.stdout), object_of(clang, COPIED, folder / "copied.o").read_bytes()
+    given = [bytes([first, first >> 1, size]) + bytes((at * size + first) & 15 for at in range(length)) for first in range(8) for size in range(0, 40, 3) for length in (11, 12, 20, 27, 60)]
+    one = Calling(elf.sections_of(data), settings["map"])
+    wanted = [one.run(packet) for packet in given]
+    yield f"copies of bounded sizes on {len(given)} packets", differing(xdpbox, settings, one, given, wanted, 4)
+
+
 def each_tests(clang, xdpbox, folder):
     """A function that bpf_for_each_map_elem calls for each value of an array, and a lock that is left out, by an interpreter."""
-    run = settings_from(clang, xdpbox, "--without-locks", EACH_VALUE)
+    alone, run = settings_from(clang, xdpbox, "--without-locks", EACH_VALUE), settings_from(clang, xdpbox, EACH_VALUE)
     if run.returncode:
         yield "bpf_for_each_map_elem is written out", run.stderr
         return
-    yield "a lock that is left out is noted", "" if "the lock is left out" in run.stderr else run.stderr
+    yield "a lock that is left out is noted", "" if "has one queue at a time judge" in run.stderr else run.stderr
+    yield "a host learns of a lock by a map", "" if "# map bpf_spin_lock: the host has one queue" in run.stdout else run.stdout[:400]
+    is_known = "while another queue judges too" in alone.stderr and "bpf_spin_lock" not in alone.stdout
+    yield "a lock that an author leaves out is noted", "" if is_known else alone.stderr
     settings, data = tomllib.loads(run.stdout), object_of(clang, EACH_VALUE, folder / "each.o").read_bytes()
     given = [bytes([at, net]) + bytes([at * 7 & 255, at & 3] * 6) for at in range(256) for net in (0, 1, 5, 130)]
     one = Calling(elf.sections_of(data), [{**row, "counters": row.get("counters", 1)} for row in settings["map"]])
@@ -173,18 +198,29 @@ def macro_tests(clang, xdpbox):
 
 
 def sequence_tests(clang, xdpbox, folder):
-    """The time and random numbers, and sums of as many bytes as a register says, by an interpreter that does these calls."""
-    run = settings_from(clang, xdpbox, "--clock", str(NANOSECONDS), SEQUENCES)
-    if run.returncode:
-        yield "numbers of sequences are written out", run.stderr
-        return
-    noted = f"goes on by {NANOSECONDS} nanoseconds", "the numbers of one sequence"
-    yield "numbers of sequences are noted", "" if all(words in run.stderr for words in noted) else run.stderr
-    settings, data = tomllib.loads(run.stdout), object_of(clang, SEQUENCES, folder / "sequences.o").read_bytes()
+    """The time, which goes on at each call or is the host's, random numbers, and sums of as many bytes as a register says, by an
+    interpreter that does these calls."""
+    time, data = folder / "time", object_of(clang, SEQUENCES, folder / "sequences.o").read_bytes()
+    time.write_text(f"{HOSTS_TIME}\n")
+    counted, of_host = ("--clock", str(NANOSECONDS)), ("--values", f"bpf_ktime_get_ns={time}")
+    for name, words, noted in (("a counted time", counted, f"goes on by {NANOSECONDS} nanoseconds"), ("the host's time", of_host, "laxonje-netback writes")):
+        run = settings_from(clang, xdpbox, *words, SEQUENCES)
+        if run.returncode:
+            yield f"numbers of sequences and {name} are written out", run.stderr
+            continue
+        right = noted in run.stderr and "the numbers of one sequence" in run.stderr
+        yield f"numbers of sequences and {name} are noted", "" if right else run.stderr
+        yield f"numbers of sequences and {name}", sequences_differing(xdpbox, tomllib.loads(run.stdout), data)
+    run = settings_from(clang, xdpbox, SEQUENCES)
+    right = "# map bpf_ktime_get_ns: the host writes the time there, in nanoseconds\n" in run.stdout
+    yield "settings say where the time stands", "" if right else run.stdout[:300] + run.stderr
+
+
+def sequences_differing(xdpbox, settings, data):
+    """What is wrong with the program of settings on some packets, beside an interpreter of the object."""
     given = [bytes([size, side, 255 - size, 0]) + bytes((side + at * size) & 255 for at in range(16 + side)) for size in range(0, 256, 3) for side in range(4)]
     one = Calling(elf.sections_of(data), settings["map"])
-    wanted = [one.run(packet) for packet in given]
-    yield f"numbers of sequences on {len(given)} packets", differing(xdpbox, settings, one, given, wanted)
+    return differing(xdpbox, settings, one, given, [one.run(packet) for packet in given])
 
 
 def sum_tests(clang, xdpbox, folder):
@@ -224,7 +260,7 @@ def tests(clang, xdpbox):
     with tempfile.TemporaryDirectory() as folder:
         data = object_of(clang, SOURCE, pathlib.Path(folder, "calls.o")).read_bytes()
         for source in (SOURCE, pathlib.Path(folder, "calls.o")):
-            run = settings_from(clang, xdpbox, "--without-prints", source)
+            run = settings_from(clang, xdpbox, source)
             if run.returncode:
                 yield f"calls of {source.name} are written out", run.stderr
                 continue
@@ -238,6 +274,7 @@ def tests(clang, xdpbox):
         yield from macro_tests(clang, xdpbox)
         yield from sequence_tests(clang, xdpbox, pathlib.Path(folder))
         yield from repeated_tests(clang, xdpbox, pathlib.Path(folder))
+        yield from copied_tests(clang, xdpbox, pathlib.Path(folder))
         yield from each_tests(clang, xdpbox, pathlib.Path(folder))
         yield from sum_tests(clang, xdpbox, pathlib.Path(folder))
         yield from frame_tests(clang, xdpbox, pathlib.Path(folder))

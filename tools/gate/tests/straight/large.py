@@ -6,16 +6,17 @@ import tempfile
 import tomllib
 
 from laxonje_tools.from_c import btf, elf
+from laxonje_tools.straight.instructions import MASK_64
 from tests.straight import called, machine
 from tests.straight.calling import Calling
 from tests.straight.objects import object_of
 
 TESTS = pathlib.Path(__file__).resolve().parent
-SOURCE = TESTS / "large.c"
+SOURCE, IN_LOOP = TESTS / "large.c", TESTS / "narrow-in-loop.c"
 ARRAYS, SEED = (2, 6), 3
 # of the comments that say where a host finds numbers: of each few bytes a row, and of a number one
-OF_BYTES = re.compile(r"# map (\S+): byte B of a value lies in row (?:(\d+)\*key \+ )?B/(\d+): .*")
-OF_NUMBERS = re.compile(r"# map (\S+): (.+) is row (?:(\d+)\*key \+ )?(\d+)")
+OF_BYTES = re.compile(r"# map (\S+): byte B of a value lies in row (?:(\d+)\*key \+ )?B/(\d+)(?:, bits 0 to (\d+))?: .*")
+OF_NUMBERS = re.compile(r"# map (\S+): (.+) is row (?:(\d+)\*key \+ )?(\d+)(?:, bits 0 to (\d+))?")
 MAP = 'struct { __uint(type, BPF_MAP_TYPE_ARRAY); __uint(max_entries, %s); __type(key, __u32); __type(value, %s); } m SEC(".maps");\n'
 LOOK = "__u32 k = ctx->rx_queue_index; struct v *v = bpf_map_lookup_elem(&m, &k); if (!v) return 1; "
 # what can't be rows: in front of the function, in it, and what is said
@@ -35,6 +36,11 @@ REFUSED = {
         LOOK + "return (unsigned long)v >> 3 & 1;",
         "uses the address of a map's value as a number",
     ),
+    "an atomic addition to half of a number": (
+        "struct v { __u64 a[20]; };\n" + MAP % (2, "struct v"),
+        LOOK + "__sync_fetch_and_add((__u32 *)&v->a[1], 3); return 2;",
+        "an atomic addition of four bytes may change those above them in the same number",
+    ),
     "a list": (
         "struct v { __u64 a[20]; };\n" + (MAP % (2, "struct v")).replace("ARRAY", "HASH"),
         LOOK + "return v->a[1] & 3;",
@@ -43,18 +49,25 @@ REFUSED = {
 }
 
 
+def mask_of(last):
+    """The bits of a counter up to the last one that a comment names; all if it names none."""
+    return (1 << int(last) + 1) - 1 if last else MASK_64
+
+
 def numbers_here(printed, counters):
     """Of what `xdpbox filter` leaves the numbers by (map, byte of all values), as a host finds them by the comments."""
-    rows = {match[1]: (int(match[2] or 0), int(match[3])) for match in map(OF_BYTES.fullmatch, printed.splitlines()) if match}
-    named = {match.group(1, 2): (int(match[3] or 0), int(match[4])) for match in map(OF_NUMBERS.fullmatch, printed.splitlines()) if match}
+    of_bytes, of_numbers = ([match for match in map(each.fullmatch, printed.splitlines()) if match] for each in (OF_BYTES, OF_NUMBERS))
+    rows = {match[1]: (int(match[2] or 0), int(match[3]), mask_of(match[4])) for match in of_bytes}
+    named = {match.group(1, 2): (int(match[3] or 0), int(match[4]), mask_of(match[5])) for match in of_numbers}
 
     def number(name, part, key):
         """A number of a value, which a declaration names."""
         if (name, part.name) in named:  # also of a map that has rows of some bytes
-            each, at = named[name, part.name]
-            return counters.get((name, each * key + at), 0)
-        each, unit = rows[name]
-        return counters.get((name, each * key + part.place // unit), 0) >> 8 * (part.place % unit)
+            each, at, mask = named[name, part.name]
+            return counters.get((name, each * key + at), 0) & mask
+        each, unit, mask = rows[name]
+        whole = counters.get((name, each * key + part.place // unit), 0) & mask
+        return whole if part.size == unit else whole >> 8 * (part.place % unit) & (1 << 8 * part.size) - 1
 
     return number
 
@@ -76,7 +89,7 @@ def wrong_numbers(printed, counters, one, sections):
         for key in range(len(data) // whole):
             for part in parts:
                 there = int.from_bytes(data[whole * key + part.place :][: part.size], "little")
-                here = number(name, part, key) & (1 << 8 * part.size) - 1
+                here = number(name, part, key)
                 if here != there:
                     yield f"{name} {key} {part.name}: {here} and not {there}"
 
@@ -109,6 +122,7 @@ def tests(clang, xdpbox):
     with tempfile.TemporaryDirectory() as name:
         folder = pathlib.Path(name)
         yield f"large values on {len(given)} packets", compared(clang, xdpbox, SOURCE, given, folder)
+        yield f"many small numbers in a loop on {len(given)} packets", compared(clang, xdpbox, IN_LOOP, given, folder)
         path = folder / "refused.c"
         for name, (before, body, wanted) in REFUSED.items():
             path.write_text(f'{called.HEADERS}{before}SEC("xdp") int f(struct xdp_md *ctx) {{ {body} }}\n')

@@ -47,6 +47,13 @@ WRONG_PACKETS = {
     "PASS": "isn't ACTION PACKET [PACKET], in hex",
     "PASS 00": "settings refused L4",
     "\xff": "isn't ACTION PACKET [PACKET], in hex",
+    "at 1s\nPASS 00": "there is a time for it, and the filter has no map bpf_ktime_get_ns",
+    "at 1": "at wants a number with ns, us, ms or s behind it",
+    "at 1 s": "at wants a number with ns, us, ms or s behind it",
+    "at": "at wants a number with ns, us, ms or s behind it",
+    "at 0.5ns": "and no part of one",
+    "at 9223372037s": "a time has 0 to 9223372036854775807 nanoseconds",
+    "at 2ms\nat 1999us": "the time doesn't go back",
 }
 
 
@@ -234,6 +241,43 @@ def example_tests(clang, xdpbox, folder):
         yield f"the example {name}", "" if not status and "passed, 0 failed\n" in made else made[-600:] + said
 
 
+# by source two packets at once, and then one each half second
+BUCKETS = """#include <linux/if_ether.h>
+#include <linux/ip.h>
+struct bucket { __u64 left, time; };
+struct { __uint(type, BPF_MAP_TYPE_ARRAY); __uint(max_entries, 256); __type(key, __u32); __type(value, struct bucket); } buckets SEC(".maps");
+SEC("xdp") int f(struct xdp_md *ctx) {
+	void *data = (void *)(long)ctx->data, *end = (void *)(long)ctx->data_end;
+	struct iphdr *ip = data + sizeof(struct ethhdr);
+	if ((void *)(ip + 1) > end) return XDP_PASS;
+	__u32 key = ip->saddr >> 24;
+	struct bucket *one = bpf_map_lookup_elem(&buckets, &key);
+	if (!one) return XDP_PASS;
+	__u64 now = bpf_ktime_get_ns(), left = one->left + (now - one->time);
+	if (left > 1000000000) left = 1000000000;
+	one->time = now;
+	if (left < 500000000) { one->left = left; return XDP_DROP; }
+	one->left = left - 500000000;
+	return XDP_PASS;
+}
+"""
+
+
+def time_tests(clang, xdpbox, folder):
+    """A limit by the time that packets have."""
+    source, path, (one, two) = folder / "buckets.c", folder / "in-time", (ipv4(UDP, (10, 0, 0, last)).hex() for last in (2, 3))
+    source.write_text(HEADERS + BUCKETS)
+    steps = ("5s", "PPD", "P"), ("5499.999999ms", "D", "P"), ("5500ms", "PD", "PD"), ("9s", "PPD", "PPD"), ("9000000999ns", "D", "D"), ("9500001us", "PD", "PD")
+    lines = []
+    for time, *each in steps:
+        lines += [f"at {time}", *(f"{'PASS' if char == 'P' else 'DROP'} {packet}" for packet, chars in zip((one, two), each) for char in chars)]
+    path.write_text("\n".join(lines))
+    made, said, status = ran(clang, xdpbox, "filter-test", "--linux", source, path)
+    right = not status and made.endswith(f"{sum(not line.startswith('at') for line in lines)} passed, 0 failed\n")
+    yield "a limit by the time that packets have", "" if right else made[-600:] + said
+    yield "Linux's own time isn't asked for", "" if "Linux isn't asked: " in said and ("asks for the time" in said or "root" in said) else said
+
+
 # filters of which Linux makes the same: arrays, lists of keys, and constants in memory
 BESIDE_LINUX = (
     "47-majority", "61-narrow-values", "63-open-ports", "59-replay-window", "16-blocklist", "65-host-list",
@@ -278,4 +322,5 @@ def tests(clang, xdpbox):
         yield from guard_tests(clang, xdpbox, folder / "guarded.c")
         yield from packet_tests(clang, xdpbox, folder)
         yield from example_tests(clang, xdpbox, folder)
+        yield from time_tests(clang, xdpbox, folder)
         yield from linux_tests(clang, xdpbox, folder)

@@ -16,9 +16,11 @@ from tests.straight.programs import ADD_CONSTANT, ATOMIC_DOUBLE, BOTH_HALVES, EX
 from tests.straight.programs import IF_EQUAL_CONSTANT, LOAD_DOUBLE, LOAD_WORD, LSH_CONSTANT, MOVE_CONSTANT, MOVE_REGISTER, PASS
 from tests.straight.programs import R0, R2, R3, R6, R10, RSH_CONSTANT, START, STORE_DOUBLE, STORE_WORD, WIDE_LOAD, R1, lookup, settings
 from laxonje_tools.from_c import program
-from laxonje_tools.straight.instructions import BY_REGISTER, JLE, JMP
+from laxonje_tools.straight.instructions import BY_REGISTER, JLE, JMP, LDX, MEMSX
+from laxonje_tools.straight.parts import Part, places_of
 from laxonje_tools.straight.seen import shows_addresses
 from laxonje_tools.straight.settings import instructions_of, text_of
+from laxonje_tools.straight.split import with_split
 
 TOOLS = pathlib.Path(__file__).resolve().parents[3]
 HEADERS = "#include <linux/bpf.h>\n#include <bpf/bpf_helpers.h>\n"
@@ -325,10 +327,38 @@ def seen_tests():
             yield f"{name}: {'seen' if wanted else 'not seen'}", "" if found == wanted else f"{found}"
 
 
+# loads of several numbers at once: the opcode, and where these lie; and what they load
+SEVERAL = {
+    "eight bytes": (LOAD_DOUBLE, [Part(0, 4), Part(4, 2), Part(6, 1), Part(7, 1)]),
+    "four bytes": (LOAD_WORD, [Part(0, 2), Part(2, 2)]),
+    "four bytes with a sign": (MEMSX << 5 | LDX, [Part(0, 2), Part(2, 1), Part(3, 1)]),
+}
+LOADED = 0x8877_66F5_8433_9281
+
+
+def split_tests():
+    """Such loads part by part bring what they bring as they were."""
+    for name, (opcode, parts) in SEVERAL.items():
+        given = settings(*lookup((opcode, R6, R0), (STORE_DOUBLE, R0, R6, 8)), *PASS, entries=1, counters=2)
+        given["map"][0]["values"] = [LOADED]
+        code = instructions_of(given)
+        made = with_split(given, code, {slot: parts for slot, insn in code.items() if insn.is_load and insn.source == R0})
+        left = []
+        for each in (given, made.settings):
+            one = machine.Machine(each)
+            left.append((one.run(bytes(14)), one.counters()))
+        yield f"{name} that are loaded part by part", "" if left[0] == left[1] else f"{left}"
+
+
 def place_tests(xdpbox):
     """What `straighten` says of numbers that have a counter of their own."""
     given = text_of(BOTH_HALVES, BOTH_HALVES["program"], [(row["slot"], row["map"]) for row in BOTH_HALVES["reloc"]])
     run = subprocess.run([TOOLS / "straighten"], input=given, env={**os.environ, "XDPBOX": xdpbox}, capture_output=True, text=True, check=False)
     said = "\n# map hits: the number at byte 0 is bits 0 to 31 of counter 2\n" in run.stdout
     yield "straighten says where the bytes are", "" if said else run.stdout[:300] + run.stderr
+    packed = [{"name": name, "place": place, "size": 4, "bits": 0} for name, place in (("low", 2), ("both", 6), ("high", 10))]
+    places = [line.partition(" is ")[2] for line in places_of({**BOTH_HALVES, "numbers": {"hits": packed}}, {})]
+    wanted = ["bits 16 to 47 of counter 0", "bits 48 to 63 of counter 0, and above these bits 0 to 15 of counter 1", "bits 16 to 47 of counter 1"]
+    yield "a number in two counters is located", "" if places == wanted else f"{places}"
     yield from seen_tests()
+    yield from split_tests()

@@ -11,17 +11,45 @@ from tests.straight.objects import object_of
 from laxonje_tools.from_c import btf, elf, tables
 from laxonje_tools.straight.instructions import MASK_64
 
-SOURCE = pathlib.Path(__file__).parent / "tables.c"
+FOLDER = pathlib.Path(__file__).parent
+SOURCE, OTHERS = FOLDER / "tables.c", [FOLDER / name for name in ("joined.c", "large_tables.c", "bytes_in_tables.c")]
 FULL, IS_THERE, IS_NONE = -7, -17, -2
 ANY, NOT_THERE, THERE = 0, 1, 2
 PLACES = 4
 MAP = '#define MAP(name, kind, key_type, value_type) struct { __uint(type, BPF_MAP_TYPE_##kind); __uint(max_entries, 8); __type(key, key_type); __type(value, value_type); } name SEC(".maps");\n'
+# rows that are used after an update, which in Linux are another element's then: by the map and the flags, and what is done with them
+USED_LATER = """MAP(a, %s, __u32, __u64)
+SEC("xdp") int f(struct xdp_md *ctx) {
+	__u8 *p = (void *)(long)ctx->data;
+	if (p + 14 > (__u8 *)(long)ctx->data_end) return XDP_DROP;
+	__u32 k = p[0], other = p[2]; __u64 now = p[1], *last = bpf_map_lookup_elem(&a, &k);
+	%s
+}
+"""
+UPDATE = "bpf_map_update_elem(&a, &k, &now, %s);"
+STALE = {
+    "a row that was changed": ("HASH", f"if (!last) return XDP_PASS; {UPDATE % 'BPF_ANY'} return *last == now ? XDP_DROP : XDP_PASS;"),
+    "a row that was changed, as a key": ("LRU_HASH", f"if (!last) return XDP_PASS; {UPDATE % 'BPF_EXIST'} return bpf_map_lookup_elem(&a, last) ? XDP_DROP : XDP_PASS;"),
+    "a row that was changed under another key": ("HASH", "if (!last) return XDP_PASS; bpf_map_update_elem(&a, &other, &now, BPF_ANY); *last += 1; return XDP_TX;"),
+    "a row that was changed, kept on the stack": (
+        "HASH",
+        f"__u64 *volatile kept = last; {UPDATE % 'BPF_ANY'} last = kept; return last && *last == now ? XDP_DROP : XDP_PASS;",
+    ),
+}
+NOT_STALE = {
+    "a row that wasn't there": ("HASH", f"if (!last) {{ {UPDATE % 'BPF_ANY'} return XDP_PASS; }} *last += 1; return XDP_DROP;"),
+    "a row that is looked up again": ("HASH", f"{UPDATE % 'BPF_ANY'} last = bpf_map_lookup_elem(&a, &k); return last && *last > 3 ? XDP_DROP : XDP_PASS;"),
+    "a row that is there already": ("HASH", f"if (!last) return XDP_PASS; {UPDATE % 'BPF_NOEXIST'} return *last == now ? XDP_DROP : XDP_PASS;"),
+    "a row of a processor": ("PERCPU_HASH", f"if (!last) return XDP_PASS; {UPDATE % 'BPF_ANY'} return *last == now ? XDP_DROP : XDP_PASS;"),
+    "a number that is kept of a row": ("HASH", f"if (!last) return XDP_PASS; __u64 was = *last; {UPDATE % 'BPF_ANY'} return was == now ? XDP_DROP : XDP_PASS;"),
+}
 # what stays refused: the maps, the function, and what is said
 REFUSED = {
-    "a value of more than eight counters": (
-        "struct v { __u64 n[9]; }; MAP(a, HASH, __u64, struct v)",
-        "__u64 k = 1; struct v v = {}; return bpf_map_update_elem(&a, &k, &v, BPF_ANY) ? XDP_DROP : XDP_PASS;",
-        "adds rows to a, of which the key has 8 bytes and the value 72: at most 63 and 64",
+    "a value of more bytes than the stack": (
+        "struct v { __u64 n[65]; }; MAP(a, HASH, __u64, struct v) MAP(b, ARRAY, __u32, struct v)",
+        "__u64 k = 1; __u32 i = 0; struct v *v = bpf_map_lookup_elem(&b, &i);"
+        " return !v || bpf_map_update_elem(&a, &k, v, BPF_ANY) ? XDP_DROP : XDP_PASS;",
+        "adds rows to a, of which the key has 8 bytes and the value 520: at most 63 and 512",
     ),
     "flags that aren't constant": (
         "MAP(a, HASH, __u32, __u64)",
@@ -34,6 +62,22 @@ REFUSED = {
         "calls bpf_map_update_elem, which isn't here",
     ),
 }
+
+# the kind of a map and its entries, to which rows are added, a word, and whether it is a table
+ADDED = """struct { __uint(type, BPF_MAP_TYPE_%s); __uint(max_entries, %d); __type(key, __u32); __type(value, __u64); } seen SEC(".maps");
+SEC("xdp") int f(struct xdp_md *ctx) {
+	__u32 k = ctx->rx_queue_index;
+	__u64 v = 2;
+	return bpf_map_update_elem(&seen, &k, &v, BPF_ANY) ? XDP_DROP : XDP_PASS;
+}
+"""
+SIZES = (
+    ("HASH", 16384, (), True),
+    ("HASH", 16385, (), False),
+    ("HASH", 16385, ("--tables",), True),
+    ("PERCPU_HASH", 65536, (), False),
+    ("LRU_HASH", 16385, (), True),
+)
 
 
 def bucket_of(key, rows):
@@ -84,6 +128,8 @@ class Hashing(Calling):
     def free(self, number, key):
         """A place for a key; None if there is none."""
         (first, other), taken = bucket_of(key, self.rows[self.declared[number].name]), self.keys[number]
+        if self.declared[number].type not in tables.DROPPING and len(taken) >= self.declared[number].entries:
+            return None
         places = [row for row in range(first, first + PLACES) if row not in taken.values()]
         if places or self.declared[number].type not in tables.DROPPING:
             return places[0] if places else None
@@ -111,45 +157,74 @@ def packets():
 
 
 def numbers_left(settings, counters, table):
-    """The same of settings' counters: by key the numbers of a row."""
-    each, names = {row["name"]: row.get("counters", 1) for row in settings["map"]}, (table.declared.name, table.keys_name)
+    """The same of settings' counters: by key the first number of a row, whose numbers may be rows of its map."""
+    each = {row["name"]: row["entries"] * row.get("counters", 1) // table.rows for row in settings["map"]}
+    names = table.declared.name, table.keys_name
     values, keys = ({divmod(at, each[name]): number for (of, at), number in counters.items() if of == name} for name in names)
-    return {key: values.get((row, 0), 0) for row, key in table.keys(keys).items()}
+    size = table.declared.numbers[0].size
+    return {key: values.get((row, 0), 0) % (1 << 8 * size) for row, key in table.keys(keys).items()}
 
 
-def run_tests(clang, xdpbox, folder):
-    run = settings_from(clang, xdpbox, "--tables", SOURCE)
+def run_tests(clang, xdpbox, folder, source):
+    name, run = source.stem, settings_from(clang, xdpbox, source)
     if run.returncode:
-        yield "rows are added to tables", run.stderr
+        yield f"{name}: rows are added to tables", run.stderr
         return
-    yield "a table is noted once for each map", "" if run.stderr.count("in a table of") == 4 and run.stdout.count("\n# map ") >= 3 else run.stderr
-    settings, sections = tomllib.loads(run.stdout), elf.sections_of(object_of(clang, SOURCE, folder / "tables.o").read_bytes())
+    settings, sections = tomllib.loads(run.stdout), elf.sections_of(object_of(clang, source, folder / f"{name}.o").read_bytes())
     declared = list(btf.maps_in(sections))
     made = [tables.table_of(row) for row in declared]
+    notes, comments = run.stderr.count("in a table of"), run.stdout.count("\n# map ")
+    yield f"{name}: a table is noted once for each map", "" if notes == len(made) <= comments + 1 else run.stderr
     one, given = Hashing(sections, declared, {row.declared.name: row.rows for row in made}), packets()
     wanted = [one.run(packet) for packet in given]
     relocations = [(row["slot"], row["map"]) for row in settings["reloc"]]
     runs, counters = machine.filtered(xdpbox, settings, settings["program"], relocations, given)
     wrong = [(packet[:6].hex(), mine[0], theirs[0]) for packet, mine, theirs in zip(given, wanted, runs) if mine != theirs]
-    yield f"rows that are added, on {len(given)} packets", f"{wrong[:3]}" if wrong or len(runs) != len(given) else ""
-    yield "each answer is given", "" if {row[0] for row in wanted} == set(machine.ACTIONS.values()) else "not each"
+    yield f"{name}: rows that are added, on {len(given)} packets", f"{wrong[:3]}" if wrong or len(runs) != len(given) else ""
+    yield f"{name}: each answer is given", "" if {row[0] for row in wanted} == set(machine.ACTIONS.values()) else "not each"
     for table in made:
         there = {key: numbers[0] for key, numbers in one.left()[table.declared.name].items()}
         yield f"the rows of {table.declared.name}", "" if there and numbers_left(settings, counters, table) == there else f"{there}"
 
 
+def stale_tests(clang, xdpbox, folder):
+    """Rows that are used after an update: refused where Linux has another element then."""
+    path = folder / "stale.c"
+    for names, is_refused in ((STALE, True), (NOT_STALE, False)):
+        for name, row in names.items():
+            path.write_text(HEADERS + MAP + USED_LATER % row)
+            run = settings_from(clang, xdpbox, path)
+            right = not run.stdout and "in Linux that stays as it was" in run.stderr if is_refused else run.returncode == 0
+            yield f"{name} is {'refused' if is_refused else 'used'} after an update", "" if right else run.stderr
+
+
+def size_tests(clang, xdpbox, path):
+    """Maps of which the table has fewer than four rows for each entry: a word is wanted, unless their rows are dropped."""
+    for kind, entries, word, is_taken in SIZES:
+        path.write_text(HEADERS + ADDED % (kind, entries))
+        run = settings_from(clang, xdpbox, *word, path)
+        name = " ".join([f"rows that are added to one of {entries} entries of {kind}", *word])
+        if not is_taken:
+            yield f"{name}: refused", "" if run.returncode == 1 and not run.stdout and "--tables takes a larger hash" in run.stderr else run.stderr
+            continue
+        lines = [line for line in run.stdout.splitlines() if line.startswith("# map")]
+        is_known = any("bpf_spin_lock: the host has one queue" in line for line in lines) and "has one queue at a time judge" in run.stderr
+        yield f"{name}: a host learns of them", "" if is_known and "a table of 65536 rows" in lines[0] else run.stderr + run.stdout[:400]
+
+
 def tests(clang, xdpbox):
     with tempfile.TemporaryDirectory() as name:
         folder = pathlib.Path(name)
-        yield from run_tests(clang, xdpbox, folder)
+        for source in (SOURCE, *OTHERS):
+            yield from run_tests(clang, xdpbox, folder, source)
+        yield from stale_tests(clang, xdpbox, folder)
         path = folder / "refused.c"
         for name, (maps, body, wanted) in REFUSED.items():
             path.write_text(f'{HEADERS}{MAP}{maps}\nSEC("xdp") int f(struct xdp_md *ctx) {{ {body} }}\n')
-            run = settings_from(clang, xdpbox, "--tables", path)
+            run = settings_from(clang, xdpbox, path)
             yield f"{name}: refused", "" if run.returncode == 1 and not run.stdout and wanted in run.stderr else run.stderr + run.stdout[:80]
-        run = settings_from(clang, xdpbox, SOURCE)
-        yield "tables want a word, which is named", "" if run.returncode == 1 and "--tables keeps the rows" in run.stderr else run.stderr
+        yield from size_tests(clang, xdpbox, path)
         rows = folder / "rows.list"
         rows.write_text("192.0.2.1\n")
-        run = settings_from(clang, xdpbox, "--tables", "--list", f"hosts={rows}", SOURCE)
+        run = settings_from(clang, xdpbox, "--list", f"hosts={rows}", SOURCE)
         yield "a list for a table is refused", "" if run.returncode == 1 and "adds rows to hosts itself" in run.stderr else run.stderr
