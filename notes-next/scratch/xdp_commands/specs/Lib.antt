@@ -1,0 +1,4 @@
+pub mod Comparing
+pub mod ComparingFunctions
+pub mod Answer
+pub mod Seen
