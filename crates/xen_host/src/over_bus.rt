@@ -1,7 +1,7 @@
 //! A host over a bus: it writes at once, and reads when the answer is taken.
 
 ghost use Rattle.std.specs.Prelude.{◌≡◌, ◌<◌, ◌≤◌, ◌+◌, ◌-◌, ◌*◌, ◌↔◌, ◌++◌, ◌∷◌, [], IsTrue, List, None, length, ℕ};
-ghost use Rattle.xen_netif.specs.Copy.{Covers, bytes_from, bytes_of};
+ghost use Rattle.xen_netif.specs.Copy.{Covers, bytes_from, bytes_in, bytes_of};
 ghost use Rattle.xen_page.specs.Access.{Performs};
 ghost use Rattle.xen_steps.specs.Drive.{accesses};
 ghost use Rattle.xen_steps.specs.Pages.{HasRoom};
@@ -114,8 +114,27 @@ fn fill_from<B: Bus>(bus: &mut B, at: Place, count: u32, room: &mut [u8])
     }
 }
 
-/// Puts a fragment's bytes in words of its page, from one place to another, after a packet's bytes. Few fragments have words of which
-/// only a part is theirs, so this is a call of its own.
+/// Puts a fragment's bytes in the word of its page at a place after a packet's bytes. Few fragments have words of which only a part is
+/// theirs, so this is a call of its own.
+#[inline(never)]
+fn page_part<B: Bus, R: Room>(
+    bus: &mut B,
+    frame: u32,
+    fragment: &Fragment,
+    place: u32,
+    packet: &mut R,
+)
+    requires covers { Covers fragment.now place }
+    requires room { HasRoom (length (R.held packet.old)) fragment.now place 0 }
+    ensures room { HasRoom (length (R.held packet.new)) fragment.now (place + 1) 0 }
+    ensures read { (word : ℕ) × MayRead B.log B.access_gives B.size bus.old (page_word frame place) (word ∷ []) bus.new ×
+        (R.held packet.new ≡ R.held packet.old ++ bytes_in fragment.now place word) }
+{
+    let word = word_at(bus, Place { frame, word: place });
+    push_part(fragment, place, word, packet);
+}
+
+/// So it does for the words from one place to another.
 #[inline(never)]
 fn page_parts<B: Bus, R: Room>(
     bus: &mut B,
@@ -133,12 +152,11 @@ fn page_parts<B: Bus, R: Room>(
         words bus.new × ((R.held packet.new) ≡ R.held packet.old ++ bytes_from fragment.now from words) }
 {
     for place in from..to {
-        let word = word_at(bus, Place { frame, word: place });
-        push_part(fragment, place, word, packet);
+        page_part(bus, frame, fragment, place, packet);
     }
 }
 
-/// So it does, if there are such words.
+/// So it does, if there are such words. Mostly there is one.
 #[inline(always)]
 fn page_edge<B: Bus, R: Room>(
     bus: &mut B,
@@ -155,8 +173,12 @@ fn page_edge<B: Bus, R: Room>(
     ensures read { (words : List ℕ) × (length words ≡ to - from) × MayRead B.log B.access_gives B.size bus.old (page_word frame from)
         words bus.new × ((R.held packet.new) ≡ R.held packet.old ++ bytes_from fragment.now from words) }
 {
-    if from < to {
-        page_parts(bus, frame, fragment, from, to, packet)
+    if from == to {
+        return;
+    }
+    page_part(bus, frame, fragment, from, packet);
+    if from + 1 < to {
+        page_parts(bus, frame, fragment, from + 1, to, packet)
     }
 }
 

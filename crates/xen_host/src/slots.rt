@@ -30,19 +30,21 @@ pub enum SlotForm {
 #[derive(Drop)]
 pub struct Slots {
     pub(crate) form: SlotForm,
+    /// Their number.
+    pub(crate) count: usize,
     pub(crate) single: [u32; 3],
     pub(crate) chain: Chain,
 }
 
 impl Model for Slots {
-    ghost use Rattle.std.specs.Prelude.{List, ℕ};
+    ghost use Rattle.std.specs.Prelude.{◌≡◌, ◌≤◌, List, ℕ, length};
     ghost use Rattle.xen_host.specs.SlotForms.{IsWhole, slots_held};
 
     ghost Value = { List (List ℕ) };
 
     ghost view = { λ s. slots_held s.form s.single s.chain };
 
-    ghost invariant = { λ s. IsWhole s.form s.single };
+    ghost invariant = { λ s. IsWhole s.form s.single × (s.count ≡ length (slots_held s.form s.single s.chain)) × (s.count ≤ 23) };
 }
 
 /// Puts a fragment that is all into the room for fragments. If one was before it is replaced, without a call that
@@ -115,6 +117,7 @@ impl Slots {
     {
         Slots {
             form: SlotForm::Empty,
+            count: 0,
             single: [0; 3],
             chain: Chain::new(),
         }
@@ -125,6 +128,7 @@ impl Slots {
         ensures { self.new ≡ [] }
     {
         self.form = SlotForm::Empty;
+        self.count = 0;
     }
 
     /// Returns their number.
@@ -132,22 +136,14 @@ impl Slots {
         ensures len { result ≡ length self.now }
         ensures few { result ≤ 23 }
     {
-        match self.form {
-            SlotForm::Empty => 0,
-            SlotForm::Single => 1,
-            SlotForm::Chained => self.chain.len(),
-        }
+        self.count
     }
 
     /// Returns whether there is none.
     pub fn is_empty(&self) -> bool
         ensures { IsTrue result ↔ (self.now ≡ []) }
     {
-        match self.form {
-            SlotForm::Empty => true,
-            SlotForm::Single => false,
-            SlotForm::Chained => self.chain.is_empty(),
-        }
+        self.count == 0
     }
 
     /// The first slot of a chain that wants more.
@@ -160,7 +156,9 @@ impl Slots {
     {
         self.chain = Chain::new();
         self.form = SlotForm::Chained;
-        self.chain.push(words)
+        let pushed = self.chain.push(words);
+        self.count = self.chain.len();
+        pushed
     }
 
     /// Adds the slot of these three words, and says what is wanted next, as [`Chain::push`] does.
@@ -176,13 +174,18 @@ impl Slots {
                 if is_alone(words) {
                     self.single = words;
                     self.form = SlotForm::Single;
+                    self.count = 1;
                     Ok(ChainState::Complete)
                 } else {
                     self.push_first(words)
                 }
             }
             SlotForm::Single => unreachable!(),
-            SlotForm::Chained => self.chain.push(words),
+            SlotForm::Chained => {
+                let pushed = self.chain.push(words);
+                self.count = self.chain.len();
+                pushed
+            }
         }
     }
 

@@ -1,4 +1,4 @@
-use Rattle.std.proofs.Common.{◌≡◌, ◌≤◌, ◌-◌, ◌/◌, drop, refl, sym, ap, ◌∙◌, arith}
+use Rattle.std.proofs.Common.{rules, ◌≡◌, ◌≤◌, ◌-◌, ◌/◌, drop, refl, sym, ap, ◌∙◌, arith}
 use Rattle.xen_steps.specs.Steps.{bind}
 use Rattle.xdp_program.specs.Tallies.{Went}
 use Rattle.xen_host.specs.Asks as ask
@@ -11,14 +11,13 @@ use Rattle.xen_host.proofs.AskLemmas.{asks_words, page_short}
 use Rattle.xen_host.specs.EngineAt.{engine_at}
 use Rattle.xen_host.proofs.engine.Engine.begin_page.Goals as goal
 
-pub returns-then-words : goal.returns-then-words
-returns-then-words g c =
+pub returns-then-fragment-eq0 : goal.returns-then-fragment-eq0
+returns-then-fragment-eq0 g c =
     let q = engine_at (g.W.Wires.wiring c.args.wires.now) (g.R.Room.held c.args.packet.now) c.args.self.now in
     let w = q.wires in
     let b = q.work in
     let f = c.args.fragment in
-    let r = c.covered_words-words.result in
-    let none : covered f ≡ 0 = omega (arith, c.covered_words-words.ensures.count, c.if-words.true) in
+    let none : covered f ≡ 0 = search rules in
     let same = ap (λ n. bind (bind (copy_words f c.args.frame (f.offset / 4) n b.packet) (copy w (drop c.args.i b.fragments))) (after_copy w q.state b.chain)) none in
     record { led = ran_from_same _ _ _ _ _ _ _ _ _ (sym same) c.after_empty.ensures.led }
 
@@ -32,7 +31,7 @@ returns g c =
     let e = c.covered_words-words.ensures in
     let r = c.covered_words-words.result in
     let n : covered f ≡ r.end - r.start = omega (arith, e.count) in
-    let some : 1 ≤ covered f = omega (arith, n, e.count, c.if-words.false) in
+    let some : 1 ≤ covered f = search rules in
     let at = page_word frame (f.offset / 4) in
     let left = bind (bind (copy_words f frame (f.offset / 4) (covered f) b.packet) (copy w (drop c.args.i b.fragments))) (after_copy w q.state b.chain) in
     let is = ap (λ k. ask.Read (page_word frame k) (r.end - r.start)) e.start ∙ ap (λ m. ask.Read at m) (sym n) in

@@ -1,4 +1,4 @@
-use Rattle.std.proofs.Common.{Some, ◌++◌, refl, sym, ◌∙◌, map}
+use Rattle.std.proofs.Common.{Some, ◌++◌, sym, ◌∙◌, map}
 use Rattle.xen_turns.specs.Drive.{labels}
 use Rattle.xen_host.specs.Asks.{did_by}
 use Rattle.xen_host.specs.EngineAt.{engine_at}
