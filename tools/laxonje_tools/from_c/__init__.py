@@ -17,6 +17,8 @@
     places    what registers have of the addresses of such values
     layouts   which rows there are
     in_rows   a program with such values in rows
+    turned    additions of the address of a value to a number
+    values_apart  what follows ways that meet with values of several maps, copied for each
     looked_up  globals whose values are looked up in front of a program
     maps      maps, and what is given of them
     lists     files of addresses and prefixes

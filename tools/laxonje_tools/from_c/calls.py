@@ -82,7 +82,7 @@ class Calls:
     """The functions of a file, and of a call the one that it leads to. `absent`: what is left out. `maps`: arrays and hash maps by their
     names. `frames`: by name how much of the stack a function uses, None of an object file. `mtu`:
     that of the device that packets come from, None if it isn't said; `clock`: the nanoseconds between two calls for the time, None if the
-    host writes it."""
+    host writes it. `in_rows`: whether a value of a table that has more than one counter is several rows."""
 
     def __init__(
         self,
@@ -93,16 +93,17 @@ class Calls:
         frames: Optional[Mapping[str, int]],
         mtu: Optional[int] = None,
         clock: Optional[int] = None,
+        in_rows: bool = False,
     ) -> None:
         self.functions, self.relocations, self.absent, self.frames = functions, relocations, absent, frames
         self.arrays = {name: row for name, row in maps.items() if not row.is_hash}
         self.hashes, self.tables = {name: row for name, row in maps.items() if row.is_hash}, {}
         self.looked_up, self.changed = {}, {}  # by the last line in the place of a call the table
-        self.mtu, self.clock, self.notes, self.sent_back, self.maps = mtu, clock, [], set(), {}
+        self.mtu, self.clock, self.in_rows, self.notes, self.sent_back, self.maps = mtu, clock, in_rows, [], set(), {}
         self.blank = set()  # words of the stack that a call may leave as they are, and that clang may load before it looks at the answer
 
     def replaced(self, function: Function) -> Replaced:
-        self.tables = {name: table_of(self.hashes[name].declared) for name in sorted(self.filled_by(function))}
+        self.tables = {name: table_of(self.hashes[name].declared, self.in_rows) for name in sorted(self.filled_by(function))}
         own, (lines, used) = self.frame(function), self.inlined(function, 0, 0)
         is_shown = self.frames is not None or below_frames(lines) is None
         if not is_shown and used > own:

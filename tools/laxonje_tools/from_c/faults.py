@@ -23,13 +23,11 @@ INLINED_LATER = ("memcmp", "memcpy", "memmove", "memset")
 ARRAYS, PER_CPU, KEYED = (2, 6), (5, 6, 10), {1: EXACT, 5: EXACT, 9: EXACT, 10: EXACT, 11: PREFIX}
 
 NO_ROWS = (
-    "a program adds rows to an LRU hash and to a hash of at most 16384 entries: make it one; --tables takes a larger hash, which is full"
-    " sooner than in Linux; or keep state by address in a BPF_MAP_TYPE_ARRAY, under a hash of the address, as"
+    "a program adds rows to a hash: make it one; or keep state by address in a BPF_MAP_TYPE_ARRAY, under a hash of the address, as"
     " examples/straightened/budget-by-source does; the rows of a list are given by --list"
 )
 OTHERS_ROWS = (
-    "a program takes rows away only from a hash to which it adds some, of more than 16384 entries with --tables: those of a list are the"
-    " host's, given by --list"
+    "a program takes rows away only from a hash to which it adds some: those of a list are the host's, given by --list"
 )
 LISTED = f"{NO_ROWS}; or make it a BPF_MAP_TYPE_HASH, if it is such a list"
 NO_REDIRECT = (

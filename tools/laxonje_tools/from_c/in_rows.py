@@ -40,19 +40,30 @@ def size_of(line: Line) -> int:
 def in_rows(
     made: Replaced, shapes: Iterable[Shape], arrays: AbstractSet[str], variable: Callable[[Relocation], Optional[tuple[str, int]]]
 ) -> tuple[Replaced, dict[str, Layout]]:
-    """A function whose calls are written out with the values of these maps in rows, and where these are. `arrays`: the names of all arrays."""
-    shapes = {shape.name: shape for shape in shapes}
+    """A function whose calls are written out with the values of these maps in rows, and where these are. `arrays`: the names of all arrays. A
+    fault's slot, and those of notes, are of the whole program's function."""
+    try:
+        return written_in_rows(made, {shape.name: shape for shape in shapes}, arrays, variable)
+    except Fault as fault:
+        fault.slot = made.origins[fault.slot]
+        raise
+
+
+def written_in_rows(
+    made: Replaced, shapes: Mapping[str, Shape], arrays: AbstractSet[str], variable: Callable[[Relocation], Optional[tuple[str, int]]]
+) -> tuple[Replaced, dict[str, Layout]]:
+    """The same with a fault's slot of the function that is given."""
     lines = lines_of(made.code, made.relocations)
     places = Places(lines, shapes.keys(), variable)
     check_uses(lines, places)
-    notes = [*made.notes, *counted(lines, places, shapes)]
+    notes = [*made.notes, *((made.origins[slot], note) for slot, note in counted(lines, places, shapes))]
     layouts = {name: layout_of(shape, list(accesses_to(name, lines, places))) for name, shape in shapes.items()}
     rows = Rows(lines, places, layouts, made.stack, arrays)
     made_of = list(rows.replaced())
     without_reloads(made_of, set(rows.homes.values()))
     code, relocations, slots = written(made_of)
     origins = [made.origins[slot] for slot in slots]
-    return made._replace(code=code, relocations=relocations, origins=origins, notes=notes, stack=rows.stack), layouts
+    return made._replace(code=code, relocations=relocations, origins=origins, notes=list(dict.fromkeys(notes)), stack=rows.stack), layouts
 
 
 def counted(lines: list[Line], places: Places, shapes: Mapping[str, Shape]) -> list[tuple[int, str]]:

@@ -11,6 +11,7 @@ from .in_rows import in_rows
 from .layouts import Cell, Layout, Shape
 from .lines import Fault
 from .memory import MOST_BEGINNING
+from .values_apart import values_apart
 
 if TYPE_CHECKING:
     from .btf import MapOfC, Number
@@ -84,16 +85,22 @@ def large_values(
         for row in maps_in(sections)
         if row.type in ARRAYS and row.value_bytes > least and row.name in named
     ]
-    filled = [table for table in made.tables.values() if table.declared.value_bytes > MOST_WHOLE]
+    filled = [table for table in made.tables.values() if table.in_rows]
     of_tables = [Shape(row.name, table.rows, row.value_bytes, cells_in(row.numbers), row.type not in PER_CPU) for table in filled for row in [table.declared]]
     variables = {found: size for found, size in variables_in(sections, changed).items() if size > least}
     of_maps = [shape for shape in of_maps if shape.entries and (not is_again or shape.entries * shape.bytes <= MOST_ENTRIES * COUNTER_BYTES)]
     types = Types(sections[".BTF"].data) if ".BTF" in sections else None
     of_globals = [Shape(name, 1, size, cells_in(types.numbers_of(name)) if types else ()) for (_, _, name), size in variables.items()]
-    if not of_maps and not of_globals and not of_tables or is_again and not of_maps and not of_globals:
+    shapes = [*of_maps, *of_tables, *of_globals]
+    if not shapes or is_again and not of_maps and not of_globals and all(shape.bytes > MOST_WHOLE for shape in of_tables):
         return None
     arrays = {row.name for row in maps_in(sections) if row.type in ARRAYS or row.name in made.tables}
-    found, layouts = in_rows(made, [*of_maps, *of_tables, *of_globals], arrays, lambda row: in_variable(sections, variables, row))
+
+    def variable(row: Relocation) -> Optional[tuple[str, int]]:
+        return in_variable(sections, variables, row)
+
+    made = values_apart(made, {shape.name for shape in shapes}, variable) or made
+    found, layouts = in_rows(made, shapes, arrays, variable)
     begun = {name: beginning_of(sections, section, place, layouts[name]) for section, place, name in variables}
     return InRows(found, layouts, begun)
 

@@ -17,7 +17,7 @@ CONTEXT_ARGUMENT, MAP_ARGUMENT, ANSWER, FRAME = 1, 1, 0, 10  # registers
 LOOKUP, DOUBLE = 1, 8
 LOADS, STORES, ALU32, JUMPS, ALU64 = 1, (2, 3), 4, (5, 6), 7  # classes of opcodes
 BY_REGISTER, LOAD_WORD, LOAD_DOUBLE, STORE_DOUBLE = 8, 0x61, 0x79, 0x7B
-ADD, SUB, MUL, OR, AND, LSH, NEG, XOR, MOVE = 0, 1, 2, 4, 5, 6, 8, 10, 11  # operations
+ADD, SUB, MUL, OR, AND, LSH, NEG, XOR, MOVE, BYTES = 0, 1, 2, 4, 5, 6, 8, 10, 11, 13  # operations, the last: their order
 IF_EQUAL_CONSTANT, IF_NOT_CONSTANT, IF_EQUAL, IF_NOT = 0x15, 0x55, 0x1D, 0x5D
 START_FIELDS = 0, 4, 8  # of the context: data, data_end and data_meta
 ALL_BITS, OF_ZERO = 16, 64  # of a place that is known; and of which power of two 0 is a multiple
@@ -219,7 +219,8 @@ def check_uses(lines: list[Line], places: Places) -> None:
     for line in lines:
         held, kind = places.before.get(line, {}), line.opcode & 7
         own, other = (isinstance(held.get(register), InValue) for register in (line.destination, line.source))
-        by_register = bool(line.opcode & BY_REGISTER)
+        is_order = kind in (ALU32, ALU64) and line.opcode >> 4 == BYTES  # of which no other register is read
+        by_register = bool(line.opcode & BY_REGISTER) and not is_order
         is_wrong = False
         if kind in JUMPS and line.is_jump and line.opcode not in (JUMP, FAR_JUMP):
             with_zero = not line.immediate if not by_register else ZERO in (held.get(line.destination), held.get(line.source))

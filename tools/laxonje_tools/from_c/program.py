@@ -17,8 +17,10 @@ from .large import large_values
 from .lines import STACK_BYTES, packed
 from .maps import SizedMap, maps_of, notes_of, settings_of
 from .memory import COUNTER_BYTES, faults_of_memory, memory_of
-from .tables import may_be_table
+from .tables import HASHES
+from .turned import sums_turned
 from .values import SIZES, Constant, set_values, values_of
+from .values_apart import values_apart
 from .zeros import with_additions
 
 if TYPE_CHECKING:
@@ -39,7 +41,8 @@ class Filter(NamedTuple):
     own say so, which `xdpbox` doesn't know; `form` has constants as maps, if they can be. `place`: of a slot its line of C,
     or None. `per_cpu`: the maps that are per CPU in Linux. `narrow`: those whose values have numbers of fewer than eight bytes.
     `notes`: what its author should know. `values`: its constants that can be set. `object`: the object file that it was made of, and the
-    function's name. `again`: the same with more values in rows, None if there are none. `made_with`: the same as clang makes it with one
+    function's name. `again`: the same with more values in rows, None if there are none. `apart`: the same with what follows meetings of values
+    of several maps copied for each, None if there are none. `made_with`: the same as clang makes it with one
     more word, None if it isn't another one; `zeroed`: the same on a stack that begins with zeros, None if it does."""
 
     settings: dict
@@ -50,6 +53,7 @@ class Filter(NamedTuple):
     values: list[Constant]
     object: Callable[[], tuple[bytes, str]]
     again: Callable[[], Optional[Filter]] = lambda: None
+    apart: Callable[[], Optional[Filter]] = lambda: None
     made_with: Callable[[str], Optional[Filter]] = lambda word: None
     zeroed: Callable[[], Optional[Filter]] = lambda: None
 
@@ -73,8 +77,7 @@ class Asked(NamedTuple):
     """What a command asks for: a file, maps whose sizes it gives, which function, if the file has several, numbers of
     constants, as (name, number), what is left out, in the words of `absent`, entries of declared maps, as (name, number),
     files with the rows of maps, and with what their counters begin with, as (name, path), the MTU of the packets' device, and the
-    nanoseconds between two calls for the time, None if the host writes it. `tables`: whether large hash maps to which the program adds rows
-    are tables too; `zeros`: whether the stack begins with zeros."""
+    nanoseconds between two calls for the time, None if the host writes it. `zeros`: whether the stack begins with zeros."""
 
     source: str
     maps: Iterable[SizedMap] = ()
@@ -86,7 +89,6 @@ class Asked(NamedTuple):
     beginnings: Iterable[tuple[str, str]] = ()
     mtu: Optional[int] = None
     clock: Optional[int] = None
-    tables: bool = False
     zeros: bool = False
 
 
@@ -145,15 +147,15 @@ def filter_of(asked: Asked, sections: dict[str, Part], compiler: Optional[Compil
     lines = btf.lines_of(sections, function, source).items()
     place = place_in_c({slot: line for slot, line in lines if compiler is None or not compiler.is_own(line)})
     stop_on(f"{place(slot) or f'{source}: slot {slot}'} {fault}" for slot, fault in faults_of_kernel(sections, function))
-    frames = None if compiler is None else compiler.frames()
-    made = without_calls(asked, sections, function, frames, place)
-    made = with_zeros(made) if asked.zeros else made
-    given = Given(asked, sections, compiler, made, place)
+    try:
+        made = without_calls(asked, sections, function, compiler)
+    except Fault as fault:
+        fail(f"{place(fault.slot) or f'{source}: slot {fault.slot}'} {fault}")
+    given = Given(asked, sections, compiler, function, made, place)
     try:
         return with_rows(given, False)
     except Fault as fault:
-        slot = made.origins[fault.slot]
-        fail(f"{place(slot) or f'{source}: slot {slot}'} {fault}")
+        fail(f"{place(fault.slot) or f'{source}: slot {fault.slot}'} {fault}")
 
 
 class Given(NamedTuple):
@@ -162,15 +164,27 @@ class Given(NamedTuple):
     asked: Asked
     sections: dict[str, Part]
     compiler: Optional[Compiler]
+    function: Function
     made: Replaced
     place: Callable
 
     def again(self) -> Optional[Filter]:
         """The filter with more values in rows; None if there are none, or not so."""
         try:
-            return with_rows(self, True)
+            made = without_calls(self.asked, self.sections, self.function, self.compiler, True) if self.made.tables else self.made
+            return with_rows(self._replace(made=made), True)
         except Fault:
             return None
+
+    def apart(self) -> Optional[Filter]:
+        """The filter with values of several maps apart, of which one has numbers of fewer than eight bytes; None if no ways meet with such."""
+        narrow = {row.name for row in btf.maps_in(self.sections) if row.has_parts} & {row.name for row in self.made.relocations}
+        try:
+            made = values_apart(self.made, narrow, lambda row: None) if narrow else None
+            found = None if made is None else with_rows(self._replace(made=made), False)
+        except Fault:
+            return None
+        return None if found is None else found._replace(apart=lambda: None)
 
     def made_with(self, word: str, settings: dict) -> Optional[Filter]:
         """The filter as clang makes it with one more word; None if that has these settings too, or of an object."""
@@ -185,7 +199,7 @@ class Given(NamedTuple):
 
 def with_rows(given: Given, is_again: bool) -> Optional[Filter]:
     """The filter with values in rows that need it. `is_again`: whether more are; None if there are no more."""
-    asked, sections, compiler, made, place = given
+    asked, sections, compiler, _, made, place = given
     source = asked.source
     large = large_values(asked, sections, made, stored_to(made.code, made.relocations), is_again)
     if large is None and is_again:
@@ -223,27 +237,28 @@ def with_rows(given: Given, is_again: bool) -> Optional[Filter]:
     per_cpu = {row.name for row in declared if row.type in faults.PER_CPU}
     narrow = {row.name for row in declared if row.has_parts} | (set() if large is None else large.narrow)
     kept = [row for row in values_of(sections) if row.name not in begun]
-    others = () if is_again else (given.again, lambda word: given.made_with(word, settings), given.zeroed)
+    others = () if is_again else (given.again, given.apart, lambda word: given.made_with(word, settings), given.zeroed)
     return Filter(settings, place, per_cpu, narrow, notes, kept, lambda: object_by(asked, compiler), *others)
 
 
-def without_calls(
-    asked: Asked, sections: dict[str, Part], function: Function, frames: Optional[Mapping[str, int]], place: Callable
-) -> Replaced:
-    """The function with what it calls written out. Ends if that can't be. `frames`: of functions how much of the stack each uses."""
+def without_calls(asked: Asked, sections: dict[str, Part], function: Function, compiler: Optional[Compiler], in_rows: bool = False) -> Replaced:
+    """The function with what it calls written out. `in_rows`: whether values of tables of more than one counter are rows."""
+    frames = None if compiler is None else compiler.frames()
+    made = sums_turned(calls_written(asked, sections, function, frames, in_rows))
+    return with_zeros(made) if asked.zeros else made
+
+
+def calls_written(asked: Asked, sections: dict[str, Part], function: Function, frames: Optional[Mapping[str, int]], in_rows: bool) -> Replaced:
+    """The same without zeros on its stack. `frames`: of functions how much of the stack each uses."""
     relocations, found = list(elf.relocations_of(sections, function)), Absent(asked.left_out, kinds_of(btf.maps_in(sections)))
     if next(has_calls(function.code), None) is None and not any(found.has(row.name) for row in relocations):
         return Replaced(function.code, relocations, range(len(function.code) // 8), [], [], stack_of(function.code, function.name, frames))
     entries = {**dict(asked.entries), **{name: number for name, number, _ in asked.maps}}
     declared = [row._replace(entries=entries.get(row.name, row.entries)) for row in btf.maps_in(sections)]
-    declared = [row for row in declared if row.type in faults.ARRAYS or may_be_table(row, asked.tables)]
+    declared = [row for row in declared if row.type in (*faults.ARRAYS, *HASHES)]
     maps = {row.name: Array(parts_of_value(row), row.entries, row) for row in declared}
     functions = list(elf.functions_of(sections))
-    calls = Calls(functions, lambda of: relocations_in(sections, of), found, maps, frames, asked.mtu, asked.clock)
-    try:
-        return calls.replaced(function)
-    except Fault as fault:
-        fail(f"{place(fault.slot) or f'{asked.source}: slot {fault.slot}'} {fault}")
+    return Calls(functions, lambda of: relocations_in(sections, of), found, maps, frames, asked.mtu, asked.clock, in_rows).replaced(function)
 
 
 def with_zeros(made: Replaced) -> Replaced:

@@ -4,7 +4,8 @@ keys are an array of their own.
 A row lies in one of the few places that its key's hash gives. What the program looks up is found there; what it adds takes the first
 place that is free. If there is none, a new row takes the place of another one in an LRU hash, as in Linux, which drops rows as well before the
 map is full. In another hash it isn't added, which Linux does only if the whole map is full. By chance that is rare in a table of four rows for
-each entry; of a larger map a command has to say that it is wanted. A count of the rows sees to it that there are never more than in Linux.
+each entry; of a map that has no room for so many a note says how many are few. A count of the rows sees to it that there are never more than
+in Linux.
 The last counter of a key has a bit, or a counter behind it, that says that there is a row. One queue at a time judges: two that add rows at
 one place would mix them."""
 from __future__ import annotations
@@ -43,13 +44,15 @@ NOTE = (
 )
 DROPS = "a new row takes the place of one of them. So it is full sooner than in Linux, or later"
 REFUSES = "bpf_map_update_elem gives -E2BIG, as it does if there are as many rows as in Linux. So it may be full sooner"
+FEWER = ": of more than {} rows, where Linux has {}, more than a few find no place"
 
 
 class Table(NamedTuple):
-    """A map as it is declared, and how many rows it has here."""
+    """A map as it is declared, and how many rows it has here. `in_rows`: whether a value is several rows of its own map."""
 
     declared: MapOfC
     rows: int
+    in_rows: bool = False
 
     @property
     def words(self) -> int:
@@ -65,7 +68,7 @@ class Table(NamedTuple):
     def is_apart(self) -> bool:
         """Whether the keys are a map of their own: a number of fewer than eight bytes may need a counter of its own too."""
         parts = sum(number.size < DOUBLE for number in self.declared.numbers)
-        return self.declared.counters + self.words + (not self.rest) + parts > MOST_COUNTERS
+        return self.in_rows or self.declared.counters + self.words + (not self.rest) + parts > MOST_COUNTERS
 
     @property
     def keys_name(self) -> str:
@@ -105,7 +108,9 @@ class Table(NamedTuple):
 
     @property
     def note(self) -> str:
-        return NOTE.format(self.declared.name, self.rows, PLACES, DROPS if self.drops else REFUSES)
+        few = self.rows // MOST_EACH
+        fewer = "" if self.declared.entries <= few else FEWER.format(few, self.declared.entries)
+        return NOTE.format(self.declared.name, self.rows, PLACES, DROPS if self.drops else REFUSES + fewer)
 
     @property
     def comment(self) -> str:
@@ -131,28 +136,22 @@ class Table(NamedTuple):
         return array._replace(value_bytes=self.bytes, numbers=[*self.declared.numbers, *of_key])
 
 
-def may_be_table(declared: MapOfC, is_asked: bool) -> bool:
-    """Whether a map becomes a table if the program adds rows to it. `is_asked`: a command asks for tables."""
-    if declared.type not in HASHES:
-        return False
-    return is_asked or declared.type in DROPPING or MOST_EACH * declared.entries <= MOST_ENTRIES
-
-
-def table_of(declared: MapOfC) -> Table:
-    """The table for a map."""
+def table_of(declared: MapOfC, in_rows: bool = False) -> Table:
+    """The table for a map. `in_rows`: whether a value of more than one counter is several rows, and not only one of more than settings have."""
     most = DOUBLE * MOST_COUNTERS
     if not 0 < declared.key_bytes < most or not 0 < declared.value_bytes <= MOST_VALUE:
         raise Fault(
             f"adds rows to {declared.name}, of which the key has {declared.key_bytes} bytes and the value {declared.value_bytes}: at most"
             f" {most - 1} and {MOST_VALUE}"
         )
-    fitting = MOST_ENTRIES if declared.value_bytes <= most else MOST_ENTRIES // most_rows(declared)
+    in_rows = declared.value_bytes > (DOUBLE if in_rows else most)
+    fitting = MOST_ENTRIES // most_rows(declared) if in_rows else MOST_ENTRIES
     wanted = max(LEAST_ROWS, MOST_EACH * declared.entries)
-    return Table(declared, min(1 << (wanted - 1).bit_length(), 1 << fitting.bit_length() - 1))
+    return Table(declared, min(1 << (wanted - 1).bit_length(), 1 << fitting.bit_length() - 1), in_rows)
 
 
 def most_rows(declared: MapOfC) -> int:
-    """How many rows of its map a value takes at most that has more than settings can have: one for each number, or for each eight bytes."""
+    """How many rows of its map a value takes at most: one for each number, or for each eight bytes."""
     numbers = declared.numbers
     return max(len(numbers), declared.counters) + sum(number.size < DOUBLE for number in numbers)
 
@@ -161,7 +160,7 @@ def parts_stored(table: Table, parts: list[tuple[int, int]]) -> list[tuple[int, 
     """The parts of a value that are stored one by one, as (place, size): its numbers, but whole counters if more of these are smaller than
     there are counters for, and a value isn't several rows."""
     declared = table.declared
-    is_one = declared.value_bytes <= DOUBLE * MOST_COUNTERS and not declared.value_bytes % DOUBLE
+    is_one = not table.in_rows and not declared.value_bytes % DOUBLE
     if not is_one or declared.counters + sum(size < DOUBLE for _, size in parts) <= MOST_COUNTERS:
         return parts
     return [(at, DOUBLE) for at in range(0, declared.value_bytes, DOUBLE)]

@@ -20,6 +20,8 @@ verifier judges the result, and `xdpbox same`, which is proved, shows that it is
     emit          the copies, and what is put between them, as a program
     verifier      what `xdpbox explain` says of a program
     marks         what a search has found out
+    sources       where an access's address comes from
+    of_values     what a search marks of accesses in maps' values
     search        from refusal to refusal until the verifier accepts
     ways          the ways in which that is searched
     written_out   a program with numbers of fewer than eight bytes, keys outside of the stack, and masks of indices written out

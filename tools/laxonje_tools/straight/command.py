@@ -10,17 +10,17 @@ from typing import TYPE_CHECKING, Callable, Iterator, NamedTuple, Optional
 
 from laxonje_tools.output import fail, in_one_line
 
-from .graph import INDEX, SIZE, Fail
+from .graph import INDEX, SHARED, SIZE, Fail, loops
 from .guarded import GUARDED, MOST_GUARDS, with_guards
 from .lowered import may_lower
 from .parts import SharedCounter, check_values, places_of, with_counters
 from .refused import Refused
 from .search import OF_THE_BYTES
 from .settings import as_text, instructions_of, relocations_of, without_rows
-from .shown import ALONE, BY_COUNTS, PROVED, NoComparison, Rewriting, question, shown
+from .shown import ALONE, BY_COUNTS, PROVED, NoComparison, Rewriting, Unknown, question, shown
 from .split import with_split
 from .verifier import StillRefused, Verdict, verdict
-from .ways import by_copies, by_place, by_ways, in_rows, reread, searched_again, searches, uncounted, without_counts
+from .ways import by_copies, by_place, by_ways, compared_again, in_rows, reread, searched_again, searches, uncounted, without_counts
 from .written_out import More, written_out
 
 if TYPE_CHECKING:
@@ -48,6 +48,7 @@ LOWERED = (
 SIGNED = {1: "signed char", 2: "short", 4: "int", 8: "long long"}  # by size
 HOW = PROVED, BY_COUNTS, ALONE  # the best way first
 ENOUGH = PROVED, BY_COUNTS  # after which no other settings are tried
+MOST_UNKNOWN = 4  # accesses of which too little is known, of a result
 MOST_ASKED = 10000  # slots, in all results that can't be taken
 TOP = pathlib.Path(__file__).resolve().parents[3]
 ATOMIC, WORD_ADDED = ("c3", "db"), "00000000"  # opcodes, and the constant of an addition
@@ -58,8 +59,8 @@ class Straight:
     """A program that is accepted and the same. `labels`: of each slot the kind, and a slot of the original. `notes`: what its author
     should know. `how`: it was shown to be the same. `asked`: what `xdpbox same` was asked of it, None of a program with tests in front of
     accesses that is accepted as it is. `moved`: by map the parts of values that have a counter of their own. `written_out`: settings
-    with the program written out, if it is the same as that; `labels` are of them then. `guards`: how many such tests there are. `sets_parts`:
-    whether a number of fewer than eight bytes is stored, so that no form is shown in a better way."""
+    with the program written out, if it is the same as that; `labels` are of them then. `guards`: how many such tests there are. `sets`:
+    whether a counter is set, or a number of fewer than eight bytes, so that no form is shown in a better way."""
 
     words: list
     relocations: list
@@ -70,7 +71,7 @@ class Straight:
     moved: dict = field(default_factory=dict)
     written_out: Optional[dict] = None
     guards: int = 0
-    sets_parts: bool = False
+    sets: bool = False
 
     def comment(self, settings: dict) -> str:
         """The lines that settings with this program have."""
@@ -136,7 +137,9 @@ def better_of(forms: list[dict], xdpbox: str, wanted: Wanted = Wanted()) -> tupl
         except Refused as refused:
             refusals.append(refused)
             others += [settings] if refused.cause == SIZE and at_size else []
-        if found and (found[-1][1].how in ENOUGH or found[-1][1].sets_parts):
+            if refused.cause == SHARED:  # of stores, which are the same in each form
+                break
+        if found and (found[-1][1].how in ENOUGH or found[-1][1].sets):
             break
     if not found and others:
         return better_of(others, xdpbox, wanted)
@@ -225,7 +228,7 @@ def rewritten(settings: dict, xdpbox: str, wanted: Wanted) -> Optional[Straight]
     fault = missing or best_of(faults)
     if isinstance(fault, StillRefused) and (fault.slot, fault.cause) == (answer.slot, answer.cause):
         fault = Fail(NOTHING_HELPS, answer.slot, answer.cause)
-    raise Refused(answer, fault)
+    raise Refused(answer, fault, has_loops=bool(loops(instructions_of(settings))))
 
 
 def taken_by_place(
@@ -242,10 +245,11 @@ def taken_best(xdpbox: str, settings: dict, result: Result, wanted: Wanted) -> t
     is_written_out = any(result.moved.values()) or bool(result.found.parts or result.found.keys)  # beside that alone it is shown
     other = None if is_written_out else without_counts(settings, xdpbox, result)
     program = None if other is None else taken(xdpbox, settings, other, wanted)[0]
-    program = program or taken_written_out(xdpbox, settings, result, wanted)
+    tried: list[dict] = []
+    program = program or taken_written_out(xdpbox, settings, result, wanted, tried)
     if program is not None:
         return program, None
-    simple = taken(xdpbox, settings, result, wanted)
+    simple = taken_guarded(xdpbox, settings, result, wanted)
     if simple[0] is not None:
         return simple
     faults = [simple[1]]
@@ -261,7 +265,7 @@ def taken_best(xdpbox: str, settings: dict, result: Result, wanted: Wanted) -> t
 
     program = first_shown(in_rows, by_copies, *([uncounted] if other is None else []))
     for more in (More(words=True), More(*(True for _ in More._fields))):
-        program = program or taken_written_out(xdpbox, settings, result, wanted, more)
+        program = program or taken_written_out(xdpbox, settings, result, wanted, tried, more)
     program = program or first_shown(by_ways, reread)
     return (None, plainest_of(faults)) if program is None else (program, None)
 
@@ -271,20 +275,38 @@ def plainest_of(faults: list[Fail]) -> Fail:
     return next((fault for fault in faults if fault.cause in ("V10", INDEX)), faults[0])
 
 
-def taken_written_out(xdpbox: str, settings: dict, result: Result, wanted: Wanted, more: More = More()) -> Optional[Straight]:
+def taken_written_out(
+    xdpbox: str, settings: dict, result: Result, wanted: Wanted, tried: list[dict], more: More = More()
+) -> Optional[Straight]:
     """A result of the program written out that is proved to be the same as that; None if there is none. A number that is stored is
     read first: so nothing is said of several queues then. What a count adds is the difference from what was loaded, so that no count
-    of another queue is lost. `more`: what is written out beside."""
+    of another queue is lost. `more`: what is written out beside; `tried`: those with programs of which none was found."""
     other = written_out(settings, instructions_of(settings), result, more)
     if other is None or other.has_stores and wanted.better or any(row.get("values") and result.moved.get(row["name"]) for row in settings["map"]):
         return None
+    if other.settings in tried:
+        return None
+    tried.append(other.settings)
     for found in searched_again(other.settings, xdpbox, result):
-        program, _ = taken(xdpbox, other.settings, found, wanted)
+        program, _ = taken_guarded(xdpbox, other.settings, found, wanted)
         if program is None or found.moved:
             continue
         how, notes = ALONE if other.has_stores else program.how, list(notes_of(result, wanted.per_cpu))
-        return replace(program, how=how, notes=notes, moved=result.moved, written_out=other.settings, sets_parts=other.has_stores)
+        return replace(program, how=how, notes=notes, moved=result.moved, written_out=other.settings, sets=program.sets or other.has_stores)
     return None
+
+
+def taken_guarded(xdpbox: str, settings: dict, result: Result, wanted: Wanted) -> tuple[Optional[Straight], Optional[Fail]]:
+    """The same of a result, or of what the same search finds if accesses of which too little is known are compared with the packet's end."""
+    slots: set[int] = set()
+    program, fault = taken(xdpbox, settings, result, wanted)
+    while isinstance(fault, Unknown) and fault.slot not in slots and len(slots) < MOST_UNKNOWN:
+        slots.add(fault.slot)
+        other = compared_again(settings, xdpbox, result, slots)
+        if other is None:
+            break
+        program, fault = taken(xdpbox, settings, other, wanted)
+    return program, fault
 
 
 def taken(xdpbox: str, settings: dict, result: Result, wanted: Wanted) -> tuple[Optional[Straight], Optional[Fail]]:
@@ -301,7 +323,8 @@ def taken(xdpbox: str, settings: dict, result: Result, wanted: Wanted) -> tuple[
         wanted.asked.append(len(result.words))
         return None, judged.missing
     notes, asked = list(notes_of(result, wanted.per_cpu)), question(settings, rebuilt, labels)
-    return Straight(result.words, result.relocations, labels, notes, judged.how, asked, result.moved), None
+    sets = judged.how == ALONE and bool(result.differences)
+    return Straight(result.words, result.relocations, labels, notes, judged.how, asked, result.moved, sets=sets), None
 
 
 def best_of(faults: list[Fail]) -> Fail:

@@ -121,7 +121,7 @@ class Copies:
         self.code, self.numbers, self.marks = code, numbers, marks
         self.wide, self.cases, self.trips, self.nones = marks.wide, marks.cases, marks.trips, marks.nones
         self.live, self.elsewhere = live_registers(code), accesses_elsewhere(code)
-        self.words, self.parted = live_words(code), marks.parted
+        self.words, self.parted, self.told = live_words(code), marks.parted, marks.told
         self.parting = slots_that_reach(code, accesses_in_packets(code)) if self.parted else ()
         self.needed = {slot: live | {FRAME_POINTER} for slot, live in self.live.items()}
         self.named = {slot: row.counter for row in marks.differences.values() if row.told for slot in row.known}
@@ -167,8 +167,11 @@ class Copies:
         return [name for name, slots in self.mattering.items() if slot in slots] + ways
 
     def told_by_cases(self, slot: int) -> Telling:
-        """What is told apart before a slot, and the numbers whose cases reach it."""
+        """What is told apart before a slot, with what may be an address or 0, and the numbers whose cases reach it."""
         told = self.telling[slot]
+        if slot in self.told:
+            registers, words = self.told[slot]
+            told = Telling({*told.registers, *registers}, None if told.stack is None else {*told.stack, *words})
         reaching = {cases.register for first, cases in self.cases.items() if first < slot <= cases.last}
         return Telling({*told.registers, *reaching}, told.stack) if reaching else told
 

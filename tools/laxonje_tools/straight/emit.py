@@ -9,7 +9,7 @@ from typing import TYPE_CHECKING, AbstractSet, Callable, Container, NamedTuple, 
 from .addresses import ADDED, KEPT, MET, Atom, PacketAddress, StackSlot, Thing
 from .constants import VALUE, is_address
 from .copies import CASE, MOST_DISTANCE, OUTSIDE, TESTS, Copy
-from .graph import SIZE, Fail
+from .graph import SIZE, AddedToNumber, Fail
 from .accesses import write_difference, write_narrow_load, write_rebased, write_word_addition
 from .keys import write_key
 from .instructions import (
@@ -326,7 +326,7 @@ class Emitter:
         if not is_address(self.copies.constants_after(here).registers.get(insn.destination), VALUE):
             return False
         if not is_address(here.constants.registers.get(insn.destination), VALUE):
-            raise Fail("the address of a map's value is added to a number: add the number to the address", here.slot)
+            raise AddedToNumber("the address of a map's value is added to a number: add the number to the address", here.slot)
         return True
 
     def offset(self, here: Copy, insn: Instruction) -> int:

@@ -54,6 +54,10 @@ class TooMany(Fail):
         super().__init__(words, slot, cause)
 
 
+class AddedToNumber(Fail):
+    """An addition of the address of a map's value to a number."""
+
+
 def successors(code: Code, slot: int) -> list[int]:
     """The slots to which control may go from a slot."""
     instruction = code[slot]

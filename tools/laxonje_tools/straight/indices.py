@@ -8,7 +8,7 @@ from laxonje_tools.from_c.constants import room_behind
 from .addresses import multiple_of
 from .constants import VALUE, is_address
 from .copies import Wide
-from .instructions import ADD, ALU64, MOV, WIDE_LOAD, writes
+from .instructions import ADD, ALU64, CALL, EXIT, JUMP, MOV, WIDE_LOAD, writes
 
 if TYPE_CHECKING:
     from .addresses import Addresses
@@ -75,12 +75,27 @@ def last_write(code: Code, slot: int, register: int) -> Optional[int]:
     return next((at for at in range(slot - 1, -1, -1) if at in code and register in writes(code[at])), None)
 
 
-def places_in_value(here: Copy, addition: Instruction, register: int, addresses: Addresses, settings: dict) -> Sequence[int]:
-    """What a register can have that an addition at a copy adds to the address of a map's value, if the sum lies in the value."""
+def places_in_value(here: Copy, code: Code, register: int, addresses: Addresses, settings: dict) -> Sequence[int]:
+    """What a register can have that an addition at a copy adds to the address of a map's value, if the access behind it lies in the value."""
+    addition = code[here.slot]
     address = addition.source if addition.destination == register else addition.destination
     known = here.constants.registers.get(address)
     if not is_address(known, VALUE) or known.map is None:
         return ()
     row = next(row for row in settings["map"] if row["name"] == known.map)
     stride = multiple_of(addresses.before[here].get(register)) or 1
-    return range(0, COUNTER_BYTES * row.get("counters", 1) - known.offset, stride)
+    access = access_behind(code, here.slot)
+    end = 1 if access is None else access.offset + access.size
+    return range(0, COUNTER_BYTES * row.get("counters", 1) - known.offset - end + 1, stride)
+
+
+def access_behind(code: Code, slot: int) -> Optional[Instruction]:
+    """The first access through what an instruction gives, of those that surely follow it; None if there is none."""
+    base, at = code[slot].destination, slot + code[slot].slots
+    while at in code and not code[at].is_branch and code[at].opcode not in (CALL, EXIT, JUMP):
+        if (code[at].is_load or code[at].is_store) and code[at].base == base:
+            return code[at]
+        if base in writes(code[at]):
+            return None
+        at += code[at].slots
+    return None

@@ -5,6 +5,7 @@ from __future__ import annotations
 
 import struct
 from dataclasses import dataclass
+from functools import cached_property
 from typing import NamedTuple, Optional
 
 MASK_64, MASK_32 = (1 << 64) - 1, (1 << 32) - 1
@@ -64,16 +65,16 @@ class Instruction:
     table: Optional[Table] = None  # of a wide load of the address of constants; where in the section is the immediate
     counter: Optional[str] = None  # of one of a global's address: the map that the global is here
 
-    @property
+    @cached_property
     def kind(self) -> int:
         """The instruction's class."""
         return self.opcode & 7
 
-    @property
+    @cached_property
     def operation(self) -> int:
         return self.opcode & 0xF0
 
-    @property
+    @cached_property
     def by_register(self) -> bool:
         return bool(self.opcode & BY_REGISTER)
 
@@ -81,25 +82,25 @@ class Instruction:
     def slots(self) -> int:
         return 1 if self.upper is None else 2
 
-    @property
+    @cached_property
     def is_arithmetic(self) -> bool:
         return self.kind in (ALU, ALU64)
 
-    @property
+    @cached_property
     def is_load(self) -> bool:
         return self.kind == LDX
 
-    @property
+    @cached_property
     def is_store(self) -> bool:
         """Whether it stores, by itself or as an atomic operation."""
         return self.kind in (ST, STX)
 
-    @property
+    @cached_property
     def is_branch(self) -> bool:
         """Whether it is a jump with a condition."""
         return self.kind in (JMP, JMP32) and self.opcode not in (EXIT, CALL, JUMP)
 
-    @property
+    @cached_property
     def is_atomic(self) -> bool:
         """Whether it is an atomic operation."""
         return self.opcode in (ATOMIC_WORD, ATOMIC_DOUBLE)
@@ -119,12 +120,12 @@ class Instruction:
         """Whether it is a load that extends a sign."""
         return self.opcode >> 5 == MEMSX
 
-    @property
+    @cached_property
     def size(self) -> int:
         """How many bytes a load or a store reaches."""
         return ACCESS_SIZES[self.opcode & 0x18]
 
-    @property
+    @cached_property
     def base(self) -> int:
         """The register that has the address of a load or a store."""
         return self.source if self.is_load else self.destination

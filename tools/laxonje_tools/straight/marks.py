@@ -20,6 +20,7 @@ class MarksOfCopies(NamedTuple):
     nones: bool
     values: int
     parted: AbstractSet[int]
+    told: dict
 
 
 class Anew(NamedTuple):
@@ -36,7 +37,7 @@ class Form(NamedTuple):
     other number. `by_copies`: whether a register of which a masked copy is compared is made anew of that, and a number that is cut to 32
     bits is kept in front of it. `by_ways`: whether what stands behind all loops, and where addresses that ways disagree on meet, is copied
     for each of these ways. `rereads`: whether a store of a whole counter that is no count adds the difference from
-    what stands there then."""
+    what stands there then. `guards`: slots of accesses whose end is compared with the packet's."""
 
     fuses: bool = True
     by_place: bool = False
@@ -44,6 +45,7 @@ class Form(NamedTuple):
     by_copies: bool = False
     by_ways: bool = False
     rereads: bool = False
+    guards: frozenset[int] = frozenset()
 
 
 @dataclass
@@ -57,6 +59,7 @@ class Marks:
     blurred: dict = field(default_factory=dict)  # by slot
     values: int = 0  # what is followed of lookups: RESULTS, MAPS, or nothing
     parted: set = field(default_factory=set)  # slots behind which each way to them has a copy of its own
+    told: dict = field(default_factory=dict)  # by slot what may be an address or 0, which are told apart
     nones: bool = False  # whether ways on which a lookup found nothing are kept apart
     counts: list = field(default_factory=list)  # slots of stores
     differences: dict = field(default_factory=dict)  # by the slot of a store
@@ -75,7 +78,7 @@ class Marks:
     def of_copies(self) -> MarksOfCopies:
         """Those of copies as they are now: later marks don't change these."""
         rows = dict(self.wide), dict(self.cases), dict(self.trips), dict(self.differences)
-        return MarksOfCopies(*rows, self.nones, self.values, set(self.parted))
+        return MarksOfCopies(*rows, self.nones, self.values, set(self.parted), dict(self.told))
 
     def met(self) -> set[int]:
         """The slots where addresses are made anew."""
@@ -98,7 +101,7 @@ class Result:
     `moved`: by map the parts of values that have a counter of their own. `way`: of the search, which numbers it tells apart and
     what it marks. `has_rows`: whether a masked number can be told apart where it is one of a row. `found`: where its
     accesses in values lie. `masks`: the slots of masks whose numbers would be one of a row between two shifts. `meets`: the slots
-    behind all loops where addresses that ways disagree on are made anew."""
+    behind all loops where addresses that ways disagree on are made anew. `form`: what it was to be like."""
 
     words: list
     relocations: list
@@ -112,6 +115,7 @@ class Result:
     found: Optional[Found] = None
     masks: AbstractSet[int] = frozenset()
     meets: AbstractSet[int] = frozenset()
+    form: Form = Form()
 
     @property
     def text(self) -> tuple:

@@ -5,7 +5,7 @@ from typing import TYPE_CHECKING, Callable, Iterator, Optional
 
 from .graph import INDEX, SIZE, Fail
 from .shown import UNALIKE, UNDECIDED
-from .verifier import StillRefused
+from .verifier import ENDED, WORK, StillRefused
 
 if TYPE_CHECKING:
     from .verifier import Verdict
@@ -33,6 +33,10 @@ NO_MAP = (
     "the map is the lookup's first argument, and one map on each way to this line: look up in each branch, and use what"
     " it gave there"
 )
+MIXED_ADDRESS = (
+    "an address here is one on some ways, and 0 or another thing on others: test it, and use it, in each branch, or keep what is needed of"
+    " it in variables"
+)
 LIST_KEY = (
     "the key, the lookup's second argument, has as many bytes as the map's keys, all of them stored, also those between its"
     " fields: __builtin_memset(&key, 0, sizeof(key)) first"
@@ -41,11 +45,11 @@ LIST_KEY = (
 
 class Refused(Exception):
     """`answer`: the verifier's, of the program as it was. `why`: why no other one was found. `atomic`: whether an
-    atomic operation was refused."""
+    atomic operation was refused; `has_loops`: whether the program has loops."""
 
-    def __init__(self, answer: Verdict, why: Fail, atomic: bool = False) -> None:
+    def __init__(self, answer: Verdict, why: Fail, atomic: bool = False, has_loops: bool = True) -> None:
         super().__init__(f"{why}")
-        self.answer, self.why, self.atomic = answer, why, atomic
+        self.answer, self.why, self.atomic, self.has_loops = answer, why, atomic, has_loops
 
     @property
     def cause(self) -> Optional[str]:
@@ -75,7 +79,7 @@ class Refused(Exception):
             return IN_C[cause]
         lines = self.answer.words.split("\n") if cause == self.answer.cause else []
         said = (line.partition(": ")[2] for line in lines if line.startswith("write instead"))
-        return next(said, IN_C[SIZE] if cause == "V9" else None)
+        return next(said, None if cause != "V9" else IN_C[SIZE] if self.has_loops else MIXED_ADDRESS)
 
 
 def describe(
@@ -92,6 +96,8 @@ def describe(
         yield f"{place(answer.slot)}: refused {answer.cause} at {answer.slot}"
         yield from marked_lines(answer.words.split("\n"))
     yield f"{place(why.slot if why.slot is not None else answer.slot)}: {why}"
+    if WORK.is_enough and f"{why}" != ENDED:
+        yield ENDED
     if refused.advice():
         yield f"write instead: {refused.advice()}"
 

@@ -16,6 +16,7 @@ first program is that of the copies alone. Then, one mark per refusal:
                      number (`cases`), or for each step up to it (`trips`); and so of one that adds the carries of a sum
   V17                of a key in the packet or in a map's value: it is copied to the stack (`keys`)
   V17, V9 at a value  of two lookups whose ways met: a copy behind the meeting for each map (`values`)
+  V9 at an access    through what is an address on some ways, and 0 or a number on others: copies for each (`told`)
   V9 at 0             where what a lookup gave is tested twice: a copy for the ways on which it was 0 (`nones`)
   V19                 an atomic addition of four bytes becomes one to the whole counter (`adds`)
   V14 at a load      the whole counter is loaded, and the part cut out (`narrow`)
@@ -30,19 +31,20 @@ from typing import TYPE_CHECKING, Iterable, Optional, Sequence
 
 from .addresses import ADDED, KEPT, MET, Addresses, PacketAddress, StackSlot, Thing, multiple_of
 from .constants import MAPS, RESULTS
-from .copies import Cases, Wide, copies_of
-from .counts import difference, fused
+from .copies import MOST_COPIES, Cases, Wide, copies_of
 from .emit import Emitter, Kind, Needs
-from .graph import SIZE, Fail, NoBound, TooMany, loops, slots_that_reach
+from .graph import SIZE, AddedToNumber, Fail, NoBound, TooMany, loops, slots_that_reach
 from .indices import bound_index, places_in_value
 from .instructions import MASK_32
 from .marks import Anew, Form, Found, Marks, Result
 from .masks import bounded_copies, cuts, in_shifts, masked, row_before
 from .keys import KEY_ARGUMENT
-from .parts import COUNTER_BYTES, NeedsCounters, check_parts, has_parts, moved_with, with_counters
+from .of_values import OfValues
+from .parts import COUNTER_BYTES, NeedsCounters, check_parts, moved_with, with_counters
 from .settings import instructions_of, key_sizes, text_of, with_parts, without_rows
+from .sources import Sources, sources_of
 from .steps import Steps, refusal
-from .verifier import StillRefused, verdict
+from .verifier import WORK, StillRefused, verdict
 
 if TYPE_CHECKING:
     from .addresses import Place
@@ -65,7 +67,7 @@ def are_few(numbers: Sequence[int]) -> bool:
     return 0 < len(numbers[: MOST_CASES + 1]) <= MOST_CASES
 
 
-class Search:
+class Search(OfValues):
     """One search. `numbers`: which are told apart; `way`: what is marked first if an address was lost: a meeting
     as one copy (BY_COPY) or at all copies of its slot (BY_SLOT), or the access, to be rebased (BY_ACCESS). `form`: of what it finds."""
 
@@ -74,7 +76,7 @@ class Search:
         self.form, self.has_rows, self.masks = form, False, set()
         self.code = instructions_of(settings)
         self.near = slots_that_reach(self.code, loops(self.code))
-        self.marks = Marks()
+        self.marks = Marks(guards=set(form.guards))
         if form.by_copies:
             self.marks.anew = {(row.jump, row.after): Anew(row.register, row.compared) for row in bounded_copies(self.code)}
             self.marks.cuts = set(cuts(self.code))
@@ -87,6 +89,13 @@ class Search:
         self.found = None  # where they lie
         self.began = False  # whether there was a program to ask the verifier of
         self.is_by_way = False  # whether another way might have led elsewhere
+
+    @property
+    def has_one_copy_each(self) -> bool:
+        """Whether each meeting that is marked as one copy is the only copy of its slot, so that by slots the same is found."""
+        slots = [copy.slot for copy in self.copies.order]
+        keys = {key for key, _ in self.marks.meetings if not isinstance(key, int)}
+        return all(slots.count(key[0]) == 1 for key in keys) and keys <= {copy.key for copy in self.copies.order}
 
     def mark(self, here: Copy, place: Place) -> tuple:
         """How a meeting is marked. All its registers are: one of them is often made from another."""
@@ -127,12 +136,14 @@ class Search:
     def run(self) -> Result:
         judged = 0
         for _ in range(MOST_TURNS):
+            WORK.check()
             program = self.emitted()
             if program is None:
                 continue
             words, relocations, self.labels = program
             self.began = True
             judged += len(words)
+            WORK.slots += len(words)
             if judged > MOST_JUDGED:
                 break
             answer = verdict(self.xdpbox, text_of(with_counters(self.settings, self.marks.moved), words, relocations))
@@ -153,14 +164,20 @@ class Search:
         try:
             self.copies = copies_of(self.code, self.numbers, marks.of_copies(), self.copies)
         except (NoBound, TooMany) as loop:
+            WORK.slots += MOST_COPIES
             if not Steps(self.code, self.marks, loop.slot).told_apart(isinstance(loop, NoBound)):
                 raise refusal(self.code, loop) from None
             return None
+        WORK.slots += len(self.copies.order)
         self.addresses = Addresses(self.copies, self.is_marked, self.is_restarted)
         try:
             emitter = Emitter(self.copies, self.addresses, marks, key_sizes(self.settings), with_parts(self.settings))
         except Needs as needs:
             self.mark_meetings(needs.meetings)
+            return None
+        except AddedToNumber:
+            if not self.tell_nones_apart():  # it may be 0 there, as a lookup gives it
+                raise
             return None
         self.reached, self.found = emitter.reached, Found(emitter.lies, self.parts(), emitter.keys, emitter.own.top)
         return emitter.program()
@@ -183,7 +200,7 @@ class Search:
         marks = self.marks
         way = self.numbers, self.way
         rows = words, relocations, self.labels, self.code, sorted(marks.counts), marks.differences, marks.moved, way, self.has_rows
-        return Result(*rows, self.found, self.masks, marks.met() - self.near)
+        return Result(*rows, self.found, self.masks, marks.met() - self.near, self.form)
 
     # --- what a refusal asks for; each answers whether there is a new mark
 
@@ -213,6 +230,8 @@ class Search:
         address = self.addresses.before[label.copy].get(register)
         if address == Thing.VALUE and (self.follow(RESULTS) or self.follow(MAPS)):
             return True
+        if address == Thing.MIXED and self.tell_none(label.slot, register):
+            return True
         if not isinstance(address, PacketAddress):
             return self.tell_apart(answer) or bound_index(self.code, label.slot, self.settings, self.marks)
         self.is_by_way = True
@@ -240,69 +259,17 @@ class Search:
         self.follow(MAPS)
         return True
 
-    def follow(self, what: int) -> bool:
-        """Follows this of lookups: values of two maps get a copy each of what comes after their ways met."""
-        fresh = self.marks.values < what
-        self.marks.values = max(self.marks.values, what)
-        return fresh
-
     def tell_nones_apart(self) -> bool:
         """A second test of what a lookup gave: ways on which the first one found 0 get copies of their own."""
         fresh, self.marks.nones = not self.marks.nones, True
         self.follow(RESULTS)
         return fresh
 
-    def in_values(self) -> list[int]:
-        """The slots of accesses that surely are in a map's value, in the order of the program."""
-        places = ((here, self.code[here.slot]) for here in self.copies.order if here.is_instruction)
-        reach = (here for here, insn in places if insn.is_load or insn.is_store)
-        found = {here.slot: None for here in reach if self.addresses.before[here].get(self.code[here.slot].base) == Thing.VALUE}
-        return list(found)
-
-    def narrow_all(self, slot: int) -> bool:
-        """A load of a part of a counter, and all others where no map takes such loads: these would be refused next."""
-        takes_parts = any(row.get("parts") for row in self.settings.get("map", []))
-        others = [] if takes_parts else [other for other in self.in_values() if self.code[other].is_load]
-        return any([self.narrow(other) for other in [slot, *others]])
-
-    def fuse_all(self, slot: int) -> bool:
-        """A store to a counter, and all others, which would be refused next."""
-        stores = [other for other in self.in_values() if self.code[other].is_store and not self.code[other].is_atomic]
-        if not self.fuse(slot):
-            return False
-        for other in stores:
-            if other != slot:
-                self.fuse(other)
-        return True
-
-    def narrow(self, slot: int) -> bool:
-        """A load of a part of a counter."""
-        fresh = slot not in self.marks.narrow and self.code[slot].size < 8
-        self.marks.narrow |= {slot} if fresh else set()
-        return fresh
-
-    def fuse(self, slot: int) -> bool:
-        if self.code[slot].is_atomic:
-            return False
-        mended = fused(self.code, slot) if self.form.fuses else None
-        if mended is None:
-            row = difference(self.code, slot, self.marks.nones)
-            if self.form.rereads and row is not None and self.code[slot].size == COUNTER_BYTES and fused(self.code, slot) is None:
-                row = row._replace(known=frozenset(), told=False)
-            fresh = row is not None and slot not in self.marks.differences
-            self.marks.differences.update({slot: row} if fresh else {})
-            if fresh and (self.code[slot].size < COUNTER_BYTES or has_parts(self.settings)):
-                self.follow(MAPS)
-            return fresh
-        self.code = mended
-        self.marks.counts.append(slot)
-        return True
-
-    def add_whole(self, slot: int) -> bool:
-        """An atomic addition of four bytes."""
-        fresh = self.code[slot].adds_word and slot not in self.marks.adds
-        self.marks.adds |= {slot} if fresh else set()
-        self.follow(MAPS)
+    def tell_none(self, slot: int, register: int) -> bool:
+        """An address on some ways, and 0 or another number on others: these get copies of their own."""
+        found = {at: sources.with_(self.marks.told.get(at, Sources())) for at, sources in sources_of(self.code, slot, register).items()}
+        fresh = any(self.marks.told.get(at) != sources for at, sources in found.items())
+        self.marks.told.update(found)
         return fresh
 
     def rebase(self, here: Copy, register: int) -> bool:
@@ -380,7 +347,7 @@ class Search:
         stride = multiple_of(self.addresses.before[label.copy].get(lost.register)) or 1
         if self.form.in_rows and lost.was == "map_value" and self.follow(MAPS):
             return True
-        index = label.copy, self.code[label.slot], lost.register
+        index = label.copy, self.code, lost.register
         places = places_in_value(*index, self.addresses, self.settings) if lost.was == "map_value" else ()
         row = row_before(self.code, label.slot, lost.register, places or lost.multiples_of(stride)) if found is None else found.row
         self.has_rows |= row is not None

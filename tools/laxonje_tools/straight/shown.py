@@ -10,7 +10,7 @@ from .graph import INDEX, Fail, successors
 from .instructions import JUMP
 from .parts import EACH_WHOLE
 from .settings import instructions_of, maps_and_rest, text_beside
-from .verifier import called
+from .verifier import WORK, called
 
 if TYPE_CHECKING:
     from .verifier import Stop
@@ -21,6 +21,7 @@ OUTSIDE = "outside"  # the kind of the slots that end the result if an access li
 UNDECIDED, UNALIKE = "undecided", "unalike"  # causes
 CAUSES = {"a jump isn't decided": UNDECIDED}  # by what `xdpbox same` says; of all else the other one
 NOT_SHOWN = "a program was found that isn't shown to be the same"
+TOO_LITTLE = "too little is known of the registers"  # as `xdpbox same` says it
 NOT_IN_PACKET = "no comparison shows that this lies in the packet"
 NO_BOUND = "nothing bounds the number that is added to an address here"
 OTHER_PLACES = f"numbers of fewer than eight bytes share a counter, and can't be written out as accesses of whole counters: {EACH_WHOLE}"
@@ -32,6 +33,10 @@ class NoComparison(Fail):
     def __init__(self, slot: int, top: int) -> None:
         super().__init__(NOT_IN_PACKET, slot, "V10")
         self.top = top
+
+
+class Unknown(Fail):
+    """An access of which `xdpbox same` knows too little."""
 
 
 class Shown(NamedTuple):
@@ -54,6 +59,7 @@ def shown(xdpbox: str, made: Rewriting, top: int) -> Shown:
     asked = question(*made)
     if asked is None:
         return Shown(missing=Fail(OTHER_PLACES, None, "V14"))
+    WORK.slots += len(made.result["program"])
     answer = called(xdpbox, asked)
     return Shown(missing=what_is_missing(made, answer.stop, top)) if answer.how is None else Shown(PROVED_BY[answer.how])
 
@@ -72,7 +78,10 @@ def what_is_missing(made: Rewriting, stop: Optional[Stop], top: int) -> Fail:
         return Fail(NOT_SHOWN, None, UNALIKE)
     if not ends_outside(made, stop.slot):
         words = f"{NOT_SHOWN}: xdpbox same stops at its slot {stop.slot}, the original's {stop.original}: {stop.words}"
-        return Fail(words, stop.original, CAUSES.get(stop.words, UNALIKE))
+        insn = instructions_of(made.original).get(stop.original)
+        is_access = insn is not None and (insn.is_load or insn.is_store)
+        kind = Unknown if is_access and stop.words == TOO_LITTLE else Fail
+        return kind(words, stop.original, CAUSES.get(stop.words, UNALIKE))
     slot = made.labels[stop.slot][1]
     insn = instructions_of(made.original)[slot]
     if insn.is_load or insn.is_store:

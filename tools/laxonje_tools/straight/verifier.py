@@ -11,6 +11,10 @@ from laxonje_tools.output import fail
 from .graph import Fail
 
 
+MOST_WORK = 250000  # slots, for a command of the tools
+ENDED = f"the search ended here: with all that was tried {MOST_WORK} slots were written and judged"
+
+
 class Lost(NamedTuple):
     """A refused access: where its register was an address last, and what was known of the number added there."""
 
@@ -69,6 +73,26 @@ class StillRefused(Fail):
     def __init__(self, slot: Optional[int], answer: Verdict) -> None:
         super().__init__(f"straightened, it is refused with {answer.cause}", slot, answer.cause)
         self.answer = answer
+
+
+@dataclass
+class Work:
+    """How many slots of programs were written and judged, and how many a command has at most; None: as many as it takes."""
+
+    slots: int = 0
+    most: Optional[int] = None
+
+    @property
+    def is_enough(self) -> bool:
+        return self.most is not None and self.slots > self.most
+
+    def check(self) -> None:
+        """Ends a search if no more is judged."""
+        if self.is_enough:
+            raise Fail(ENDED)
+
+
+WORK = Work()
 
 
 def asked(xdpbox: str, command: str, settings: Union[str, bytes]) -> subprocess.CompletedProcess:

@@ -5,10 +5,10 @@ copies of its slot, or none, and each access is rebased."""
 from __future__ import annotations
 
 import contextlib
-from typing import TYPE_CHECKING, Iterator, Optional
+from typing import TYPE_CHECKING, AbstractSet, Iterator, Optional
 
 from .copies import COUNTERS, EVERYWHERE, IN_LOOPS, STEERING
-from .graph import SIZE, Fail, TooMany, loops
+from .graph import SHARED, SIZE, Fail, TooMany, loops
 from .marks import Form
 from .masks import bounded_copies, cuts
 from .search import BY_ACCESS, BY_COPY, BY_SLOT, Search
@@ -42,12 +42,15 @@ def uncounted(settings: dict, xdpbox: str, result: Result) -> Iterator[Result]:
 
 
 def searched_again(settings: dict, xdpbox: str, result: Result) -> Iterator[Result]:
-    """What the same search finds of the program written out: with counts, and with each count as a difference; then the same with masked
-    numbers told apart where they are of a row, and with registers made anew of copies that were compared."""
+    """What the same search finds of the program written out: with counts, and if there are some with each as a difference; then the same
+    with masked numbers told apart where they are of a row, and with registers made anew of copies that were compared."""
     for in_rows in (False, True) if result.has_rows or result.masks else (False,):
         for fuses in (True, False):
             with contextlib.suppress(Fail):
-                yield Search(settings, xdpbox, *result.way, Form(fuses, in_rows=in_rows)).run()
+                found = Search(settings, xdpbox, *result.way, Form(fuses, in_rows=in_rows)).run()
+                yield found
+                if not found.counts:
+                    break
     if any(bounded_copies(instructions_of(settings))):
         yield from by_copies(settings, xdpbox, result)
 
@@ -57,6 +60,14 @@ def by_place(settings: dict, xdpbox: str, result: Result) -> Optional[Result]:
     of the ways that meet there. None if it finds nothing."""
     try:
         return Search(settings, xdpbox, *result.way, Form(by_place=True)).run()
+    except Fail:
+        return None
+
+
+def compared_again(settings: dict, xdpbox: str, result: Result, slots: AbstractSet[int]) -> Optional[Result]:
+    """What the same search finds if the accesses of these slots are compared with the packet's end; None if it finds nothing."""
+    try:
+        return Search(settings, xdpbox, *result.way, result.form._replace(guards=frozenset(slots))).run()
     except Fail:
         return None
 
@@ -99,7 +110,7 @@ def searches(
     """What the searches find, the smaller of two programs first. The next two begin only if nobody took one of
     these, and none that would have too many copies again, or lead to the same again. Why a search found none is added to the
     faults. If some results of the first ones want a guard that nobody asked for (`unguarded`), others do too, but for those that
-    tell all numbers apart. `at_once`: whether the first ones alone are made, or, `at_size`, if these find nothing but what is too large."""
+    tell all numbers apart. Of numbers that share a counter all say the same. `at_once`: whether the first ones alone are made, or, `at_size`, if these find nothing but what is too large."""
     done = set() if loops(instructions_of(settings)) else {COUNTERS, IN_LOOPS}
     for numbers, ways in WAYS[:1] if at_once else WAYS:
         results = []
@@ -109,8 +120,12 @@ def searches(
             search = Search(settings, xdpbox, numbers, way)
             try:
                 results.append(search.run())
+                if way == BY_COPY and search.has_one_copy_each:
+                    break
             except Fail as fail:
                 faults.append(fail)
+                if fail.cause == SHARED:
+                    return
                 done |= {numbers} if isinstance(fail, TooMany) and not search.began else set()
             done |= set() if search.is_by_way else {numbers}
             if numbers in done:

@@ -19,6 +19,13 @@ OF_BYTES = re.compile(r"# map (\S+): byte B of a value lies in row (?:(\d+)\*key
 OF_NUMBERS = re.compile(r"# map (\S+): (.+) is row (?:(\d+)\*key \+ )?(\d+)(?:, bits 0 to (\d+))?")
 MAP = 'struct { __uint(type, BPF_MAP_TYPE_ARRAY); __uint(max_entries, %s); __type(key, __u32); __type(value, %s); } m SEC(".maps");\n'
 LOOK = "__u32 k = ctx->rx_queue_index; struct v *v = bpf_map_lookup_elem(&m, &k); if (!v) return 1; "
+OTHER = 'struct { __uint(type, BPF_MAP_TYPE_ARRAY); __uint(max_entries, 2); __type(key, __u32); __type(value, %s); } n SEC(".maps");\n'
+ONE_OF_TWO = """__u32 k = ctx->rx_queue_index; struct v *v;
+if (ctx->ingress_ifindex & 1) { v = (void *)bpf_map_lookup_elem(&n, &k); asm volatile("# n"); }
+else { v = bpf_map_lookup_elem(&m, &k); asm volatile("# m"); }
+if (!v) return 1;
+"""
+SUMS = "".join(f"v->a[{at}] += k + {at};" for at in range(4))
 # what can't be rows: in front of the function, in it, and what is said
 REFUSED = {
     "indices of numbers of several sizes": (
@@ -35,6 +42,11 @@ REFUSED = {
         "struct v { __u64 a[20]; };\n" + MAP % (2, "struct v"),
         LOOK + "return (unsigned long)v >> 3 & 1;",
         "uses the address of a map's value as a number",
+    ),
+    "an address in one of two maps as a number": (
+        "struct v { __u64 a[20]; };\n" + MAP % (2, "struct v") + OTHER % "__u64[4]",
+        f"{ONE_OF_TWO}{SUMS}return (unsigned long)v >> 3 & 1;",
+        "refused.c:10 (slot 42) uses the address of a map's value as a number",
     ),
     "an atomic addition to half of a number": (
         "struct v { __u64 a[20]; };\n" + MAP % (2, "struct v"),
@@ -123,6 +135,12 @@ def tests(clang, xdpbox):
         folder = pathlib.Path(name)
         yield f"large values on {len(given)} packets", compared(clang, xdpbox, SOURCE, given, folder)
         yield f"many small numbers in a loop on {len(given)} packets", compared(clang, xdpbox, IN_LOOP, given, folder)
+        path = folder / "noted.c"
+        before = "struct v { __u64 a[20]; };\n" + MAP % (2, "struct v") + OTHER % "struct v"
+        path.write_text(f'{called.HEADERS}{before}SEC("xdp") int f(struct xdp_md *ctx) {{ {ONE_OF_TWO}{SUMS}\nreturn 2; }}\n')
+        places = {line.partition(" (")[0] for line in called.settings_from(clang, xdpbox, path).stderr.splitlines()}
+        wanted = {f"note: {path}:{path.read_text().split(SUMS)[0].count(chr(10)) + 1}"}
+        yield "the line of counts in one of two maps", "" if places == wanted else f"{places}"
         path = folder / "refused.c"
         for name, (before, body, wanted) in REFUSED.items():
             path.write_text(f'{called.HEADERS}{before}SEC("xdp") int f(struct xdp_md *ctx) {{ {body} }}\n')

@@ -12,7 +12,8 @@ from laxonje_tools.from_c import btf, elf, tables
 from laxonje_tools.straight.instructions import MASK_64
 
 FOLDER = pathlib.Path(__file__).parent
-SOURCE, OTHERS = FOLDER / "tables.c", [FOLDER / name for name in ("joined.c", "large_tables.c", "bytes_in_tables.c")]
+SOURCE, OTHERS = FOLDER / "tables.c", [FOLDER / f"{name}.c" for name in ("joined", "large_tables", "bytes_in_tables", "two_windows", "two_large", "indexed_rows", "directions")]
+IN_ROWS = {"indexed_rows"}  # whose values are several rows
 FULL, IS_THERE, IS_NONE = -7, -17, -2
 ANY, NOT_THERE, THERE = 0, 1, 2
 PLACES = 4
@@ -63,7 +64,7 @@ REFUSED = {
     ),
 }
 
-# the kind of a map and its entries, to which rows are added, a word, and whether it is a table
+# the kind of a map and its entries, to which rows are added, a word, and whether more than a few of its rows may find no place
 ADDED = """struct { __uint(type, BPF_MAP_TYPE_%s); __uint(max_entries, %d); __type(key, __u32); __type(value, __u64); } seen SEC(".maps");
 SEC("xdp") int f(struct xdp_md *ctx) {
 	__u32 k = ctx->rx_queue_index;
@@ -72,11 +73,11 @@ SEC("xdp") int f(struct xdp_md *ctx) {
 }
 """
 SIZES = (
-    ("HASH", 16384, (), True),
-    ("HASH", 16385, (), False),
+    ("HASH", 16384, (), False),
+    ("HASH", 16385, (), True),
     ("HASH", 16385, ("--tables",), True),
-    ("PERCPU_HASH", 65536, (), False),
-    ("LRU_HASH", 16385, (), True),
+    ("PERCPU_HASH", 1000000, (), True),
+    ("LRU_HASH", 16385, (), False),
 )
 
 
@@ -172,7 +173,7 @@ def run_tests(clang, xdpbox, folder, source):
         return
     settings, sections = tomllib.loads(run.stdout), elf.sections_of(object_of(clang, source, folder / f"{name}.o").read_bytes())
     declared = list(btf.maps_in(sections))
-    made = [tables.table_of(row) for row in declared]
+    made = [tables.table_of(row, name in IN_ROWS) for row in declared]
     notes, comments = run.stderr.count("in a table of"), run.stdout.count("\n# map ")
     yield f"{name}: a table is noted once for each map", "" if notes == len(made) <= comments + 1 else run.stderr
     one, given = Hashing(sections, declared, {row.declared.name: row.rows for row in made}), packets()
@@ -181,7 +182,8 @@ def run_tests(clang, xdpbox, folder, source):
     runs, counters = machine.filtered(xdpbox, settings, settings["program"], relocations, given)
     wrong = [(packet[:6].hex(), mine[0], theirs[0]) for packet, mine, theirs in zip(given, wanted, runs) if mine != theirs]
     yield f"{name}: rows that are added, on {len(given)} packets", f"{wrong[:3]}" if wrong or len(runs) != len(given) else ""
-    yield f"{name}: each answer is given", "" if {row[0] for row in wanted} == set(machine.ACTIONS.values()) else "not each"
+    missing = set(machine.ACTIONS.values()) - {row[0] for row in wanted}
+    yield f"{name}: each answer is given", " ".join(sorted(missing))
     for table in made:
         there = {key: numbers[0] for key, numbers in one.left()[table.declared.name].items()}
         yield f"the rows of {table.declared.name}", "" if there and numbers_left(settings, counters, table) == there else f"{there}"
@@ -199,14 +201,13 @@ def stale_tests(clang, xdpbox, folder):
 
 
 def size_tests(clang, xdpbox, path):
-    """Maps of which the table has fewer than four rows for each entry: a word is wanted, unless their rows are dropped."""
-    for kind, entries, word, is_taken in SIZES:
+    """Maps of which the table has fewer than four rows for each entry: a note says so, unless their rows are dropped."""
+    for kind, entries, word, is_fewer in SIZES:
         path.write_text(HEADERS + ADDED % (kind, entries))
         run = settings_from(clang, xdpbox, *word, path)
         name = " ".join([f"rows that are added to one of {entries} entries of {kind}", *word])
-        if not is_taken:
-            yield f"{name}: refused", "" if run.returncode == 1 and not run.stdout and "--tables takes a larger hash" in run.stderr else run.stderr
-            continue
+        is_said = f"of more than 16384 rows, where Linux has {entries}, more than a few find no place" in run.stderr
+        yield f"{name}: {'fewer' if is_fewer else 'as many'}", "" if is_said == is_fewer else run.stderr
         lines = [line for line in run.stdout.splitlines() if line.startswith("# map")]
         is_known = any("bpf_spin_lock: the host has one queue" in line for line in lines) and "has one queue at a time judge" in run.stderr
         yield f"{name}: a host learns of them", "" if is_known and "a table of 65536 rows" in lines[0] else run.stderr + run.stdout[:400]

@@ -28,9 +28,9 @@ NOT_HERE = {
     "a long key": (MAP.format("HASH", 8, "struct { char c[65]; }", "__u64", "m"), LOOKUP, "keys of the map m have 65 bytes: a key has 1 to 64"),
     "a prefix without data": (MAP.format("LPM_TRIE", 8, "__u32", "__u64", "m"), LOOKUP, "a key has the prefix's length, a __u32, and 1 to 64 behind it"),
     "a row that is added": (
-        MAP.format("HASH", 16385, "__u32", "__u64", "m"),
-        "__u32 k = 0; __u64 v = 1; bpf_map_update_elem(&m, &k, &v, BPF_ANY); return XDP_PASS;",
-        "bpf_map_update_elem, which isn't here: a program adds rows to an LRU hash and to a hash of at most 16384 entries",
+        MAP.format("LPM_TRIE", 8, "__u64", "__u64", "m"),
+        "__u64 k = 0; __u64 v = 1; bpf_map_update_elem(&m, &k, &v, BPF_ANY); return XDP_PASS;",
+        "bpf_map_update_elem, which isn't here: a program adds rows to a hash",
     ),
     "a row that is taken away": (
         MAP.format("HASH", 8, "__u32", "__u64", "m"),
