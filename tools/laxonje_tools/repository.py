@@ -9,12 +9,22 @@ ROOT = str(pathlib.Path(__file__).resolve().parents[2])
 RT = os.environ.get("RT", "rt")
 
 
+def lines_of(text):
+    """Each crate in the text of crates.txt with all libraries that it uses, in that order."""
+    lines = [line.split(":") for line in text.split("\n") if ":" in line and not line.startswith("#")]
+    return {head.split()[0]: names.split() for head, names in lines}
+
+
 def crates():
     """Each crate with the libraries of crates.txt that it uses, in that order."""
-    with open(os.path.join(ROOT, "crates.txt")) as file:
-        lines = [line.split(":") for line in file if ":" in line and not line.startswith("#")]
-    uses = {head.split()[0]: names.split() for head, names in lines}
+    uses = lines_of(pathlib.Path(ROOT, "crates.txt").read_text())
     return {name: [it for it in used if it in uses] for name, used in uses.items()}
+
+
+def crates_of_tests(root=ROOT):
+    """The names of the crates of tests: those below the line `# tests` of crates.txt, up to the next such line."""
+    text = pathlib.Path(root, "crates.txt").read_text()
+    return list(lines_of(text.partition("\n# tests\n")[2].partition("\n#")[0]))
 
 
 def files():

@@ -22,6 +22,3 @@ fn main(rt: HostRuntime) -> ExitCode {
         None => print_memory(&mut output),
     })
 }
-
-#[cfg(test)]
-mod tests;

@@ -36,7 +36,7 @@ class Gate:
             self.part(name, f"echo '{name}: a line'\necho '3 passed, 0 failed'")
         self.part("parts/link-aligned", 'echo program > "$2"')
         self.part("build-host", 'mkdir "$1" && echo archive > "$1/liblaxonje.a"')
-        (self.folder / "crates.txt").write_text("low:\nhigh: low\ntop: high low\n")
+        (self.folder / "crates.txt").write_text("low:\nhigh: low\ntop: high low\n\n# tests\ntop_tests: top\n")
         (self.folder / ".gitignore").write_text("out/\n")
         subprocess.run(["git", "init", "-q", self.folder], check=True)
         (self.beside / "rt").write_text(RT)

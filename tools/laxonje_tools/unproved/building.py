@@ -16,13 +16,15 @@ from laxonje_tools.unproved.plain import plain
 TARGET = "x86_64-unknown-linux-gnu"
 # The line of `xdpbox version` in the crate xdp_commands.
 VERSION = re.compile(r'(const VERSION: &str = "xdpbox [0-9.]+)(\\n";)')
-# The words with which the kit's `rattle build` has its clang compile a module.
+# The words with which the kit's `rattle build` has its clang compile a module, but for the level.
 WORDS = [
-    *(f"--target={TARGET}", "-march=x86-64", "-O3", "-ffunction-sections", "-fdata-sections", "--no-default-config", "-fintegrated-cc1"),
+    *(f"--target={TARGET}", "-march=x86-64", "-ffunction-sections", "-fdata-sections", "--no-default-config", "-fintegrated-cc1"),
     *(word for flag in ("-no-trap-after-noreturn", "-trap-unreachable", "-no-x86-call-frame-opt") for word in ("-mllvm", flag)),
     *(word for flag in ("-disable-machine-licm", "-disable-postra-machine-licm") for word in ("-mllvm", flag)),
     *("-mllvm", "-sink-common-insts=false", "-w"),
 ]
+# The levels of what is handed out, and of tests, which are compiled for longer than they run.
+HANDED_OUT, TESTED = "-O3", "-O0"
 
 
 class Fault(Exception):
@@ -57,10 +59,10 @@ class Building:
         self.crate = next(it for it in crates if it.name == name)
         self.clang = f"{self.rtlib.KIT}/toolchain/bin/clang"
 
-    def lines(self, folder, folders=None):
+    def lines(self, folder, folders=None, root=("src/main.rt",)):
         """The module's text of the crate in a folder, with `folders` in place of crates' own below it."""
         self.say(f"reads {self.name}, the {len(self.crate.below())} crates below it, and the kit's")
-        bitcode = bitcode_of(self.rtlib, self.crate, folder, self.room, folders or {})
+        bitcode = bitcode_of(self.rtlib, self.crate, folder, self.room, folders or {}, root)
         self.say("takes out what stops a try, and puts the inline hints in")
         text = os.path.join(self.room, "tried.ll")
         run(self.clang, "-S", "-emit-llvm", "-x", "ir", bitcode, "-o", text, "-O0", "-Xclang", "-disable-llvm-passes", "-w")
@@ -68,13 +70,13 @@ class Building:
         with open(text, encoding="utf-8", errors="surrogateescape") as file:
             yield from plain(file, hints, self.has_tests)
 
-    def compile(self, lines, place):
+    def compile(self, lines, place, level=HANDED_OUT):
         """The object that these lines make."""
         text, made = os.path.join(self.room, "plain.ll"), os.path.join(self.room, "module.o")
         with open(text, "w", encoding="utf-8", errors="surrogateescape") as file:
             file.writelines(lines)
         self.say("compiles it")
-        run(self.clang, *WORDS, place, "-c", "-x", "ir", text, "-o", made)
+        run(self.clang, *WORDS, level, place, "-c", "-x", "ir", text, "-o", made)
         return made
 
     def marked(self, commit):
@@ -90,6 +92,16 @@ class Building:
         """Builds a program of this commit."""
         module = self.compile(self.lines(self.crate.folder, self.marked(commit)), "-fPIE")
         run("objcopy", "--set-section-alignment", ".text.*=64", module)
+        self.link(module, to)
+
+    def tests(self, to):
+        """Builds the program of a library's own tests, as `rt test` would, or a program; what a proof would have shown is tested at each
+        step."""
+        root = ("src/main.rt",) if self.crate.is_program else ("--test", "src/lib.rt")
+        self.link(self.compile(self.lines(self.crate.folder, root=root), "-fPIE", TESTED), to)
+
+    def link(self, module, to):
+        """Links a program."""
         self.say("links it")
         libraries = [f"{self.rtlib.KIT}/c/libos_c.a", f"{self.rtlib.KIT}/c/liblibc_c.a"]
         words = ["--target", TARGET, "--toolchain", f"{self.rtlib.KIT}/toolchain", "-o", to]

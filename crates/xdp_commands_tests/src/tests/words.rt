@@ -27,8 +27,3 @@ fn refuses_a_packet_of_one_byte_too_many(rt: HostRuntime) -> Result<(), Fail> {
     assert_eq!(rt; (status, output.as_slice()), (2, REFUSED));
     Ok(())
 }
-
-#[test]
-fn the_first_word_is_the_name_of_the_program(rt: HostRuntime) {
-    assert!(rt; crate::words_of(&rt).is_some_and(|words| !words.is_empty()));
-}
