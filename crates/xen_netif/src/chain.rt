@@ -1,11 +1,12 @@
 //! The chain of slots that a packet makes on the tx ring.
 
-ghost use Rattle.std.specs.Prelude.{[], ◌∷◌, ◌++◌, ◌≡◌, ◌≢◌, ◌↔◌, ◌≤◌, length, sum_by, None, Some, Ok, Err, MatchOption, MatchResult};
-ghost use Rattle.std.specs.Prelude.{IfOk, IsTrue, OnErr, OnOk};
+ghost use Rattle.std.specs.Prelude.{[], ◌∷◌, ◌++◌, ◌≡◌, ◌≢◌, ◌↔◌, ◌<◌, ◌≤◌, length, sum_by, None, Some, Ok, Err, MatchOption, MatchResult};
+ghost use Rattle.std.specs.Prelude.{IfOk, IsTrue, List, OnErr, OnOk, if◌then◌else◌, slice_get};
 ghost use Rattle.std.specs.List.{list_all};
-ghost use Rattle.xen_netif.specs.Chain.{Stands, extra_info, requests_of};
+ghost use Rattle.xen_netif.specs.Chain.{Slot, Stands, extra_info, requests_of};
 ghost use Rattle.xen_netif.specs.Fragments.{fragment_size, fragments_of, is_in_page, packet_size, sized_fragments, slot_size};
 ghost use Rattle.xen_netif.specs.Segments.{data_behind, offered_fragments, segments_of};
+ghost use Rattle.xen_netif.specs.Slots.{tx_req_of};
 ghost use Rattle.xen_netif.specs.Standing.{standing};
 
 use crate::expected::Expected;
@@ -116,6 +117,15 @@ impl Chain {
         ensures len { length result.items ≡ length self.now }
     {
         requests_in(self.slots.as_slice())
+    }
+
+    /// The request in the slot of this number, as [`Chain::requests`] has it.
+    #[inline]
+    pub fn request(&self, number: usize) -> Option<TxReq>
+        requires { number < length self.now }
+        ensures { slice_get (requests_of self.now) number ≡ Some result }
+    {
+        request_in(self.slots.as_slice(), number)
     }
 
     /// The packet's parts in granted pages, one per slot, in order, as a queue takes it that offers nothing.
@@ -232,6 +242,36 @@ fn sized_fragments(first: [u32; 3], later: &[[u32; 3]]) -> Result<ArrayVec<Fragm
         Ok(fragments)
     } else {
         Err(SizeFault::PastPage)
+    }
+}
+
+/// Returns whether a chain's slot behind these is an extra.
+fn wants_extra(before: &[[u32; 3]]) -> bool
+    ensures { (slot : Slot) (rest : List Slot) → slice_get (requests_of (before.now ++ slot ∷ rest)) (length before.now)
+        ≡ Some (if result then None else Some (tx_req_of slot)) }
+{
+    let Some((first, later)) = before.split_first() else {
+        return false;
+    };
+    let mut extra_asked = TxReq::of_words(*first).flags.extra_info;
+    for slot in later {
+        if !extra_asked {
+            return false;
+        }
+        extra_asked = asks_extra(*slot);
+    }
+    extra_asked
+}
+
+/// The request in the slot of this number of a chain's slots.
+fn request_in(slots: &[[u32; 3]], number: usize) -> Option<TxReq>
+    requires { number < length slots.now }
+    ensures { slice_get (requests_of slots.now) number ≡ Some result }
+{
+    if wants_extra(&slots[..number]) {
+        None
+    } else {
+        Some(TxReq::of_words(slots[number]))
     }
 }
 

@@ -61,6 +61,19 @@ pub fn requests_after(slots: &[[u32; 3]]) -> ([Option<bool>; 6], Option<Option<T
     (are_data, requests.as_slice().last().copied())
 }
 
+/// Returns whether the request in each slot is the one that all requests have there.
+pub fn each_is_its_request(slots: &[[u32; 3]]) -> bool {
+    let mut chain = Chain::new();
+    let _ = push_all(&mut chain, slots);
+    let requests = chain.requests();
+    for number in 0..chain.len() {
+        if chain.request(number) != requests.as_slice()[number] {
+            return false;
+        }
+    }
+    true
+}
+
 /// Returns whether a chain of these slots has these fragments, or why there are none: it isn't complete, or has a fault.
 pub fn has_fragments(slots: &[[u32; 3]], wanted: &[Fragment]) -> Result<bool, Option<SizeFault>> {
     let mut chain = Chain::new();

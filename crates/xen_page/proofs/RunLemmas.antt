@@ -4,7 +4,7 @@ use Rattle.std.specs.Prelude.{All}
 use Rattle.std.specs.Int.{w32, from_le_bytes, to_le_bytes}
 use Rattle.std.specs.List.{flat_map}
 use Rattle.std.proofs.lemmas.Grind.{flat_map-append, take-set_at}
-use Rattle.std.proofs.lemmas.List.{append-nil, drop-drop, drop_all, get_or-drop, get_or_default, length-take, take_all, take_more}
+use Rattle.std.proofs.lemmas.List.{drop-drop, get_or-drop, get_or_default, length-take, take_all, take_more}
 use Rattle.std.proofs.lemmas.List.Elements.{All-append, All-nil}
 use Rattle.std.proofs.lemmas.Nat.{le_bytes_4}
 use Rattle.std.proofs.Math.Seq.{take-add, take-append_seam, drop-append-add}
@@ -164,10 +164,12 @@ bytes_on words room start n h is =
     ap (λ l. take (4 * n) l ++ to_le_bytes w32 v ++ drop (4 * n + 4) l) is ∙ bytes_more (take n words) start n v count
     ∙ ap (λ l. bytes l ++ drop (4 * (n + 1)) start) (sym (take_more words n 0 h))
 
-pub bytes_all : (words start : List ℕ) (n : ℕ) → length words ≤ n → length start ≡ 4 * length words → bytes (take n words) ++ drop (4 * n) start ≡ bytes words
-bytes_all words start n h e =
-    let none : drop (4 * n) start ≡ [] = drop_all (4 * n) start (omega (arith, h, e)) in
-    ap (λ l. bytes (take n words) ++ l) none ∙ append-nil (bytes (take n words)) ∙ ap bytes (take_all n words h)
+-- the bytes of all words stand first
+pub bytes_first : (words start : List ℕ) (n : ℕ) → length words ≤ n → take (4 * length words) (bytes (take n words) ++ drop (4 * n) start) ≡ bytes words
+bytes_first words start n h =
+    let rest = drop (4 * n) start in
+    ap (λ l. take (4 * length words) (bytes l ++ rest)) (take_all n words h)
+    ∙ subst (λ k. take k (bytes words ++ rest) ≡ bytes words) (length-bytes words) (take-append_seam (bytes words) rest)
 
 pub all_below : (words : List ℕ) → ((i : ℕ) → get_or words i 0 < 2 ^ 32) → All (λ word. word < 2 ^ 32) words
 all_below words h = λ i d lt. rw (get_or_default words i d 0 lt) (h i)

@@ -67,15 +67,23 @@ impl<'w> PlainBus<'w> {
     }
 }
 
-/// Writes the bytes of words.
+/// Writes the bytes of words, by way of a page that nothing else reaches: so the compiler makes one copy of the bytes. Where there are
+/// no words it returns first, so that nothing is copied or not as the loop runs.
 fn put_bytes(room: &mut [u8], words: &[u32])
-    requires { length room.old ≡ 4 * length words.now }
+    requires few { length words.now ≤ 1024 }
+    requires length { length room.old ≡ 4 * length words.now }
     ensures bytes { room.new ≡ flat_map (to_le_bytes w32) words.now }
     ensures below { All (λ word. word < 2 ^ 32) words.now }
 {
-    for number in 0..words.len() {
-        put_word(room, number, words[number]);
+    if words.is_empty() {
+        return;
     }
+    let mut page = [0; 4 * WORDS as usize];
+    for number in 0..words.len() {
+        put_word(&mut page, number, words[number]);
+    }
+    let count = 4 * words.len();
+    room[..count].copy_from_slice(&page[..count]);
 }
 
 /// Writes words whose bytes these are.

@@ -2,7 +2,7 @@
 
 ghost use Rattle.std.specs.Prelude.{◌<◌};
 
-use crate::answers::{requests_after, state_after, states, states_after};
+use crate::answers::{each_is_its_request, requests_after, state_after, states, states_after};
 use xen_netif::{
     Chain, ChainFault, ChainState, TxReq, beginnings_go_on, faults_stay, no_chain_begins_another,
     one_standing,
@@ -58,6 +58,7 @@ fn wants_as_its_flags_say(rt: HostRuntime) {
         requests_after(&[first, extras[0], extras[1], first, last]),
         ([a, b, c, d, e, None], Some(Some(TxReq::of_words(last))))
     );
+    assert!(rt; each_is_its_request(&[first, extras[0], extras[1], first, last]));
 }
 
 #[test]
