@@ -23,6 +23,7 @@ ghost use Rattle.xdp_program.specs.Settings.{AreListsOf, AreNamesOf, IsSetupOf};
 ghost use Rattle.xdp_host.specs.Answers.{Accepts, AcceptsText, AcceptsUnlessOutOfMemory, AreWithin, Refuses, RefusesText, shapes_of};
 ghost use Rattle.xdp_host.specs.Verdict.{accepting, verdict_of, out_of_memory};
 ghost use Rattle.xen_host.specs.Frames.{list_limits};
+ghost use Rattle.xen_host.specs.LentWords.{lent_words};
 ghost use Rattle.xen_host.specs.Queues.{AreEnough, AreFew, HasBegun, HasStepped, IsNothing, packet_of, resting};
 ghost use Rattle.xen_host.specs.Sharing.{StepsShared};
 ghost use Rattle.xdp_host.specs.Made.{MakesOr, fault_number, given};
@@ -82,7 +83,7 @@ pub use shared_calls::{
     laxonje_queue_pass, laxonje_queue_share,
 };
 use std::alloc::Global;
-use xen_host::{FrameOwners, HostOp, RxOffload};
+use xen_host::{FrameOwners, HostOp, LentWord, RxOffload};
 
 /// The version of `include/laxonje.h`.
 const VERSION: u32 = 3;
@@ -222,18 +223,18 @@ pub extern "C" fn laxonje_queue_turn(
 #[unsafe(no_mangle)]
 pub extern "C" fn laxonje_queue_step(
     queue: &mut XdpQueue,
-    words: &mut [u32],
+    words: &mut [LentWord],
     counters: &mut [u64],
     ops: &mut [HostOp],
 ) -> usize
     ensures there { IfNone queue.old.slot.held (queue.new.slot.held ≡ None) }
-    ensures none { IfNone queue.old.slot.held (IsUnsaid result words.old words.new counters.old counters.new ops.old ops.new) }
-    ensures few { IfSome queue.old.slot.held (λ q. q.share ≡ None → AreFew q words.old counters.old ops.old → IfSome queue.new.slot.held (λ r.
-        IsNothing q r words.old words.new counters.old counters.new ops.old ops.new result)) }
+    ensures none { IfNone queue.old.slot.held (IsUnsaid result (lent_words words.old) (lent_words words.new) counters.old counters.new ops.old ops.new) }
+    ensures few { IfSome queue.old.slot.held (λ q. q.share ≡ None → AreFew q (lent_words words.old) counters.old ops.old → IfSome queue.new.slot.held (λ r.
+        IsNothing q r (lent_words words.old) (lent_words words.new) counters.old counters.new ops.old ops.new result)) }
     ensures shared { IfSome queue.old.slot.held (λ q. IsSome q.share → IfSome queue.new.slot.held (λ r.
-        StepsShared q r words.old words.new ops.old ops.new result × (counters.new ≡ counters.old))) }
-    ensures stepped { IfSome queue.old.slot.held (λ q. q.share ≡ None → AreEnough q words.old counters.old ops.old → IfSome queue.new.slot.held (λ r.
-        HasStepped q r words.old words.new counters.old counters.new ops.old ops.new result)) }
+        StepsShared q r (lent_words words.old) (lent_words words.new) ops.old ops.new result × (counters.new ≡ counters.old))) }
+    ensures stepped { IfSome queue.old.slot.held (λ q. q.share ≡ None → AreEnough q (lent_words words.old) counters.old ops.old → IfSome queue.new.slot.held (λ r.
+        HasStepped q r (lent_words words.old) (lent_words words.new) counters.old counters.new ops.old ops.new result)) }
     ensures own { IfSome queue.old.slot.held (λ q. q.share ≡ None → IfSome queue.new.slot.held (λ r. r.share ≡ None)) }
     ensures kept { IfSome queue.old.slot.held (λ _. IsSome queue.new.slot.held) }
     ensures words { length words.new ≡ length words.old }

@@ -1,5 +1,6 @@
 //! A queue's calls, on what a handle holds.
 ghost use Rattle.std.specs.Prelude.{◌≡◌, ◌++◌, None, drop, length, take, IfErr, IfOk, IsSome};
+ghost use Rattle.xen_host.specs.LentWords.{lent_words};
 ghost use Rattle.xen_host.specs.Queues.{AreEnough, AreFew, HasStepped, IsNothing};
 ghost use Rattle.xen_host.specs.Sharing.{StepsShared};
 ghost use Rattle.xen_host.specs.Frames.{limits_of, owners_in};
@@ -9,7 +10,9 @@ ghost use Rattle.xdp_host.specs.Begins.{DeliverAnswers};
 
 use crate::queue_abi::{XdpQueueDesc, begin_number};
 use std::alloc::Global;
-use xen_host::{FrameOwners, HostOp, Lists, MakeFault, Program, Queue, QueueParts, RxOffload};
+use xen_host::{
+    FrameOwners, HostOp, LentWord, Lists, MakeFault, Program, Queue, QueueParts, RxOffload,
+};
 use xen_netif::{ACCEPTS_WHOLE, NO_OFFERS};
 
 /// A queue of what C gives, in a box.
@@ -48,15 +51,15 @@ pub fn boxed(
 #[inline(always)]
 pub fn stepped(
     queue: &mut Queue,
-    words: &mut [u32],
+    words: &mut [LentWord],
     counters: &mut [u64],
     ops: &mut [HostOp],
 ) -> usize
-    ensures few { queue.old.share ≡ None → AreFew queue.old words.old counters.old ops.old →
-        IsNothing queue.old queue.new words.old words.new counters.old counters.new ops.old ops.new result }
-    ensures stepped { queue.old.share ≡ None → AreEnough queue.old words.old counters.old ops.old →
-        HasStepped queue.old queue.new words.old words.new counters.old counters.new ops.old ops.new result }
-    ensures shared { IsSome queue.old.share → StepsShared queue.old queue.new words.old words.new ops.old ops.new result ×
+    ensures few { queue.old.share ≡ None → AreFew queue.old (lent_words words.old) counters.old ops.old →
+        IsNothing queue.old queue.new (lent_words words.old) (lent_words words.new) counters.old counters.new ops.old ops.new result }
+    ensures stepped { queue.old.share ≡ None → AreEnough queue.old (lent_words words.old) counters.old ops.old →
+        HasStepped queue.old queue.new (lent_words words.old) (lent_words words.new) counters.old counters.new ops.old ops.new result }
+    ensures shared { IsSome queue.old.share → StepsShared queue.old queue.new (lent_words words.old) (lent_words words.new) ops.old ops.new result ×
         (counters.new ≡ counters.old) }
     ensures own { queue.old.share ≡ None → queue.new.share ≡ None }
     ensures words { length words.new ≡ length words.old }

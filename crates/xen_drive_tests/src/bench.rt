@@ -7,7 +7,7 @@ ghost use Rattle.xen_host.specs.Queues.{resting, wired_to};
 use bpf_note::MapShape;
 use std::alloc::Global;
 use xen_back_tests::bench::{IFINDEX, QUEUE};
-use xen_host::{FrameOwners, Lists, Program, Queue, QueueParts};
+use xen_host::{FrameOwners, LentWord, Lists, Program, Queue, QueueParts};
 use xen_netif::{Accepts, NO_OFFERS, Offers};
 
 /// The packets that its frontend accepts: blank checksums, and packets to segment over IPv4.
@@ -52,10 +52,10 @@ pub fn shipped(alloc: Global, bytes: &[u8], shapes: &[MapShape], start: u32) -> 
 }
 
 /// The words that a host lends.
-pub fn page(alloc: Global) -> Option<Vec<u32>>
+pub fn page(alloc: Global) -> Option<Vec<LentWord>>
     ensures { IfSome result (λ words. length words.items ≡ 1024) }
 {
-    vec![in alloc; 0u32; 1024].ok()
+    vec![in alloc; [0u8; 4]; 1024].ok()
 }
 
 /// The counters of a queue's program, which are 0.

@@ -1,10 +1,16 @@
 -- Asks that follow one another: the responses of a chain and of rx slots, and a page's words.
 use Rattle.std.proofs.Common.{◌≡◌, ℕ, zero, suc, ◌+◌, ◌-◌, ◌*◌, ◌/◌, ◌%◌, ◌<◌, ◌≤◌, Bool, true, false, List, [], ◌∷◌, ◌++◌, length, take, drop, refl, sym, ap, ◌∙◌, subst, arith}
-use Rattle.std.specs.Prelude.{slice_index, min, nat_le}
+use Rattle.std.specs.Prelude.{Option, Some, slice_get, slice_index, min, nat_le}
+use Rattle.std.specs.Option.{option_map}
 use Rattle.std.proofs.lemmas.Bool.Decides.{nat_tests}
 use Rattle.std.proofs.lemmas.List.{drop_more}
+use Rattle.std.proofs.lemmas.Option.{get_or_from_slice_get, slice_get-map}
 use Rattle.xen_page.specs.Mapping.{frame_place}
+use Rattle.xen_netif.specs.Chain.{Slot, requests_of}
+use Rattle.xen_netif.specs.Slots.{tx_req_of}
 use Rattle.xen_netif.specs.declared.offload.RxOffload.{RxOffload}
+use Rattle.xen_netif.specs.declared.status.Status.{Status}
+use Rattle.xen_netif.specs.declared.tx.TxReq.{TxReq}
 use Rattle.xen_page.specs.declared.place.Place.{Place}
 use Rattle.xen_steps.specs.Drive.{LedBy}
 use Rattle.xen_steps.specs.Event.{Event, Write}
@@ -20,7 +26,7 @@ use Rattle.xen_rx_fill.specs.declared.target.Grants.TheVariants.{Passed}
 use Rattle.xen_rx_fill.specs.declared.target.Target.{Target}
 use Rattle.xen_rx_fill.specs.declared.vif.Vif.{Vif}
 use Rattle.xen_rx_fill.proofs.SendLemmas.{rx_answer_at}
-use Rattle.xen_turns.specs.Tree.{answer}
+use Rattle.xen_turns.specs.Tree.{answer, response, responses}
 use Rattle.xen_turns.specs.Turned.{Ending}
 use Rattle.xen_turns.specs.declared.wiring.Wiring.{Wiring}
 use Rattle.xen_host.specs.Asks.{Ask, did_all, writes_at}
@@ -31,6 +37,20 @@ use Rattle.xen_host.proofs.AskLemmas.{next_rx_word}
 use Rattle.xen_host.specs.Hosts.{WasAskedAll, plain_all}
 use Rattle.xen_host.proofs.HostLedLemmas.{asked_more}
 use Rattle.xen_host.proofs.LedLemmas.{AreChained}
+
+-- ---- the request in one slot, and the response to it
+
+-- a slot that is the whole chain
+pub request_alone : (slot : Slot) (n : ℕ) → n < 1 → slice_get (requests_of (slot ∷ [])) n ≡ Some (Some (tx_req_of slot))
+request_alone slot zero h = refl
+request_alone slot (suc n) h = absurd (omega (arith, h))
+
+pub response_at : (st : Status) (slots : List Slot) (i : ℕ) (request : Option TxReq) → slice_get (requests_of slots) i ≡ Some request →
+    response st request ≡ slice_index (responses st slots) i
+response_at st slots i request h =
+    let there : slice_get (responses st slots) i ≡ Some (response st request) =
+    slice_get-map (response st) (requests_of slots) i ∙ ap (option_map (response st)) h in
+    sym (get_or_from_slice_get (responses st slots) i (response st request) 0 there)
 
 -- ---- the responses of a chain, from the i-th on
 

@@ -14,6 +14,7 @@ use Rattle.xen_host.specs.Asks as ask
 use Rattle.xen_host.specs.Buses.{AllHeld, IsHeld}
 use Rattle.xen_host.specs.Fed.{WaitsFor}
 use Rattle.xen_host.specs.Hosts.{Asked, HasGiven, IsFull, IsLent, IsPut, IsSameLoan, WasAskedAll, WasGiven, asks_of, events_of}
+use Rattle.xen_host.specs.LentWords.{lent_words}
 use Rattle.xen_host.specs.Over.{BeginsOver, SteppedOver}
 use Rattle.xen_host.specs.Queues.{DeliveryGoesOn, HasBegun, Stepped, TurnGoesOn, WaitGoesOn, seen, wired_to, wiring}
 use Rattle.xen_host.specs.UnderWay.{WaitsForSome, first_read, read_by_some}
@@ -87,7 +88,7 @@ put_asked a o old new k is room ops counted words loan = record {
   ops = ops ∙ ap (λ (x : HostOp). take old.count old.ops.now ++ x ∷ drop (old.count + 1) old.ops.now) is;
   counted = counted;
   lent = kept_lent a old new k words;
-  width = ap (λ (l : List ℕ). length l) words;
+  width = ap (λ (l : List (List ℕ)). length l) words;
   loan = loan;
 }
 
@@ -140,21 +141,21 @@ events_same (a ∷ all) lent k = ap (λ l. did_by a.ask a.words ++ l) (events_sa
 
 -- What was asked, and the lent words after it.
 abbrev pub Wrote : List Asked → Ops → Ops → Type 0
-Wrote all old new = WordsStay (asks_of all) old.words.now new.words.now × (events_of all ≡ did_all (asks_of all) new.words.now)
+Wrote all old new = WordsStay (asks_of all) (lent_words old.words.now) (lent_words new.words.now) × (events_of all ≡ did_all (asks_of all) (lent_words new.words.now))
 
 kept_first : (a : Asked) (all : List Asked) (old mid new : Ops) → keeps a.ask ≡ true → mid.words.now ≡ old.words.now → new.words.now ≡ mid.words.now → Keeping all → Wrote (a ∷ all) old new
 kept_first a all old mid new k e f rest =
-    let lent = new.words.now in
-    let same : lent ≡ old.words.now = f ∙ e in
+    let lent = lent_words new.words.now in
+    let same : lent ≡ lent_words old.words.now = ap lent_words (f ∙ e) in
     (subst (λ (l : List ℕ). WordsStay (asks_of (a ∷ all)) l lent) same (stays (a ∷ all) lent (k, rest)), events_same (a ∷ all) lent (k, rest))
 
 first_asked : (a : Ask) (words : List ℕ) (all : List Asked) (old mid new : Ops) → IsLent a words old mid → new.words.now ≡ mid.words.now → Keeping all → Wrote (record { ask = a; words = words } ∷ all) old new
 first_asked (ask.Read at count) words all old mid new l f rest = kept_first (record { ask = ask.Read at count; words = words }) all old mid new refl l f rest
 first_asked (ask.Entry at reference rights) words all old mid new l f rest = kept_first (record { ask = ask.Entry at reference rights; words = words }) all old mid new refl l f rest
 first_asked (ask.Write at count) words all old mid new l f rest =
-    let lent = new.words.now in
-    let front : take count words ≡ take count lent = sym (ap (λ x. take count x) f ∙ l.2) in
-    (ap (λ x. drop count x) f ∙ l.3, ap (λ x. writes_at at x ++ events_of all) front ∙ ap (λ x. writes_at at (take count lent) ++ x) (events_same all lent rest))
+    let lent = lent_words new.words.now in
+    let front : take count words ≡ take count lent = sym (ap (λ x. take count (lent_words x)) f ∙ l.2) in
+    (ap (λ x. drop count (lent_words x)) f ∙ l.3, ap (λ x. writes_at at x ++ events_of all) front ∙ ap (λ x. writes_at at (take count lent) ++ x) (events_same all lent rest))
 first_asked (ask.Store at word) words all old mid new l f rest = kept_first (record { ask = ask.Store at word; words = words }) all old mid new refl l f rest
 first_asked (ask.StoreTwo at x y) words all old mid new l f rest = kept_first (record { ask = ask.StoreTwo at x y; words = words }) all old mid new refl l f rest
 first_asked (ask.Push at word read) words all old mid new l f rest = kept_first (record { ask = ask.Push at word read; words = words }) all old mid new refl l f rest
@@ -164,7 +165,7 @@ first_asked (ask.DeliveryOver what) words all old mid new l f rest = kept_first 
 first_asked (ask.WaitOver what) words all old mid new l f rest = kept_first (record { ask = ask.WaitOver what; words = words }) all old mid new refl l f rest
 
 wrote_all : (all : List Asked) (old new : Ops) → WasAskedAll IsPut old all new → Wrote all old new
-wrote_all [] old new e = (ap (λ (h : Ops). h.words.now) (sym e), refl)
+wrote_all [] old new e = (ap (λ (h : Ops). lent_words h.words.now) (sym e), refl)
 wrote_all (a ∷ all) old new e =
     let k = keep_rest all e.0 new (omega (arith, e.1.counted)) e.2 in
     first_asked a.ask a.words all old e.0 new e.1.lent k.0 k.1
@@ -262,9 +263,9 @@ begun_of old new producer host host_after none few d lent long =
 
 -- ---- a step
 
-given_is : (at : Place) (n : ℕ) (host mid : Ops) (words : List ℕ) → WasGiven HasGiven at n host words mid → (words ≡ take n host.words.now) × (mid ≡ host)
+given_is : (at : Place) (n : ℕ) (host mid : Ops) (words : List ℕ) → WasGiven HasGiven at n host words mid → (words ≡ take n (lent_words host.words.now)) × (mid ≡ host)
 given_is at zero host mid words g = g
-given_is at (suc n) host mid words g = (g.1.0 ∙ ap (λ k. take k host.words.now) g.0, g.1.1)
+given_is at (suc n) host mid words g = (g.1.0 ∙ ap (λ k. take k (lent_words host.words.now)) g.0, g.1.1)
 
 take_twice : (n : ℕ) (l : List ℕ) → take n (take n l) ≡ take n l
 take_twice zero l = refl
@@ -306,7 +307,7 @@ offload_same o (stage.Wait pages) b lent f = refl
 offload_same o (stage.WaitLook pages) b lent f = refl
 
 module _ (went : List (Option Operation) → Type 0) (same : Type 0) (old new : Queue) (host host_after : Ops) (d : SteppedOver IsPut IsFull HasGiven went same old new host host_after) where
-  answered : (d.words ≡ take (reads_in old.engine.stage) host.words.now) × (d.mid ≡ host)
+  answered : (d.words ≡ take (reads_in old.engine.stage) (lent_words host.words.now)) × (d.mid ≡ host)
   answered = given_is (due_in (wiring old) old.engine.state old.engine.stage (seen old).work) (reads_in old.engine.stage) host d.mid d.words d.given
 
   put : WasAskedAll IsPut host (d.first ++ d.last ∷ []) host_after
@@ -317,10 +318,10 @@ module _ (went : List (Option Operation) → Type 0) (same : Type 0) (old new : 
   step_within le = within_all (d.first ++ d.last ∷ []) host host_after le put
 
   -- A step over C's host is one of its ops and lent words.
-  pub stepped_of : host.count ≡ 0 → Stepped went same old new host.words.now host_after.words.now host.ops.now host_after.ops.now host_after.count
+  pub stepped_of : host.count ≡ 0 → Stepped went same old new (lent_words host.words.now) (lent_words host_after.words.now) host.ops.now host_after.ops.now host_after.count
   stepped_of none =
-      let lent = host.words.now in
-      let lent_after = host_after.words.now in
+      let lent = lent_words host.words.now in
+      let lent_after = lent_words host_after.words.now in
       let all = d.first ++ d.last ∷ [] in
       let last = d.last.ask in
       let g = old.engine.stage in

@@ -8,6 +8,7 @@ use Rattle.xen_steps.specs.Event.{Event}
 use Rattle.xen_steps.specs.Pages.{AreWords, covered}
 use Rattle.xen_steps.specs.Places.{page_word}
 use Rattle.xen_host.specs.Asks.{Ask, Write, did_by, op_of}
+use Rattle.xen_host.specs.LentWords.{lent_words}
 use Rattle.xen_host.specs.declared.host.Ops.{Ops}
 
 -- An ask, and the words of a WRITE, which stand in no ask.
@@ -55,8 +56,8 @@ IsSameLoan old new = (new.ops.ghost_name ≡ old.ops.ghost_name) × (new.words.g
 -- The lent words stay, but for those in front that a WRITE takes. It is the first op of a step, and a page of words is lent then.
 abbrev pub IsLent : Ask → List ℕ → Ops → Ops → Type 0
 IsLent (Write at count) words old new =
-    (old.count ≡ 0) × (1024 ≤ length old.words.now) × (take count new.words.now ≡ take count words) ×
-    (drop count new.words.now ≡ drop count old.words.now) × (length words ≡ count)
+    (old.count ≡ 0) × (1024 ≤ length old.words.now) × (take count (lent_words new.words.now) ≡ take count words) ×
+    (drop count (lent_words new.words.now) ≡ drop count (lent_words old.words.now)) × (length words ≡ count)
 IsLent a words old new = new.words.now ≡ old.words.now
 
 -- An ask stands behind the ops that were said.
@@ -70,7 +71,7 @@ pub record IsPut (old : Ops) (a : Ask) (words : List ℕ) (new : Ops) : Type 0 w
 
 -- The answers stand in front of the lent words, wherever they were read.
 abbrev pub HasGiven : Ops → Place → List ℕ → Ops → Type 0
-HasGiven old at words new = (words ≡ take (length words) old.words.now) × (new ≡ old)
+HasGiven old at words new = (words ≡ take (length words) (lent_words old.words.now)) × (new ≡ old)
 
 abbrev pub IsFresh : Ops → Type 0
 IsFresh h = (h.count ≡ 0) × (1 ≤ length h.ops.now) × (1024 ≤ length h.words.now)

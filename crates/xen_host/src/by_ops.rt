@@ -4,11 +4,13 @@ ghost use Rattle.std.specs.Prelude.{◌≡◌, ◌<◌, ◌≤◌, IsSome, None,
 ghost use Rattle.bpf_maps.specs.Layout.{total};
 ghost use Rattle.bpf_maps.specs.Seats.{IsSeatOf};
 ghost use Rattle.xen_host.specs.Hosts.{IsFresh, IsFree, IsSameLoan};
+ghost use Rattle.xen_host.specs.LentWords.{lent_words};
 ghost use Rattle.xen_host.specs.Queues.{HasBegun, HasStepped, HasSteppedAtSeat, resting, wired_to};
 
 use crate::host::Ops;
 use crate::op::HostOp;
 use crate::queue::Queue;
+use crate::words::LentWord;
 use bpf_maps::{CounterSeat, Counters};
 
 impl Queue {
@@ -49,7 +51,7 @@ impl Queue {
         requires fresh { IsFresh host.old }
         ensures counters { length counters.new ≡ length counters.old }
         ensures words { length host.new.words.now ≡ length host.old.words.now }
-        ensures stepped { HasStepped self.old self.new host.old.words.now host.new.words.now counters.old counters.new
+        ensures stepped { HasStepped self.old self.new (lent_words host.old.words.now) (lent_words host.new.words.now) counters.old counters.new
             host.old.ops.now host.new.ops.now host.new.count }
         ensures share { self.new.share ≡ self.old.share }
         ensures loan { IsSameLoan host.old host.new }
@@ -61,7 +63,7 @@ impl Queue {
     #[inline(always)]
     pub(crate) fn say_next(
         &mut self,
-        words: &mut [u32],
+        words: &mut [LentWord],
         counters: &mut [u64],
         ops: &mut [HostOp],
     ) -> usize
@@ -71,7 +73,7 @@ impl Queue {
         requires room { 1 ≤ length ops.old }
         ensures words { length words.new ≡ length words.old }
         ensures counters { length counters.new ≡ length counters.old }
-        ensures stepped { HasStepped self.old self.new words.old words.new counters.old counters.new ops.old ops.new result }
+        ensures stepped { HasStepped self.old self.new (lent_words words.old) (lent_words words.new) counters.old counters.new ops.old ops.new result }
         ensures share { self.new.share ≡ self.old.share }
     {
         let mut host = Ops {
@@ -91,7 +93,7 @@ impl Queue {
         requires seat { IsSeatOf counters.now seat.old }
         requires fresh { IsFresh host.old }
         ensures words { length host.new.words.now ≡ length host.old.words.now }
-        ensures stepped { HasSteppedAtSeat self.old self.new host.old.words.now host.new.words.now seat.old seat.new
+        ensures stepped { HasSteppedAtSeat self.old self.new (lent_words host.old.words.now) (lent_words host.new.words.now) seat.old seat.new
             host.old.ops.now host.new.ops.now host.new.count }
         ensures share { self.new.share ≡ self.old.share }
         ensures loan { IsSameLoan host.old host.new }
@@ -103,7 +105,7 @@ impl Queue {
     #[inline(always)]
     pub(crate) fn say_next_at_seat(
         &mut self,
-        words: &mut [u32],
+        words: &mut [LentWord],
         counters: &Counters,
         seat: &mut CounterSeat,
         ops: &mut [HostOp],
@@ -114,7 +116,7 @@ impl Queue {
         requires seat { IsSeatOf counters.now seat.old }
         requires room { 1 ≤ length ops.old }
         ensures words { length words.new ≡ length words.old }
-        ensures stepped { HasSteppedAtSeat self.old self.new words.old words.new seat.old seat.new ops.old ops.new result }
+        ensures stepped { HasSteppedAtSeat self.old self.new (lent_words words.old) (lent_words words.new) seat.old seat.new ops.old ops.new result }
         ensures share { self.new.share ≡ self.old.share }
     {
         let mut host = Ops {

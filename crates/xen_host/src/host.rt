@@ -7,12 +7,13 @@ ghost use Rattle.xen_host.specs.Asks.{Ask, op_of};
 ghost use Rattle.xen_host.specs.Asks as ask;
 ghost use Rattle.xen_host.specs.Filling.{packet_words};
 ghost use Rattle.xen_host.specs.Hosts.{GavePage, IsFree, IsFresh, IsFull, IsPut, IsSameLoan, IsSettled, HasGiven};
+ghost use Rattle.xen_host.specs.LentWords.{lent_words};
 
-use crate::copying::push_words;
+use crate::copying::read_bytes;
 use crate::op::HostOp;
 use crate::page_words::put_words;
 use crate::room::Room;
-use crate::words::are_words;
+use crate::words::LentWord;
 use xen_netif::Fragment;
 use xen_page::{Place, Rights};
 use xen_turns::{Awaited, Delivery, Kind};
@@ -142,17 +143,26 @@ pub struct Ops<'a> {
     /// The number that is said.
     pub(crate) count: usize,
     /// The lent words.
-    pub(crate) words: &'a mut [u32],
+    pub(crate) words: &'a mut [LentWord],
 }
 
 impl<'a> Ops<'a> {
     /// The first of the lent words.
     #[inline(always)]
-    fn front(&self, count: usize) -> &[u32]
+    fn front(&self, count: usize) -> &[LentWord]
         requires { count ≤ length self.now.words.now }
         ensures { result.now ≡ take count self.now.words.now }
     {
         &self.words[..count]
+    }
+
+    /// A word of the lent ones.
+    #[inline(always)]
+    fn lent(&self, i: usize) -> u32
+        requires { i < length self.now.words.now }
+        ensures { result ≡ slice_index (lent_words self.now.words.now) i }
+    {
+        u32::from_le_bytes(self.words[i])
     }
 
     /// Puts an op behind those that are said.
@@ -241,26 +251,23 @@ impl<'a> Host for Ops<'a> {
 
     #[inline(always)]
     fn word(&mut self, _at: Place) -> u32 {
-        self.words[0]
+        self.lent(0)
     }
 
     #[inline(always)]
     fn two(&mut self, _at: Place) -> [u32; 2] {
-        [self.words[0], self.words[1]]
+        [self.lent(0), self.lent(1)]
     }
 
     #[inline(always)]
     fn three(&mut self, _at: Place) -> [u32; 3] {
-        [self.words[0], self.words[1], self.words[2]]
+        [self.lent(0), self.lent(1), self.lent(2)]
     }
 
     #[inline(always)]
     fn page<R: Room>(&mut self, _frame: u32, fragment: &Fragment, packet: &mut R) {
         let covered = fragment.covered_words();
         let count = (covered.end - covered.start) as usize;
-        let front = self.front(count);
-        // Only the proof uses what this call ensures: a word is below 2^32.
-        are_words(front);
-        push_words(fragment, front, packet)
+        packet.push_all(read_bytes(fragment, self.front(count)))
     }
 }

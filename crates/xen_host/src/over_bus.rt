@@ -100,8 +100,8 @@ fn word_at<B: Bus>(bus: &mut B, at: Place) -> u32
     }
 }
 
-/// Fills room with the bytes of words from a place on.
-#[inline(always)]
+/// Fills room with the bytes of words from a place on. It is a call of its own, so that steps that read no page don't pay for it.
+#[inline(never)]
 fn fill_from<B: Bus>(bus: &mut B, at: Place, count: u32, room: &mut [u8])
     requires page { count ≤ 1024 }
     requires room { length room.old ≡ 4 * count }

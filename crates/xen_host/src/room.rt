@@ -1,7 +1,6 @@
 //! Room for the packet of an engine.
 
-ghost use Rattle.std.specs.Prelude.{◌≡◌, ◌<◌, ◌≤◌, ◌+◌, ◌*◌, ◌++◌, [], ℕ, List, length};
-ghost use Rattle.xen_netif.specs.Copy.{bytes_of};
+ghost use Rattle.std.specs.Prelude.{◌≡◌, ◌≤◌, ◌+◌, ◌++◌, [], ℕ, List, length};
 ghost use Rattle.xdp_program.specs.Tallies.{Went};
 ghost use Rattle.xen_host.specs.Ran.{RanFrom};
 
@@ -51,35 +50,6 @@ pub trait Room {
             counters.new) result.number (held self.new) result.ops };
 }
 
-/// Words as their bytes, each from its lowest byte on.
-#[derive(Drop)]
-struct WordBytes<'w> {
-    words: &'w [u32],
-}
-
-impl<'w> Fill<()> for WordBytes<'w> {
-    ghost fits = { λ w source count. count ≡ 4 * length w.words.now };
-
-    ghost fills = { λ w old bytes new. bytes ≡ bytes_of w.words.now };
-
-    #[inline(always)]
-    fn fill(&self, _source: &mut (), room: &mut [u8]) {
-        write_words(self.words, room)
-    }
-}
-
-/// Writes words as bytes, each from its lowest byte on.
-fn write_words(words: &[u32], room: &mut [u8])
-    requires { length room.old ≡ 4 * length words.now }
-    ensures bytes { room.new ≡ bytes_of words.now }
-    ensures length { length room.new ≡ length room.old }
-{
-    for number in 0..words.len() {
-        let at = 4 * number;
-        room[at..at + 4].copy_from_slice(&words[number].to_le_bytes());
-    }
-}
-
 /// Puts a packet into a room, in place of what it holds.
 #[inline(always)]
 pub(crate) fn hold<R: Room>(packet: &[u8], room: &mut R)
@@ -88,16 +58,4 @@ pub(crate) fn hold<R: Room>(packet: &[u8], room: &mut R)
 {
     room.clear();
     room.push_all(packet)
-}
-
-/// Puts whole words after a packet's bytes, each as its bytes from the lowest on.
-#[inline(always)]
-pub(crate) fn push_whole<R: Room>(words: &[u32], packet: &mut R)
-    requires { 0 < length words.now → length (R.held packet.old) + 4 * length words.now ≤ 65535 }
-    ensures { R.held packet.new ≡ R.held packet.old ++ bytes_of words.now }
-{
-    if words.is_empty() {
-        return;
-    }
-    packet.push_from(4 * words.len(), &WordBytes { words }, &mut ());
 }

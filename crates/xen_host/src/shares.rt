@@ -1,12 +1,14 @@
 //! What queues do with counters that they share.
 
 ghost use Rattle.std.specs.Prelude.{◌≡◌, ◌↔◌, IfErr, IfOk, IsSome, IsTrue, None, false, length};
+ghost use Rattle.xen_host.specs.LentWords.{lent_words};
 ghost use Rattle.xen_host.specs.Sharing.{HasPassed, IsPassFault, IsShareFault, SharesNow, StepsShared};
 ghost use Rattle.xen_host.specs.Queues.{wired_to};
 
 use crate::op::HostOp;
 use crate::queue::Queue;
 use crate::sharing::{Share, ShareFault, SharedCounters};
+use crate::words::LentWord;
 use xdp_program::Program;
 
 impl Queue {
@@ -69,10 +71,10 @@ impl Queue {
 
     /// As [`Queue::step`], with the counters that it shares.
     #[inline(always)]
-    pub fn step_shared(&mut self, words: &mut [u32], ops: &mut [HostOp]) -> usize
+    pub fn step_shared(&mut self, words: &mut [LentWord], ops: &mut [HostOp]) -> usize
         requires { IsSome self.old.share }
         ensures words { length words.new ≡ length words.old }
-        ensures steps { StepsShared self.old self.new words.old words.new ops.old ops.new result }
+        ensures steps { StepsShared self.old self.new (lent_words words.old) (lent_words words.new) ops.old ops.new result }
     {
         let Some(share) = self.share.take() else {
             unreachable!()

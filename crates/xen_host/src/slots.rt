@@ -104,7 +104,7 @@ fn place_all(
 
 impl Slots {
     ghost use Rattle.std.specs.Prelude.{◌≡◌, ◌≢◌, ◌≤◌, ◌<◌, ◌↔◌, ◌++◌, ◌∷◌, [], length, sum_by, IfOk, IfSome};
-    ghost use Rattle.std.specs.Prelude.{IsTrue, MatchResult, Ok, Err, OnErr, OnOk, Some, false};
+    ghost use Rattle.std.specs.Prelude.{IsTrue, MatchResult, Ok, Err, OnErr, OnOk, Some, false, slice_get};
     ghost use Rattle.xen_netif.specs.Chain.{extra_info, more_data, requests_of};
     ghost use Rattle.std.specs.List.{list_all};
     ghost use Rattle.xen_netif.specs.Fragments.{fragment_size, is_in_page};
@@ -234,20 +234,17 @@ impl Slots {
         }
     }
 
-    /// The request in each slot, in order, as [`Chain::requests`] gives them.
+    /// The request in the slot of this number, as [`Chain::request`] gives it.
     #[inline(always)]
-    pub fn requests(&self) -> ArrayVec<Option<TxReq>, 23>
-        ensures items { result.items ≡ requests_of self.now }
-        ensures len { length result.items ≡ length self.now }
+    #[tactic(auto, using(crate::proofs::ChainLemmas::request_alone))]
+    pub fn request(&self, number: usize) -> Option<TxReq>
+        requires { number < length self.now }
+        ensures { slice_get (requests_of self.now) number ≡ Some result }
     {
         match self.form {
-            SlotForm::Empty => ArrayVec::new(),
-            SlotForm::Single => {
-                let mut requests = ArrayVec::new();
-                requests.push(Some(TxReq::of_words(self.single)));
-                requests
-            }
-            SlotForm::Chained => self.chain.requests(),
+            SlotForm::Empty => unreachable!(),
+            SlotForm::Single => Some(TxReq::of_words(self.single)),
+            SlotForm::Chained => self.chain.request(number),
         }
     }
 }

@@ -6,7 +6,7 @@ use crate::bench::{counters, page, shipped};
 use bpf_lists::{KeyedRows, MapList};
 use bpf_note::{KeyKind, MapKey, MapShape};
 use std::alloc::Global;
-use xen_host::{HostOp, Lists, Queue, Relist};
+use xen_host::{HostOp, LentWord, Lists, Queue, Relist};
 
 /// Lists whose map 0 has a row with this key alone.
 fn listed(alloc: Global, key: &[u8]) -> Option<Lists> {
@@ -17,9 +17,14 @@ fn listed(alloc: Global, key: &[u8]) -> Option<Lists> {
 }
 
 /// Goes on with what is under way, with these words in front of the lent ones. The first op that is said.
-fn step(queue: &mut Queue, words: &mut [u32], counters: &mut [u64], front: [u32; 3]) -> HostOp {
+fn step(
+    queue: &mut Queue,
+    words: &mut [LentWord],
+    counters: &mut [u64],
+    front: [u32; 3],
+) -> HostOp {
     for (word, read) in words.iter_mut().zip(front) {
-        *word = read;
+        *word = read.to_le_bytes();
     }
     let mut ops = [NONE; 16];
     queue.step(words, counters, &mut ops);
@@ -27,7 +32,7 @@ fn step(queue: &mut Queue, words: &mut [u32], counters: &mut [u64], front: [u32;
 }
 
 /// The steps of a turn that has begun, with a packet of fourteen bytes. How many operations on counters it did.
-fn rest_of_turn(queue: &mut Queue, words: &mut [u32], counters: &mut [u64]) -> u32 {
+fn rest_of_turn(queue: &mut Queue, words: &mut [LentWord], counters: &mut [u64]) -> u32 {
     let [slot, entry, bytes, event] = READS;
     step(queue, words, counters, slot);
     step(queue, words, counters, entry);

@@ -11,7 +11,7 @@ use bpf_maps::{CounterSeat, Counters};
 use bpf_note::MapShape;
 use std::alloc::Global;
 use xen_back_tests::bench::seated;
-use xen_host::{HostOp, Queue};
+use xen_host::{HostOp, LentWord, Queue};
 
 /// The reads of a packet of fourteen bytes: its slot, its grant's entry, its page, and the event index.
 pub const READS: [[u32; 3]; 4] = [[2, 0, FOURTEEN], [1, 19, 0], [0, 0, 0], [0, 0, 0]];
@@ -39,7 +39,7 @@ pub const NONE: HostOp = HostOp {
 /// Goes on with what is under way, with these words in front of the lent ones. The first op that is said.
 fn step(
     queue: &mut Queue,
-    words: &mut [u32],
+    words: &mut [LentWord],
     counters: &Counters,
     seat: &mut CounterSeat,
     front: [u32; 3],
@@ -51,7 +51,7 @@ fn step(
     ensures seat { IsSeatOf counters.now seat.new }
 {
     for (word, read) in words.iter_mut().zip(front) {
-        *word = read;
+        *word = read.to_le_bytes();
     }
     let mut ops = [NONE; 16];
     queue.step_at_seat(words, counters, seat, &mut ops);
@@ -61,7 +61,7 @@ fn step(
 /// A whole turn, from index 0 on, with a packet of fourteen bytes. The op that ends it.
 fn whole_turn(
     queue: &mut Queue,
-    words: &mut [u32],
+    words: &mut [LentWord],
     counters: &Counters,
     seat: &mut CounterSeat,
 ) -> HostOp

@@ -1,33 +1,18 @@
-use Rattle.std.proofs.Common.{◌≡◌, ◌<◌, ◌+◌, drop, ◌++◌, ◌∷◌, [], length, length-set, take, ap, sym, ◌∙◌, arith, subst}
-use Rattle.std.proofs.lemmas.List.{drop-drop, drop-set-lt, take_more_set}
-use Rattle.xen_host.specs.Filling.{packet_words}
-use Rattle.xen_host.proofs.AskLemmas.{packet_words_more}
+use Rattle.std.proofs.Common.{◌≡◌, ◌+◌, ◌-◌, ◌/◌, length, take, drop, ap, ◌∙◌, arith}
+use Rattle.std.proofs.lemmas.List.{length-take}
+use Rattle.xen_host.specs.LentWords.{lent_words}
+use Rattle.xen_host.proofs.LentWordLemmas.{part_words, put_behind, put_front}
 use Rattle.xen_host.proofs.page_words.put_whole.Goals as goal
 
-pub loop-n-preserved : goal.loop-n-preserved
-loop-n-preserved c =
-    let i = c.loop-n.invariant in
-    let n = c.loop-n.n in
-    let lent = c.loop-n.words in
-    let v = c.whole_word.result in
-    let bytes = c.args.bytes.now in
-    let from = c.args.from in
-    let inside : n < length lent = omega (arith, i.width, c.requires.enough, c.loop-n-test.true) in
-    record {
-      width = length-set lent n v ∙ i.width;
-      rest = drop-set-lt (n + 1) lent n v (omega arith) ∙ sym (drop-drop 1 n lent) ∙ ap (λ l. drop 1 l) i.rest ∙ drop-drop 1 n c.args.words.now;
-      wrote = take_more_set lent n v inside
-          ∙ ap (λ l. l ++ v ∷ []) i.wrote
-          ∙ ap (λ x. packet_words bytes from n ++ x ∷ []) c.whole_word.ensures
-          ∙ sym (packet_words_more bytes from n);
-    }
+pub returns-clause-rest : goal.returns-clause-rest
+returns-clause-rest c = put_behind c.args.count c.copy_from_slice.new.self c.args.words.now (omega (arith, c.copy_from_slice.ensures.len, length-take c.args.count c.args.words.now, c.requires.enough))
 
 pub returns-clause-wrote : goal.returns-clause-wrote
 returns-clause-wrote c =
-    let end : c.loop-n.n ≡ c.args.count = omega (arith, c.loop-n-test.false, c.loop-n.auto.n-end) in
-    subst (λ m. take m c.loop-n.words ≡ packet_words c.args.bytes.now c.args.from m) end c.loop-n.invariant.wrote
-
-pub returns-clause-rest : goal.returns-clause-rest
-returns-clause-rest c =
-    let end : c.loop-n.n ≡ c.args.count = omega (arith, c.loop-n-test.false, c.loop-n.auto.n-end) in
-    subst (λ m. drop m c.loop-n.words ≡ drop m c.args.words.now) end c.loop-n.invariant.rest
+    let bytes = c.args.bytes.now in
+    let k = c.args.from in
+    let n = c.args.count in
+    let same : k + n - k ≡ n = omega arith in
+    put_front n c.copy_from_slice.new.self c.args.words.now (omega (arith, c.copy_from_slice.ensures.len, length-take c.args.count c.args.words.now, c.requires.enough))
+    ∙ ap lent_words (c.copy_from_slice.ensures.after ∙ ap (λ m. take m (drop k c.as_chunks.result.0.now)) same ∙ ap (λ l. take n (drop k l)) c.as_chunks.ensures.front)
+    ∙ part_words bytes k n (length bytes / 4) c.requires.inside (omega (arith, c.requires.inside))

@@ -1,6 +1,8 @@
 use Rattle.std.proofs.Common.{◌≤◌, length, arith}
 use Rattle.std.proofs.lemmas.Bool.Decides.{nat_tests}
+use Rattle.xen_host.specs.LentWords.{lent_words}
 use Rattle.xen_host.proofs.EngineLemmas.{busy_at}
+use Rattle.xen_host.proofs.LentWordLemmas.{lent_length}
 use Rattle.xen_host.proofs.QueueLemmas.{not_few}
 use Rattle.xen_host.proofs.queue.Queue.step.Goals as goal
 
@@ -11,12 +13,13 @@ pub returns-in_default : goal.returns-in_default
 returns-in_default c =
     let r = c.say_next in
     let q = c.args.self.now in
-    let long : 1024 ≤ length c.args.words.now = omega (arith, c.if-words-lt-PAGE_WORDS.false) in
+    let lent = lent_words c.args.words.now in
+    let long : 1024 ≤ length lent = omega (arith, lent_length c.args.words.now, c.if-words-lt-PAGE_WORDS.false) in
     let some : 1 ≤ length c.args.ops.now = grind (arith, nat_tests) in
     record {
       words = r.ensures.words;
       counters = r.ensures.counters;
       share = r.ensures.share;
       stepped = λ enough. r.ensures.stepped;
-      few = λ few. absurd (not_few q c.args.words.now c.args.counters.now c.args.ops.now long (omega (arith, c.if-counters.false, c.counters.ensures)) some (busy_at q.engine.state q.engine.stage c.in_default.not-Ready) few);
+      few = λ few. absurd (not_few q lent c.args.counters.now c.args.ops.now long (omega (arith, c.if-counters.false, c.counters.ensures)) some (busy_at q.engine.state q.engine.stage c.in_default.not-Ready) few);
     }

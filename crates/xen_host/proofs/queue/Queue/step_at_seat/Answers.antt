@@ -2,7 +2,9 @@ use Rattle.std.proofs.Common.{◌∙◌, ◌≤◌, List, length, ap, sym, arith
 use Rattle.std.proofs.lemmas.Bool.Decides.{nat_tests}
 use Rattle.bpf_maps.specs.Seats.{SeatView}
 use Rattle.bpf_note.specs.declared.op.Op.{Op}
+use Rattle.xen_host.specs.LentWords.{lent_words}
 use Rattle.xen_host.proofs.EngineLemmas.{busy_at}
+use Rattle.xen_host.proofs.LentWordLemmas.{lent_length}
 use Rattle.xen_host.proofs.QueueLemmas.{not_few_at_seat}
 use Rattle.xen_host.proofs.queue.Queue.step_at_seat.Goals as goal
 
@@ -14,13 +16,14 @@ returns-in_default c =
     let r = c.say_next_at_seat in
     let q = c.args.self.now in
     let before = c.args.seat.now in
-    let long : 1024 ≤ length c.args.words.now = omega (arith, c.if-words-lt-PAGE_WORDS.false) in
+    let lent = lent_words c.args.words.now in
+    let long : 1024 ≤ length lent = omega (arith, lent_length c.args.words.now, c.if-words-lt-PAGE_WORDS.false) in
     let some : 1 ≤ length c.args.ops.now = grind (arith, nat_tests) in
     let grown = r.ensures.stepped.history in
     record {
       words = r.ensures.words;
       stepped = λ enough. r.ensures.stepped;
-      few = λ few. absurd (not_few_at_seat q c.args.words.now c.args.ops.now long some (busy_at q.engine.state q.engine.stage c.in_default.not-Ready) few);
+      few = λ few. absurd (not_few_at_seat q lent c.args.ops.now long some (busy_at q.engine.state q.engine.stage c.in_default.not-Ready) few);
       wires = r.ensures.stepped.wires;
       share = r.ensures.share;
       same = grown ∙ ap (λ (l : List Op). record before { ops = l }) (sym (ap (λ (s : SeatView). s.ops) grown));
