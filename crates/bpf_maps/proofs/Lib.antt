@@ -6,7 +6,7 @@ mod GrowthLemmas
 mod JoinLemmas
 mod OpeningLemmas
 mod ClosingLemmas
-mod PairLemmas
+pub mod PairLemmas
 mod NumberLemmas
-mod ReturnLemmas
+pub mod ReturnLemmas
 pub mod EverySeatLemmas

@@ -22,6 +22,3 @@ pub use laws::counters_begin_with_zero;
 pub use layout::{place, total};
 pub use seat::CounterSeat;
 pub use totals::Totals;
-
-#[cfg(test)]
-mod tests;

@@ -11,8 +11,6 @@ pub mod layout;
 pub mod overflow;
 pub mod port;
 pub mod ports;
-#[cfg(test)]
-mod tests;
 
 pub use index::{RING_SIZE, due, place, unconsumed};
 pub use layout::{
