@@ -6,6 +6,8 @@
     calls     functions and helpers whose calls are written out
     helpers   instructions that do what a helper does
     tables    hash maps to which a program adds rows
+    many      arrays of more values than a map has rows
+    queues    queues and stacks
     stale     rows of these that are used after an update
     frames    how much of the stack a function uses
     absent    what isn't here, with Linux's answer where there is none of it either

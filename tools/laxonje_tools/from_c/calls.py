@@ -18,8 +18,12 @@ from .lines import (
     CALL, EXIT, JUMP, MOV_CONSTANT, SAVED, STACK_BYTES, Fault, Line, constant_in, lines_of, map_in, packed, put_all, read_later, set_in,
     stack_place_in, writes, written,
 )  # fmt: skip
+from .many import Many, many_of
+from .many import looked_up as looked_up_in_many
 from .one_queue import HOSTS, ONE_QUEUE
 from .own_device import sent_back
+from .queues import HELPERS as OF_QUEUES
+from .queues import PUSH, QUEUES, Queue, moved
 from .repeated import EACH, LOOP, NAMES, check_flags, for_each, repeated, with_kept
 from .sequences import answered, sequence_of
 from .stale import check_rows
@@ -48,7 +52,7 @@ OF_ITS_DEVICE = "bpf_check_mtu answers for the packet's own device, with an MTU 
 class Replaced(NamedTuple):
     """A function without such calls. `origins`: of each slot the one of the function as it was. `notes`: (slot, words). `maps`: the
     names of those that were added, each of one counter. `stack`: how many bytes of it are used, None if that isn't shown. `tables`:
-    the hash maps that are tables, by their names."""
+    the hash maps that are tables, by their names; `many`: the arrays whose values lie in several maps; `queues`: queues and stacks."""
 
     code: bytes
     relocations: list
@@ -57,6 +61,8 @@ class Replaced(NamedTuple):
     maps: list
     stack: Optional[int]
     tables: Mapping[str, Table] = {}
+    many: Mapping[str, Many] = {}
+    queues: Mapping[str, Queue] = {}
 
 
 class Inlined(NamedTuple):
@@ -96,8 +102,11 @@ class Calls:
         in_rows: bool = False,
     ) -> None:
         self.functions, self.relocations, self.absent, self.frames = functions, relocations, absent, frames
-        self.arrays = {name: row for name, row in maps.items() if not row.is_hash}
+        self.queues = {name: Queue(row.declared, row.parts) for name, row in maps.items() if row.declared.type in QUEUES}
+        self.arrays = {name: row for name, row in maps.items() if not row.is_hash and name not in self.queues}
         self.hashes, self.tables = {name: row for name, row in maps.items() if row.is_hash}, {}
+        found = {name: many_of(row.declared) for name, row in self.arrays.items()}
+        self.many = {name: row for name, row in found.items() if row is not None}
         self.looked_up, self.changed = {}, {}  # by the last line in the place of a call the table
         self.mtu, self.clock, self.in_rows, self.notes, self.sent_back, self.maps = mtu, clock, in_rows, [], set(), {}
         self.blank = set()  # words of the stack that a call may leave as they are, and that clang may load before it looks at the answer
@@ -113,7 +122,7 @@ class Calls:
             if line.row is not None and self.absent.has(line.row.name):
                 line.put(MOV_CONSTANT, line.destination, 0, 0, self.absent.flags_of(line.row.name))
         lines = [*(Line(packed(STORE_DOUBLE_CONSTANT, FRAME, 0, at), 0) for at in sorted(self.blank)), *lines]
-        return Replaced(*written(lines), sorted(set(self.notes)), list(self.maps), used if is_shown else None, self.tables)
+        return Replaced(*written(lines), sorted(set(self.notes)), list(self.maps), used if is_shown else None, self.tables, self.many, self.queues)
 
     def filled_by(self, function: Function) -> set[str]:
         """The hash maps to which a function adds rows, or those that it calls."""
@@ -137,7 +146,8 @@ class Calls:
 
     def is_known(self, lines: list[Line], call: Line) -> bool:
         """Whether the lines in front of a call say what it needs."""
-        needs_map = call.immediate in OF_ROWS and (self.tables or call.immediate != LOOKUP)
+        needs_map = call.immediate in OF_ROWS and (self.tables or self.many or call.immediate != LOOKUP)
+        needs_map = needs_map or call.immediate in OF_QUEUES
         needs_constant = call.immediate in (UPDATE, LOAD_BYTES, STORE_BYTES)
         return (not needs_map or map_in(lines, call, 1) is not None) and (not needs_constant or constant_in(lines, call, 4) is not None)
 
@@ -257,6 +267,10 @@ class Calls:
         constant, named = (partial(of, lines, line) for of in (constant_in, map_in))
         if number in OF_ROWS and self.tables and (named(1) is None or named(1) in self.tables):
             return self.of_table(line, named(1), constant(4), above)
+        if number in OF_QUEUES and named(1) in self.queues:
+            return self.of_queue(line, self.queues[named(1)], constant(3) if number == PUSH else None, above)
+        if number in (LOOKUP, UPDATE) and self.many and (named(1) is None or named(1) in self.many):
+            return self.of_many(line, named(1), above)
         answer = (SENT_BACK, TO_ITS_DEVICE) if line in self.sent_back else self.absent.answer(number, constant, named)
         if answer is not None:
             self.notes.append((line.origin, answer[1]))
@@ -292,6 +306,20 @@ class Calls:
             self.notes += [(line.origin, OF_ODD_SIZES)] if None in sizes else []
             return summed_of(line, *sizes)
         return [line]
+
+    def of_many(self, line: Line, name: Optional[str], above: int) -> list[Line]:
+        """What is in the place of a lookup in an array whose values lie in several maps."""
+        if name is None:
+            raise Fault(f"looks up in one map or another, and the values of {', '.join(self.many)} lie in several maps: look up in each branch")
+        if line.immediate == UPDATE:
+            raise Fault(f"calls bpf_map_update_elem of {name}, whose values lie in several maps: look one up, and store")
+        return looked_up_in_many(line, self.many[name], above)
+
+    def of_queue(self, line: Line, queue: Queue, flags: Optional[int], above: int) -> list[Line]:
+        """What a helper does with a queue or a stack."""
+        self.maps[ONE_QUEUE] = None
+        self.notes += [] if any(queue.note == words for _, words in self.notes) else [(line.origin, queue.note)]
+        return moved(line, line.immediate, queue, flags, above)
 
     def of_table(self, line: Line, name: Optional[str], flags: Optional[int], above: int) -> list[Line]:
         """What a helper does with a row of a hash map that is a table."""

@@ -1,6 +1,8 @@
 """clang, as it compiles a filter."""
 from __future__ import annotations
 
+import copy
+import functools
 import os
 import platform
 import re
@@ -49,6 +51,7 @@ KEPT_AS_IN_C = ["-indvars-predicate-loops=false", "-sink-common-insts=false"]
 # and store two numbers of a struct at once; and join two conditions to one; and take a number that is read as one of another type for
 # another number, as C allows
 STORED_APART, TESTED_APART, OF_ANY_TYPE = "-combiner-store-merging=false", "-simplifycfg-branch-fold-threshold=0", "-fno-strict-aliasing"
+IN_HALVES = "-mcpu=v3"  # arithmetic and jumps of 32 bits, which need no cut
 # of what clang says of stacks, a line for each function: where it stands, its name, and how many bytes it uses
 FRAME = re.compile(r":(?P<name>[^:\t\n]+)\t(?P<bytes>[0-9]+)\t", re.M)
 # a function `memcmp` of a file's own, as there is no library: behind a type or an attribute, and not in the condition of an `if`
@@ -80,9 +83,9 @@ def check_source(source: str) -> None:
 
 def compile_with(words: list[str], ours: list[str]) -> int:
     """clang's status. What it says goes to standard error, but for words of ours that it doesn't know."""
-    ours = [word for word in ours if not any(word.partition("=")[0] in given for given in words)]
+    ours = [word for word in ours if word == IN_HALVES or not any(word.partition("=")[0] in given for given in words)]
     while True:
-        more = [part for word in ours for part in ([word] if word.startswith("-f") else ["-mllvm", word])]
+        more = [part for word in ours for part in ([word] if word.startswith(("-f", "-mcpu")) else ["-mllvm", word])]
         run = subprocess.run([*words, *more], stderr=subprocess.PIPE, check=False)
         unknown = {name.decode() for name in UNKNOWN_WORD.findall(run.stderr)} & set(ours)
         if not run.returncode or not unknown:
@@ -102,7 +105,7 @@ class Compiler:
             fail(f"{self.clang} isn't on the PATH: install it (Debian: apt install clang), or name one, as CLANG=clang-19")
         check_source(source)
         self.words = [*flags(), "-x", "c", os.path.join(".", source) if source.startswith("-") else source]
-        self.room = tempfile.TemporaryDirectory()  # it is there as long as this is
+        self.room = self.of_header = tempfile.TemporaryDirectory()  # it is there as long as this is
         self.header = os.path.join(self.room.name, "inlined.h")
         with open(self.header, "w", encoding="utf-8") as file:
             file.write(INLINED if self.defines_memcmp() else INLINED + MEMCMP)
@@ -111,7 +114,11 @@ class Compiler:
 
     def with_word(self, word: str) -> Optional[Compiler]:
         """The same with one more of these words; None if this has it."""
-        return None if word in self.ours else Compiler(self.source, [*self.ours, word])
+        if word in self.ours:
+            return None
+        other = copy.copy(self)
+        other.ours, other.room = [*self.ours, word], tempfile.TemporaryDirectory()
+        return other
 
     def target(self) -> list[str]:
         """For which machine it compiles, and how well."""
@@ -142,6 +149,7 @@ class Compiler:
         with open(os.path.join(self.room.name, "program.su"), encoding="utf-8", errors="backslashreplace") as file:
             return {row["name"]: int(row["bytes"]) for row in FRAME.finditer(file.read())}
 
+    @functools.cached_property
     def declared(self) -> dict[str, int]:
         """Where each variable is declared among the others of the file, by the name that its symbol has."""
         words = [self.clang, *self.target(), *self.words, "-w", "-fsyntax-only", "-Xclang", "-ast-dump"]

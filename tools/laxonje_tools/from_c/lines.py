@@ -11,7 +11,7 @@ if TYPE_CHECKING:
     from .elf import Relocation
 
 CALL, EXIT, JUMP, FAR_JUMP, WIDE = 0x85, 0x95, 0x05, 0x06, 0x18
-SAVED = 6, 7, 8, 9  # registers that a function leaves as they were
+CHANGED, SAVED = (0, 1, 2, 3, 4, 5), (6, 7, 8, 9)  # registers that a call changes, and those that a function leaves as they were
 STACK_BYTES = 512
 FRAME, MOVE_REGISTER, ADD_CONSTANT = 10, 0xBF, 0x07
 MOVE, MOV_CONSTANT, MOV_CONSTANT_32 = 0xB, 0xB7, 0xB4  # the first: of an arithmetic opcode's upper four bits
@@ -85,14 +85,19 @@ def lines_of(code: bytes, relocations: list[Relocation]) -> list[Line]:
     return list(by_slot.values())
 
 
+def written_by(line: Line) -> tuple[int, ...]:
+    """The registers that a line may change."""
+    opcode = line.opcode
+    if opcode == CALL:
+        return CHANGED
+    if opcode & 7 in (0, 1, 4, 7):
+        return (line.destination,)
+    return (line.source,) if opcode & 7 == 3 and opcode >> 5 == 6 else ()
+
+
 def writes(line: Line, register: int) -> bool:
     """Whether a line may change a register."""
-    kind = line.opcode & 7
-    if line.opcode == CALL:
-        return register < 6
-    if kind in (0, 1, 4, 7):
-        return line.destination == register
-    return kind == 3 and line.opcode >> 5 == 6 and line.source == register
+    return register in written_by(line)
 
 
 def set_in(lines: list[Line], line: Line, register: int) -> Optional[Line]:

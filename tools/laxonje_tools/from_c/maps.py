@@ -15,6 +15,8 @@ if TYPE_CHECKING:
     from .elf import Part
     from .layouts import Layout
     from .large import InRows
+    from .many import Many
+    from .queues import Queue
     from .program import Asked
     from .tables import Table
 
@@ -54,20 +56,25 @@ def maps_of(
     compiler: Optional[Compiler],
     large: Optional[InRows] = None,
     tables: Mapping[str, Table] = {},
+    many: Mapping[str, Many] = {},
+    queues: Mapping[str, Queue] = {},
 ) -> tuple[list[Map], list[MapOfC]]:
     """The maps: those of the command line, those that are declared, and globals, the latter two in the order in which
     the file declares them; and what is declared of the second. `named`: maps that the function names. Other arrays are
     there if it is the one function of the file, and if settings can have them. `large`: which have their values in rows; `tables`: to which
-    the program adds rows."""
+    the program adds rows; `many`: whose values lie in several maps; `queues`: queues and
+    stacks."""
     source, said = asked.source, {name: (entries, counters) for name, entries, counters in asked.maps}
     as_declared = list(declared_in(asked, sections, named | set(said)))
     begun = {**dict(asked.lists), **dict(asked.beginnings)}
     stop_on(f"{source}: the program adds rows to {name} itself, and so it begins empty" for name in sorted(begun.keys() & tables.keys()))
     as_declared = [tables[row.name].as_array(btf.Number) if row.name in tables else row for row in as_declared]
+    as_declared = [queues[row.name].as_array() if row.name in queues else row for row in as_declared]
+    as_declared = [part for row in as_declared for part in (many[row.name].arrays if row.name in many else [row])]
     declared = as_declared if large is None else [large.declared(row) for row in as_declared]
     stop_on(f"{source}: {fault}" for row in declared for fault in faults.faults_of_map(row))
     if compiler is not None and len(declared) + len(of_globals) > 1:
-        order = order_by(compiler.declared())
+        order = order_by(compiler.declared)
         declared, of_globals = (sorted(rows, key=lambda row: order(row[0])) for rows in (declared, of_globals))
     by_name = {row.name: map_of(row) for row in declared}
     worded = [by_name.get(name, Map(name, entries, 1)) for name, (entries, _) in said.items()]

@@ -7,7 +7,7 @@ from __future__ import annotations
 
 from typing import TYPE_CHECKING, AbstractSet, Callable, NamedTuple, Optional, Union
 
-from .lines import CALL, FAR_JUMP, JUMP, WIDE, Fault, following_in, writes
+from .lines import CALL, FAR_JUMP, JUMP, WIDE, Fault, following_in, written_by
 
 if TYPE_CHECKING:
     from .elf import Relocation
@@ -124,7 +124,9 @@ class Places:
 
     def behind(self, line: Line, held: Held) -> Held:
         """What is held behind a line."""
-        kind, out = line.opcode & 7, {key: thing for key, thing in held.items() if isinstance(key, tuple) or not writes(line, key)}
+        kind, out = line.opcode & 7, dict(held)
+        for register in written_by(line):
+            out.pop(register, None)
         if line.opcode == CALL:
             self.put(out, ANSWER, self.answer(line, held))
         elif line.opcode == WIDE:

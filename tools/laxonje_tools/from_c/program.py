@@ -15,8 +15,10 @@ from .frames import stack_of
 from .kernel import faults_of_kernel
 from .large import large_values
 from .lines import STACK_BYTES, packed
+from .many import many_of
 from .maps import SizedMap, maps_of, notes_of, settings_of
 from .memory import COUNTER_BYTES, faults_of_memory, memory_of
+from .queues import QUEUES
 from .tables import HASHES
 from .turned import sums_turned
 from .values import SIZES, Constant, set_values, values_of
@@ -209,9 +211,10 @@ def with_rows(given: Given, is_again: bool) -> Optional[Filter]:
     place, relocations = (lambda slot, before=place: before(made.origins[slot])), made.relocations
     memory = memory_of(sections, relocations, stored_to(made.code, relocations))
     named = {row.name for row in relocations}
-    added = [*((name, 1, 1) for name in made.maps), *(row for table in made.tables.values() for row in table.maps)]
+    queues = {name: row for name, row in made.queues.items() if name in {row.name for row in made.relocations}}
+    added = [*((name, 1, 1) for name in made.maps), *(row for table in [*made.tables.values(), *queues.values()] for row in table.maps)]
     of_rows = [] if large is None else large.maps
-    maps, declared = maps_of(asked, sections, [*memory.maps, *of_rows, *added], named, compiler, large, made.tables)
+    maps, declared = maps_of(asked, sections, [*memory.maps, *of_rows, *added], named, compiler, large, made.tables, made.many, queues)
     notes += notes_of(declared)
     begun = {**memory.beginnings, **({} if large is None else large.globals)}
     maps = [row if row.values else row._replace(values=begun.get(row.name, ())) for row in maps]
@@ -232,7 +235,7 @@ def with_rows(given: Given, is_again: bool) -> Optional[Filter]:
         "stack": made.stack,
         "laid": [] if large is None else large.comments(sections),
         "alone": sorted(made.tables),
-        "filled": [*(table.comment for table in made.tables.values()), *sequences.comments_of(made.maps), *one_queue.comments_of(made.maps)],
+        "filled": [*(table.comment for table in [*made.tables.values(), *made.many.values(), *queues.values()]), *sequences.comments_of(made.maps), *one_queue.comments_of(made.maps)],
     }
     per_cpu = {row.name for row in declared if row.type in faults.PER_CPU}
     narrow = {row.name for row in declared if row.has_parts} | (set() if large is None else large.narrow)
@@ -251,11 +254,12 @@ def without_calls(asked: Asked, sections: dict[str, Part], function: Function, c
 def calls_written(asked: Asked, sections: dict[str, Part], function: Function, frames: Optional[Mapping[str, int]], in_rows: bool) -> Replaced:
     """The same without zeros on its stack. `frames`: of functions how much of the stack each uses."""
     relocations, found = list(elf.relocations_of(sections, function)), Absent(asked.left_out, kinds_of(btf.maps_in(sections)))
-    if next(has_calls(function.code), None) is None and not any(found.has(row.name) for row in relocations):
-        return Replaced(function.code, relocations, range(len(function.code) // 8), [], [], stack_of(function.code, function.name, frames))
     entries = {**dict(asked.entries), **{name: number for name, number, _ in asked.maps}}
     declared = [row._replace(entries=entries.get(row.name, row.entries)) for row in btf.maps_in(sections)]
-    declared = [row for row in declared if row.type in (*faults.ARRAYS, *HASHES)]
+    declared = [row for row in declared if row.type in (*faults.ARRAYS, *HASHES, *QUEUES)]
+    has_many = any(row.type in faults.ARRAYS and many_of(row) is not None for row in declared)
+    if not has_many and next(has_calls(function.code), None) is None and not any(found.has(row.name) for row in relocations):
+        return Replaced(function.code, relocations, range(len(function.code) // 8), [], [], stack_of(function.code, function.name, frames))
     maps = {row.name: Array(parts_of_value(row), row.entries, row) for row in declared}
     functions = list(elf.functions_of(sections))
     return Calls(functions, lambda of: relocations_in(sections, of), found, maps, frames, asked.mtu, asked.clock, in_rows).replaced(function)

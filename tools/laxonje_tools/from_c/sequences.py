@@ -8,11 +8,11 @@ from __future__ import annotations
 from typing import NamedTuple, Optional
 
 from .elf import MAP_ADDRESS, SLOT_BYTES, Relocation
-from .lines import CALL, JUMP, STACK_BYTES, WIDE, Fault, Line, packed
+from .lines import CALL, EXIT, STACK_BYTES, WIDE, Fault, Line, packed
 
 LOOKUP, DOUBLE = 1, 8
 ANSWER, FIRST, SECOND, FRAME = 0, 1, 2, 10  # registers
-MOV_64, MOV_CONSTANT, ADD_CONSTANT, DIV_CONSTANT, RSH_CONSTANT, MUL, XOR, IF_EQUAL_CONSTANT = 0xBF, 0xB7, 0x07, 0x37, 0x77, 0x2F, 0xAF, 0x15
+MOV_64, MOV_CONSTANT, ADD_CONSTANT, DIV_CONSTANT, RSH_CONSTANT, MUL, XOR, IF_NOT_CONSTANT = 0xBF, 0xB7, 0x07, 0x37, 0x77, 0x2F, 0xAF, 0x55
 STORE_DOUBLE, LOAD_DOUBLE, ADD_ATOMICALLY = 0x7B, 0x79, 0xDB
 JIFFIES, JIFFY = 118, 4_000_000  # the latter: nanoseconds, of Debian's CONFIG_HZ of 250
 CLOCKS = {
@@ -68,20 +68,22 @@ def comments_of(maps: list[str]) -> list[str]:
 
 
 def answered(line: Line, row: Sequence, above: int) -> list[Line]:
-    """The lines in the place of a call. The map's index is kept below what is in use of the stack, `above`."""
+    """The lines in the place of a call. The map's index is kept below what is in use of the stack, `above`. If there were no counter, which
+    there is, the function would end: no way of the program goes on without the number."""
     place = -(above + DOUBLE)
     if -place > STACK_BYTES:
         raise Fault(f"calls {row.map} with more than {STACK_BYTES - DOUBLE} bytes of the stack in use")
     begin = [(STORE_DOUBLE, FRAME, SECOND, place), (MOV_64, SECOND, FRAME), (ADD_CONSTANT, SECOND, 0, 0, place)]
     added = [(MOV_CONSTANT, FIRST, 0, 0, row.step), (ADD_ATOMICALLY, ANSWER, FIRST)] if row.step else []
     address = Line(packed(WIDE, FIRST) + bytes(SLOT_BYTES), line.origin, Relocation(0, MAP_ADDRESS, row.map, 0))
-    call, is_none, end = (Line(packed(*fields), line.origin) for fields in ((CALL, 0, 0, 0, LOOKUP), (IF_EQUAL_CONSTANT,), (JUMP,)))
-    is_none.target = end
+    found = (CALL, 0, 0, 0, LOOKUP), (IF_NOT_CONSTANT,), (MOV_CONSTANT, ANSWER), (EXIT,)
+    call, is_there, *stop = (Line(packed(*fields), line.origin) for fields in found)
     line.put(MOV_CONSTANT, SECOND)
     added += [(LOAD_DOUBLE, ANSWER, ANSWER), *([(DIV_CONSTANT, ANSWER, 0, 0, row.divisor)] if row.divisor > 1 else [])]
     rest = [Line(packed(*fields), line.origin) for fields in added]
-    mixed = mixed_lines(line.origin) if row.is_mixed else []
-    return [line, *(Line(packed(*fields), line.origin) for fields in begin), address, call, is_none, *rest, *mixed, end]
+    rest += mixed_lines(line.origin) if row.is_mixed else []
+    is_there.target = rest[0]
+    return [line, *(Line(packed(*fields), line.origin) for fields in begin), address, call, is_there, *stop, *rest]
 
 
 def mixed_lines(origin: int) -> list[Line]:

@@ -4,7 +4,7 @@ from __future__ import annotations
 import heapq
 from typing import TYPE_CHECKING, AbstractSet, Callable, Iterator, Optional, Union
 
-from .lines import CALL, EXIT, FAR_JUMP, JUMP, Line, lines_of, packed, reads, writes, written
+from .lines import CALL, EXIT, FAR_JUMP, JUMP, Line, following_in, lines_of, packed, reads, writes, written
 from .places import ANSWER, IF_EQUAL_CONSTANT, IF_NOT_CONSTANT, LOAD_DOUBLE, STORE_DOUBLE, InValue, OnStack, Places
 
 if TYPE_CHECKING:
@@ -82,15 +82,14 @@ def is_none_behind(line: Line, after: Line) -> bool:
 
 def read_later(lines: list[Line], places: Places) -> dict[Line, frozenset[Place]]:
     """Of each line the registers and the places on the stack that may be read there or behind it, and before they are written."""
-    after = dict(zip(lines, lines[1:]))
+    following, read = following_in(lines), {line: frozenset(read_by(line, places)) for line in lines}
     later: dict[Line, frozenset[Place]] = {line: frozenset() for line in lines}
     changes = True
     while changes:
         changes = False
         for line in reversed(lines):
-            ways = [line.target, after.get(line) if line.opcode not in (EXIT, FAR_JUMP) and not (line.opcode == JUMP and line.target) else None]
-            behind = frozenset().union(*(later[way] for way in ways if way is not None))
-            found = frozenset(place for place in behind if not is_written(line, place, places)) | frozenset(read_by(line, places))
+            behind = frozenset().union(*(later[way] for way in following[line])) - read[line]
+            found = read[line] | {place for place in behind if not is_written(line, place, places)}
             changes |= found != later[line]
             later[line] = found
     return later

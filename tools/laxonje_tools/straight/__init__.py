@@ -20,6 +20,7 @@ verifier judges the result, and `xdpbox same`, which is proved, shows that it is
     emit          the copies, and what is put between them, as a program
     verifier      what `xdpbox explain` says of a program
     marks         what a search has found out
+    few           numbers that are made of constants alone
     sources       where an access's address comes from
     of_values     what a search marks of accesses in maps' values
     search        from refusal to refusal until the verifier accepts

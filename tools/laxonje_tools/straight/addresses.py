@@ -8,7 +8,7 @@ from __future__ import annotations
 
 from enum import Enum
 from math import gcd
-from typing import TYPE_CHECKING, AbstractSet, Callable, NamedTuple, Optional, Union
+from typing import TYPE_CHECKING, AbstractSet, NamedTuple, Optional, Union
 
 from .constants import FRAME as FRAME_ADDRESS
 from .constants import is_address, is_number
@@ -19,7 +19,9 @@ from .instructions import (
     AND,
     CALL,
     CONTEXT_ARGUMENT,
+    EXIT,
     FRAME_POINTER,
+    JUMP,
     LOAD_DOUBLE,
     LOAD_WORD,
     LSH,
@@ -31,6 +33,7 @@ from .instructions import (
     WIDE_LOAD,
     signed,
 )
+from .remembered import remembered
 
 if TYPE_CHECKING:
     from .constants import Constant
@@ -120,21 +123,21 @@ def number_of(operation: int, a: int, b: int, constant: Optional[Constant]) -> U
     return Thing.NUMBER
 
 
+def is_marked(meetings: AbstractSet[tuple], here: Copy, place: Place) -> bool:
+    """Whether a meeting is among those that are marked, by copy or by slot."""
+    kept = place if isinstance(place, StackSlot) else None
+    return (here.key, kept) in meetings or (here.slot, kept) in meetings
+
+
 class Addresses:
-    """`marked(copy, place)`: whether an address on which ways disagree is made anew where they meet at this copy.
-    `restarted(copy, place)`: whether one is made anew there all the same.
+    """`meetings`: where an address on which ways disagree is made anew. `restarts`: (key of a copy, place) where one is made anew all the same.
 
     before  of each copy, what each place stands for
     remade  of each copy, the places that are made anew
     stored  of each way (copy, way), the distances that are stored on it: (atom, address)"""
 
-    def __init__(
-        self,
-        copies: Copies,
-        marked: Callable[[Copy, Place], bool],
-        restarted: Callable[[Copy, Place], bool] = lambda copy, place: False,
-    ) -> None:
-        self.elsewhere, self.marked, self.restarted = copies.elsewhere, marked, restarted
+    def __init__(self, copies: Copies, meetings: AbstractSet[tuple], restarts: AbstractSet[tuple]) -> None:
+        self.elsewhere, self.meetings, self.restarts = copies.elsewhere, meetings, restarts
         self.before, self.remade, self.stored, after = {}, {}, {}, {}
         for here in copies.order:
             if here is copies.first:
@@ -142,37 +145,34 @@ class Addresses:
             else:
                 ways = [(before, way, after[before]) for before, way in here.before]
                 places = self.meet(here, ways, copies.wanted[here])
-            self.before[here], after[here] = places, dict(places)
-            if here.is_instruction:
-                self.step(here, copies.code[here.slot], after[here])
+            self.before[here] = places
+            after[here] = self.behind(here, copies.code[here.slot], places) if here.is_instruction else places
 
-    def meet(self, here: Copy, ways: list, live: AbstractSet[int]) -> dict:
-        """What the places stand for where ways meet."""
-        passed = self.passed(here, ways[0][2], live) if len(ways) == 1 else None
-        if passed is not None:
+    def meet(self, here: Copy, ways: list, wanted: AbstractSet[int]) -> dict:
+        """What the places stand for where ways meet. `wanted`: the registers that matter there."""
+        passed = passed_on(ways[0][2], wanted) if len(ways) == 1 else None
+        if passed is not None and not self.is_anew(here, passed):
             return passed
         known_by_way = [known for _, _, known in ways]
         on_stack = sorted(place for place in known_by_way[0] if isinstance(place, StackSlot))
         places, leaders = {}, []
-        for place in [*sorted(live | {FRAME_POINTER}), *on_stack]:  # an address on the stack may be made from one in a register
+        for place in [*sorted(wanted), *on_stack]:  # an address on the stack may be made from one in a register
             there = [known.get(place, Thing.NUMBER) for known in known_by_way]
-            again = isinstance(there[0], PacketAddress) and self.restarted(here, place)
+            again = isinstance(there[0], PacketAddress) and (here.key, place) in self.restarts
             if there.count(there[0]) == len(there) and not again:
                 places[place] = there[0]
             elif not all(isinstance(known, PacketAddress) for known in there):
                 places[place] = met_without_packet(there)
-            elif again or self.marked(here, place):
+            elif again or is_marked(self.meetings, here, place):
                 self.remake(here, place, there, ways, places, leaders)
             else:
                 places[place] = PacketAddress().moved(atom=Atom(MET, here, place))
         return places
 
-    def passed(self, here: Copy, known: dict, live: AbstractSet[int]) -> Optional[dict]:
-        """The same behind one way alone; None if an address is made anew there."""
-        places = {place: known.get(place, Thing.NUMBER) for place in (*live, FRAME_POINTER)}
-        places.update((place, there) for place, there in known.items() if isinstance(place, StackSlot))
-        is_anew = any(isinstance(there, PacketAddress) and self.restarted(here, place) for place, there in places.items())
-        return None if is_anew else places
+    def is_anew(self, here: Copy, places: dict) -> bool:
+        """Whether an address is made anew at a copy to which one way leads."""
+        rows = places.items() if self.restarts else ()
+        return any(isinstance(there, PacketAddress) and (here.key, place) in self.restarts for place, there in rows)
 
     def remake(self, here: Copy, place: Place, there: list, ways: list, places: dict, leaders: list) -> None:
         """One that has the same distance from another on all ways follows that one."""
@@ -191,8 +191,11 @@ class Addresses:
         for (before, way, _), address in zip(ways, there):
             self.stored.setdefault((before, way), []).append((atom, address))
 
-    def step(self, here: Copy, instruction: Instruction, places: dict) -> None:
+    def behind(self, here: Copy, instruction: Instruction, before: dict) -> dict:
         """What an instruction makes of the places."""
+        if instruction.is_branch or instruction.opcode in (JUMP, EXIT):
+            return before
+        places = dict(before)
         if instruction.is_arithmetic:
             places[instruction.destination] = self.result(here, instruction, places)
         elif instruction.is_load:
@@ -205,6 +208,7 @@ class Addresses:
             for register in range(1, 6):
                 places.pop(register, None)
             places[0] = Thing.VALUE
+        return places
 
     def named(self, wide: Instruction) -> Thing:
         """What a wide load gives."""
@@ -254,3 +258,21 @@ class Addresses:
                 del places[place]
         if store.fetches:
             places[store.source] = Thing.NUMBER
+
+
+def passed_on(known: dict, wanted: AbstractSet[int]) -> dict:
+    """What is known of the stack, and of the wanted registers, of which a new one is a number."""
+    gone = [place for place in known if place not in wanted and not isinstance(place, StackSlot)]
+    fresh = wanted - known.keys()
+    if not gone and not fresh:
+        return known
+    places = {**known, **dict.fromkeys(fresh, Thing.NUMBER)}
+    for place in gone:
+        del places[place]
+    return places
+
+
+@remembered
+def addresses_of(copies: Copies, meetings: AbstractSet[tuple], restarts: AbstractSet[tuple]) -> Addresses:
+    """The addresses in a graph of copies with these marks."""
+    return Addresses(copies, meetings, restarts)

@@ -10,7 +10,7 @@ Two marks put tests of our own in front of an addition, if the verifier would lo
 from __future__ import annotations
 
 from dataclasses import dataclass, field
-from typing import TYPE_CHECKING, AbstractSet, NamedTuple, Optional
+from typing import TYPE_CHECKING, AbstractSet, NamedTuple
 
 from .constants import FAR, Address, Constants, is_number
 from .counters import counters
@@ -24,7 +24,7 @@ if TYPE_CHECKING:
     from .instructions import Code
     from .marks import MarksOfCopies
 
-MOST_COPIES, MADE = 6000, []  # the latter: the last graphs with which a search began
+MOST_COPIES, MADE = 6000, []  # the latter: the last graphs
 MOST_DISTANCE = 65535  # of an address in a packet from its start
 # which numbers are told apart: those that steer a loop or make an address, in slots from which a loop can be reached;
 # those that count a loop's steps; all in slots from which a loop can be reached; all
@@ -250,12 +250,13 @@ class Copies:
 
 
 def wanted_registers(copies: Copies) -> dict[Copy, AbstractSet[int]]:
-    """Of each copy the registers whose numbers matter before it: an access, a jump, a call or the end reads them, or what is made of them."""
+    """Of each copy the registers whose numbers matter before it: an access, a jump, a call or the end reads them, or what is made of them;
+    and the frame pointer."""
     before = {}
     for here in reversed(copies.order):
         after = frozenset().union(*(before[copy] for _, copy in here.ways))
         before[here] = after if here.phase == OUTSIDE else wanted_before(copies, here, after)
-    return before
+    return {here: wanted | {FRAME_POINTER} for here, wanted in before.items()}
 
 
 def wanted_before(copies: Copies, here: Copy, after: AbstractSet[int]) -> AbstractSet[int]:
@@ -269,13 +270,9 @@ def wanted_before(copies: Copies, here: Copy, after: AbstractSet[int]) -> Abstra
     return after if is_idle else reads(insn) | after - writes(insn)
 
 
-def copies_of(code: Code, numbers: str, marks: MarksOfCopies, last: Optional[Copies]) -> Copies:
-    """The graph of copies: the last one of a search, or the first of another one, if the program and these marks are what they were."""
-    for other in [*([] if last is None else [last]), *MADE]:
-        if other.code is code and (other.numbers, other.marks) == (numbers, marks):
-            return other
-    made = Copies(code, numbers, marks)
-    if last is None:
-        MADE.insert(0, made)
-        del MADE[MOST_KEPT:]
+def copies_of(code: Code, numbers: str, marks: MarksOfCopies) -> Copies:
+    """The graph of copies: one of the last, of this search or of another one, if the program and these marks are what they were."""
+    same = (other for other in MADE if other.code is code and (other.numbers, other.marks) == (numbers, marks))
+    made = next(same, None) or Copies(code, numbers, marks)
+    MADE[:] = [made, *(other for other in MADE if other is not made)][:MOST_KEPT]
     return made

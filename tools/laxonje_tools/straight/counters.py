@@ -4,10 +4,11 @@ A counter is what a jump in a loop compares, if all that it is made of are const
 additions of constants in it. It bounds the loop if each way around passes one of these additions."""
 from __future__ import annotations
 
-from typing import TYPE_CHECKING, AbstractSet, Callable, Iterable, NamedTuple, Optional
+from typing import TYPE_CHECKING, AbstractSet, NamedTuple, Optional
 
-from .graph import Fail, predecessors, successors
+from .graph import Fail, following, predecessors
 from .instructions import ADD, FRAME_POINTER, LOAD_DOUBLE, STORE_DOUBLE, STORE_DOUBLE_CONSTANT, SUB, reads, writes
+from .remembered import remembered
 
 if TYPE_CHECKING:
     from .instructions import Code, Instruction
@@ -23,6 +24,7 @@ class Counter(NamedTuple):
     steps: set
 
 
+@remembered
 def counters(code: Code) -> dict[int, set]:
     """Before each slot the registers and the places of the stack whose numbers have to be told apart."""
     before, needed = predecessors(code), {slot: set() for slot in code}
@@ -96,26 +98,26 @@ def stored(instruction: Instruction, place: tuple[str, int]) -> Optional[set]:
 
 def strong_parts(code: Code, slots: AbstractSet[int]) -> list[set[int]]:
     """The parts of these slots in which each can be reached from each, but for one slot without a jump to itself."""
-    left, parts = set(slots), []
+    left, parts, forwards = set(slots), [], following(code)
     backwards = {slot: [] for slot in slots}
     for slot in slots:
-        for after in successors(code, slot):
+        for after in forwards[slot]:
             if after in slots:
                 backwards[after].append(slot)
     while left:
         first = min(left)
-        ahead = reached(first, left, lambda slot: successors(code, slot))
-        part = ahead & reached(first, left, lambda slot: backwards[slot])
+        part = reached(first, left, forwards) & reached(first, left, backwards)
         left -= part
-        if len(part) > 1 or first in successors(code, first):
+        if len(part) > 1 or first in forwards[first]:
             parts.append(part)
     return parts
 
 
-def reached(first: int, slots: AbstractSet[int], following: Callable[[int], Iterable[int]]) -> set[int]:
+def reached(first: int, slots: AbstractSet[int], ways: dict[int, list[int]]) -> set[int]:
+    """What of these slots can be reached from the first one."""
     seen, todo = {first}, [first]
     while todo:
-        fresh = [after for after in following(todo.pop()) if after in slots and after not in seen]
+        fresh = [after for after in ways[todo.pop()] if after in slots and after not in seen]
         seen.update(fresh)
         todo += fresh
     return seen

@@ -7,7 +7,7 @@ from __future__ import annotations
 
 from typing import TYPE_CHECKING, NamedTuple, Optional
 
-from .graph import live_registers, predecessors, successors
+from .graph import following, live_registers, predecessors
 from .instructions import (
     ADD_CONSTANT,
     ADD_REGISTER,
@@ -21,6 +21,7 @@ from .instructions import (
     writes,
 )
 from .kinds import VALUE, kinds_before
+from .remembered import remembered
 
 if TYPE_CHECKING:
     from .instructions import Code
@@ -35,21 +36,27 @@ def fused(code: Code, store: int) -> Optional[Code]:
         return None
     if counted & live_registers(code)[store + 1]:
         return None
-    mended = dict(code)
-    mended[load] = Instruction(MOVE_CONSTANT, code[load].destination)
-    mended[store] = Instruction(ATOMIC_DOUBLE, put.destination, put.source, put.offset)
-    return mended
+    return with_addition(code, load, store)
+
+
+@remembered
+def with_addition(code: Code, load: int, store: int) -> Code:
+    """The same with 0 in the place of the load, and an addition in that of the store."""
+    put = code[store]
+    added = Instruction(ATOMIC_DOUBLE, put.destination, put.source, put.offset)
+    return {**code, load: Instruction(MOVE_CONSTANT, code[load].destination), store: added}
+
+
+@remembered
+def jumped_to(code: Code) -> set[int]:
+    """The slots to which jumps lead."""
+    rows = ((before, after) for before, ways in following(code).items() for after in ways)
+    return {after for before, after in rows if code[before].is_branch or after != before + code[before].slots}
 
 
 def load_before(code: Code, store: int) -> Optional[int]:
     """The slot of the load of the same counter, on the one way to the store, after which nothing has an effect."""
-    put, slot = code[store], store
-    targets = {
-        after
-        for before in code
-        for after in successors(code, before)
-        if code[before].is_branch or after != before + code[before].slots
-    }
+    put, slot, targets = code[store], store, jumped_to(code)
     while slot - 1 in code and slot not in targets:
         slot -= 1
         instruction = code[slot]

@@ -6,6 +6,7 @@ from __future__ import annotations
 
 from typing import TYPE_CHECKING, Optional
 
+from .few import Few
 from .graph import following
 from .instructions import (
     ADD,
@@ -19,6 +20,7 @@ from .instructions import (
     STORE_DOUBLE,
     SUB,
     WIDE_LOAD,
+    signed,
     writes,
 )
 from .remembered import remembered
@@ -27,17 +29,19 @@ if TYPE_CHECKING:
     from .instructions import Code, Instruction
 
 CONTEXT, FRAME, PACKET, VALUE, ZERO, CONSTANT = "context", "frame", "packet", "value", "zero", "constant"
+AMONG = "among"  # one of a few places of the stack
 START_FIELDS = (0, 8)  # of the context: data and data_meta
 
 
 class Kinds(dict):
     """What address registers hold, and the stack's slots by ("stack", offset): its kind; and for one of the
-    stack the distance from the frame's end, for a map's value who gave it and the distance, or None. Who gave it is the
-    slot of a lookup, or of an addition of an index. `zeros`: whether registers that are 0 have a kind."""
+    stack the distance from the frame's end, or the least and the greatest one, for a map's value who gave it and the distance, or None. Who
+    gave it is the slot of a lookup, or of an addition of an index. `zeros`: whether registers that are 0 have a kind; `few`: what registers can
+    have."""
 
-    def __init__(self, rows: dict, zeros: bool) -> None:
+    def __init__(self, rows: dict, zeros: bool, few: Few) -> None:
         super().__init__(rows)
-        self.zeros = zeros
+        self.zeros, self.few = zeros, few
 
     def stack_offset(self, access: Instruction) -> Optional[int]:
         kind, offset = self.get(access.base, ("", None))
@@ -54,7 +58,7 @@ class Kinds(dict):
                 del self[place]
 
     def after(self, slot: int, instruction: Instruction) -> Kinds:
-        following = Kinds(self, self.zeros)
+        following = Kinds(self, self.zeros, self.few)
         if instruction.is_arithmetic:
             following.put(instruction.destination, self.result(slot, instruction))
         elif instruction.is_load:
@@ -79,13 +83,20 @@ class Kinds(dict):
         if a and b or b and instruction.operation == SUB:
             return None
         kind, place = a or b or ("", None)
+        if kind == FRAME and place is not None and instruction.by_register:
+            return self.among(slot, instruction, place, instruction.source if a else instruction.destination)
         constant = instruction.immediate * (1 if instruction.operation == ADD else -1)
         if place is None or instruction.by_register:
             # a place in a map's value that this slot makes
             place = (slot, 0) if kind == VALUE else None
         else:
-            place = place + constant if kind == FRAME else (place[0], place[1] + constant)
-        return (kind, place) if kind in (FRAME, PACKET, VALUE, CONSTANT) else None
+            place = place + constant if kind == FRAME else (place[0] + constant * (kind == AMONG), place[1] + constant)
+        return (kind, place) if kind in (FRAME, AMONG, PACKET, VALUE, CONSTANT) and (kind, place) != (AMONG, None) else None
+
+    def among(self, slot: int, addition: Instruction, place: int, register: int) -> tuple:
+        """An address of the stack to which a number is added."""
+        numbers = [signed(number) for number in self.few.numbers(slot, register)] if addition.operation == ADD else []
+        return (AMONG, (place + min(numbers), place + max(numbers))) if numbers else (FRAME, None)
 
     def loaded(self, load: Instruction) -> Optional[tuple]:
         if self.get(load.source, ("",))[0] == CONTEXT and load.opcode == LOAD_WORD and load.offset in START_FIELDS:
@@ -93,8 +104,10 @@ class Kinds(dict):
         return self.get(("stack", self.stack_offset(load))) if load.opcode == LOAD_DOUBLE else None
 
     def store(self, store: Instruction) -> None:
-        at = self.stack_offset(store)
-        if at is not None:
+        at, base = self.stack_offset(store), self.get(store.destination, ("", None))
+        if base[0] == AMONG:
+            self.forget_stack(base[1][0] + store.offset, base[1][1] + store.offset + store.size)
+        elif at is not None:
             kind = self.get(store.source) if store.opcode == STORE_DOUBLE else None
             self.forget_stack(at, at + store.size)
             self.put(("stack", at), kind)
@@ -115,16 +128,15 @@ class Kinds(dict):
         """What holds on both of two ways. What is 0 on one of them is none that is reached."""
         both = {place: (kind, other[place]) for place, kind in self.items() if place in other}
         both = {place: (other if one[0] == ZERO else one, one if other[0] == ZERO else other) for place, (one, other) in both.items()}
-        return Kinds(
-            {place: one if one == two else (one[0], None) for place, (one, two) in both.items() if one[0] == two[0]}, self.zeros
-        )
+        same = {place: one if one == two else (one[0], None) for place, (one, two) in both.items() if one[0] == two[0]}
+        return Kinds({place: kind for place, kind in same.items() if kind != (AMONG, None)}, self.zeros, self.few)
 
 
 @remembered
 def kinds_before(code: Code, zeros: bool = False) -> dict[int, Kinds]:
     """The kinds before each slot that can be reached. `zeros`: whether an address on some ways that is 0 on others is one."""
     ways = following(code)
-    before, todo = {0: Kinds({CONTEXT_ARGUMENT: (CONTEXT, None), FRAME_POINTER: (FRAME, 0)}, zeros)}, [0]
+    before, todo = {0: Kinds({CONTEXT_ARGUMENT: (CONTEXT, None), FRAME_POINTER: (FRAME, 0)}, zeros, Few(code))}, [0]
     while todo:
         slot = todo.pop()
         kinds = before[slot].after(slot, code[slot])
@@ -151,4 +163,4 @@ def accesses_elsewhere(code: Code) -> set[int]:
 def accesses_in_packets(code: Code) -> set[int]:
     """The slots of accesses that may be in the packet."""
     accesses = ((slot, kinds.get(code[slot].base, ("",))) for slot, kinds in kinds_before(code).items() if code[slot].is_load or code[slot].is_store)
-    return {slot for slot, kind in accesses if kind[0] not in (VALUE, FRAME, CONTEXT, CONSTANT)}
+    return {slot for slot, kind in accesses if kind[0] not in (VALUE, FRAME, AMONG, CONTEXT, CONSTANT)}

@@ -1,7 +1,8 @@
 """What a search has found out that a program needs, and what it found. No mark is taken back."""
 from __future__ import annotations
 
-from dataclasses import dataclass, field
+from copy import copy
+from dataclasses import dataclass, field, replace
 from typing import TYPE_CHECKING, AbstractSet, NamedTuple, Optional
 
 if TYPE_CHECKING:
@@ -79,6 +80,10 @@ class Marks:
         """Those of copies as they are now: later marks don't change these."""
         rows = dict(self.wide), dict(self.cases), dict(self.trips), dict(self.differences)
         return MarksOfCopies(*rows, self.nones, self.values, set(self.parted), dict(self.told))
+
+    def now(self) -> Marks:
+        """All of them as they are now."""
+        return replace(self, **{name: copy(marks) for name, marks in vars(self).items()})
 
     def met(self) -> set[int]:
         """The slots where addresses are made anew."""

@@ -4,7 +4,7 @@ from __future__ import annotations
 from typing import TYPE_CHECKING, Iterator, NamedTuple, Optional, Sequence
 
 from .graph import live_registers, predecessors, successors
-from .instructions import ALU64, AND, AND_CONSTANT, ARSH, JGE, JGT, JLE, JLT, JMP, JMP32, LSH, MOVE_REGISTER, RSH, compute, writes
+from .instructions import ALU64, AND, AND_CONSTANT, ARSH, JGE, JGT, JLE, JLT, JMP, JMP32, LSH, MOVE_REGISTER, RSH, XOR, compute, writes
 
 if TYPE_CHECKING:
     from .instructions import Code, Instruction
@@ -21,7 +21,7 @@ class Row(NamedTuple):
 
 
 class Masked(NamedTuple):
-    """What a number can be before a slot, behind its mask and the shifts that follow. `row`: where it can be told apart in a row
+    """What a number can be before a slot, behind its mask, and the shifts and exclusive ors that follow. `row`: where it can be told apart in a row
     in front of them, or None. `mask`: the mask's slot."""
 
     numbers: Sequence[int]
@@ -30,7 +30,7 @@ class Masked(NamedTuple):
 
 
 def masked(code: Code, slot: int, register: int) -> Optional[Masked]:
-    """What a number can be that was masked by a constant, and maybe shifted, just before a slot; else None."""
+    """What a number can be that was masked by a constant, and maybe shifted or turned round, just before a slot; else None."""
     later = []
     while slot - 1 in code or slot - 2 in code:  # the latter in front of a wide load's second half
         slot -= 1 if slot - 1 in code else 2
@@ -38,7 +38,7 @@ def masked(code: Code, slot: int, register: int) -> Optional[Masked]:
         if register not in writes(instruction):
             if instruction.kind in (JMP, JMP32):
                 return None
-        elif instruction.kind != ALU64 or instruction.by_register or instruction.operation not in (AND, LSH, RSH):
+        elif instruction.kind != ALU64 or instruction.by_register or instruction.operation not in (AND, LSH, RSH, XOR):
             return None
         elif instruction.operation == AND and instruction.immediate > 0:
             numbers = parts_of(instruction.immediate)

@@ -7,6 +7,7 @@ from .addresses import ADDED, KEPT, Atom, in_order
 from .constants import FRAME, is_address
 from .graph import SIZE, Fail
 from .instructions import CALL
+from .remembered import remembered
 
 if TYPE_CHECKING:
     from .addresses import Addresses
@@ -20,14 +21,7 @@ class OwnStack:
     are needed for a while, which of them may use one slot."""
 
     def __init__(self, copies: Copies, shared: dict) -> None:
-        lowest = 0
-        for here in copies.order:
-            instruction, registers = copies.code[here.slot], here.constants.registers
-            at = here.constants.stack_offset(instruction) if instruction.is_store else None
-            if instruction.opcode == CALL and is_address(registers.get(2), FRAME):
-                at = registers[2].offset
-            lowest = min(lowest, at or 0)
-        self.top, self.shared, self.offsets = -((7 - lowest) // 8 * 8), shared, {}
+        self.top, self.shared, self.offsets = -((7 - lowest_byte(copies)) // 8 * 8), shared, {}
 
     def __getitem__(self, name: object) -> int:
         name = self.shared.get(name, name)
@@ -38,6 +32,20 @@ class OwnStack:
         return self.offsets[name]
 
 
+@remembered
+def lowest_byte(copies: Copies) -> int:
+    """The lowest byte of the stack that the program touches, as far below its end as it lies."""
+    lowest = 0
+    for here in copies.order:
+        instruction, registers = copies.code[here.slot], here.constants.registers
+        at = here.constants.stack_offset(instruction) if instruction.is_store else None
+        if instruction.opcode == CALL and is_address(registers.get(2), FRAME):
+            at = registers[2].offset
+        lowest = min(lowest, at or 0)
+    return lowest
+
+
+@remembered
 def shared_slots(copies: Copies, addresses: Addresses) -> dict:
     """For each atom that is kept on the stack a number: two that are needed at once have different ones."""
     saved, needed, beside = {}, {}, {}
@@ -52,15 +60,20 @@ def shared_slots(copies: Copies, addresses: Addresses) -> dict:
     for here in reversed(copies.order):
         later = set()
         for way, after in here.ways:
-            rows = addresses.stored.get((here, way), [])
+            rows = addresses.stored.get((here, way))
+            if rows is None:  # what is needed together behind it was seen there
+                later |= needed[after]
+                continue
             written = {atom for atom, _ in rows}
             read = {part for _, address in rows for part in address.atoms}
             together(written | read | needed[after])
             later |= read | needed[after] - written
         kept = {Atom(KEPT, here, row.place) for row in addresses.remade.get(here, []) if row.leader is None}
-        together(later | saved.get(here, set()))
+        if len(here.ways) > 1 or here in saved:
+            together(later | saved.get(here, set()))
         needed[here] = later - saved.get(here, set()) | kept
-        together(needed[here])
+        if kept:
+            together(needed[here])
     order = {here: number for number, here in enumerate(copies.order)}
     numbers = {}
     for atom in sorted(beside, key=lambda atom: (order[atom.copy], atom.name, in_order(atom.place))):

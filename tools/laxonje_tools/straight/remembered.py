@@ -8,18 +8,19 @@ if TYPE_CHECKING:
     from .instructions import Code
 
 Answer = TypeVar("Answer")
-MOST_KEPT = 8  # answers, of one function
+MOST_KEPT = 16  # answers, of one function
 
 
 def remembered(function: Callable[..., Answer]) -> Callable[..., Answer]:
-    """The same function of a program, and of words beside, which keeps its last answers. A program isn't changed once it is made, and no
-    answer is."""
+    """The same function of a program or a graph of its copies, and of words beside, which keeps its last answers. Neither is changed once it
+    is made, and no answer is."""
     kept = []
 
     @functools.wraps(function)
     def answered(code: Code, *words: object, **named: object) -> Answer:
-        for of, before, answer in kept:
+        for at, (of, before, answer) in enumerate(kept):
             if of is code and before == (words, named):
+                kept.insert(0, kept.pop(at))
                 return answer
         answer = function(code, *words, **named)
         kept.insert(0, (code, (words, named), answer))

@@ -29,10 +29,11 @@ from __future__ import annotations
 
 from typing import TYPE_CHECKING, Iterable, Optional, Sequence
 
-from .addresses import ADDED, KEPT, MET, Addresses, PacketAddress, StackSlot, Thing, multiple_of
+from .addresses import ADDED, KEPT, MET, PacketAddress, StackSlot, Thing, addresses_of, is_marked, multiple_of
 from .constants import MAPS, RESULTS
 from .copies import MOST_COPIES, Cases, Wide, copies_of
-from .emit import Emitter, Kind, Needs
+from .emit import Kind, Needs
+from .few import Few
 from .graph import SIZE, AddedToNumber, Fail, NoBound, TooMany, loops, slots_that_reach
 from .indices import bound_index, places_in_value
 from .instructions import MASK_32
@@ -45,12 +46,14 @@ from .settings import instructions_of, key_sizes, text_of, with_parts, without_r
 from .sources import Sources, sources_of
 from .steps import Steps, refusal
 from .verifier import WORK, StillRefused, verdict
+from .written import written
 
 if TYPE_CHECKING:
     from .addresses import Place
     from .copies import Copy
     from .emit import Label
     from .verifier import Verdict
+    from .written import Written
 
 MOST_TURNS, MOST_CASES = 200, 64
 MOST_ALIKE = 3  # marks at copies of one slot, from which on all its copies are marked
@@ -101,13 +104,6 @@ class Search(OfValues):
         """How a meeting is marked. All its registers are: one of them is often made from another."""
         return (here.slot if self.way == BY_SLOT else here.key, place if isinstance(place, StackSlot) else None)
 
-    def is_marked(self, here: Copy, place: Place) -> bool:
-        kept = place if isinstance(place, StackSlot) else None
-        return (here.key, kept) in self.marks.meetings or (here.slot, kept) in self.marks.meetings
-
-    def is_restarted(self, here: Copy, place: Place) -> bool:
-        return (here.key, place) in self.marks.restarts
-
     def mark_meetings(self, rows: Iterable[tuple[Copy, Place]]) -> bool:
         """Marks meetings, (copy, place) each: whether one is new. If several copies of a slot are marked, all are."""
         self.is_by_way = True
@@ -115,7 +111,7 @@ class Search(OfValues):
         if not meets <= self.marks.parted:
             self.marks.parted |= meets
             return True
-        fresh = {self.mark(*row) for row in rows if not self.is_marked(*row)}
+        fresh = {self.mark(*row) for row in rows if not is_marked(self.marks.meetings, *row)}
         self.marks.meetings |= fresh
         for key, kept in fresh:
             slot = key if isinstance(key, int) else key[0]
@@ -140,7 +136,7 @@ class Search(OfValues):
             program = self.emitted()
             if program is None:
                 continue
-            words, relocations, self.labels = program
+            words, relocations, self.labels = program.words, program.relocations, program.labels
             self.began = True
             judged += len(words)
             WORK.slots += len(words)
@@ -158,20 +154,20 @@ class Search(OfValues):
                 raise StillRefused(label.slot if label else None, answer)
         raise Fail("it isn't accepted after many changes", None, SIZE)
 
-    def emitted(self) -> Optional[tuple]:
+    def emitted(self) -> Optional[Written]:
         """The program with the marks as they are; None if a further meeting had to be marked."""
         marks = self.marks
         try:
-            self.copies = copies_of(self.code, self.numbers, marks.of_copies(), self.copies)
+            self.copies = copies_of(self.code, self.numbers, marks.of_copies())
         except (NoBound, TooMany) as loop:
             WORK.slots += MOST_COPIES
             if not Steps(self.code, self.marks, loop.slot).told_apart(isinstance(loop, NoBound)):
                 raise refusal(self.code, loop) from None
             return None
         WORK.slots += len(self.copies.order)
-        self.addresses = Addresses(self.copies, self.is_marked, self.is_restarted)
+        self.addresses = addresses_of(self.copies, frozenset(marks.meetings), frozenset(marks.restarts))
         try:
-            emitter = Emitter(self.copies, self.addresses, marks, key_sizes(self.settings), with_parts(self.settings))
+            made = written(self.copies, self.addresses, marks.now(), key_sizes(self.settings), with_parts(self.settings))
         except Needs as needs:
             self.mark_meetings(needs.meetings)
             return None
@@ -179,8 +175,8 @@ class Search(OfValues):
             if not self.tell_nones_apart():  # it may be 0 there, as a lookup gives it
                 raise
             return None
-        self.reached, self.found = emitter.reached, Found(emitter.lies, self.parts(), emitter.keys, emitter.own.top)
-        return emitter.program()
+        self.reached, self.found = made.reached, Found(made.lies, self.parts(), made.keys, made.top)
+        return made
 
     def parts(self) -> set[int]:
         """The slots of accesses to a part of a counter that are written otherwise."""
@@ -356,6 +352,7 @@ class Search(OfValues):
             self.marks.cases[row.slot] = Cases(lost.register, tuple(row.numbers), label.slot)
             return True
         numbers = found.numbers if found is not None and found.numbers else lost.multiples_of(stride)
+        numbers = numbers if are_few(numbers) else Few(self.code).numbers(label.slot, lost.register) or numbers
         if lost.was == "map_value" and (self.form.by_place or not are_few(numbers)):
             if self.follow(MAPS):
                 return True

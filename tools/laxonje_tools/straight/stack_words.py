@@ -9,7 +9,7 @@ from typing import TYPE_CHECKING, AbstractSet, NamedTuple, Optional
 
 from .graph import backwards, predecessors
 from .instructions import FRAME_POINTER, LOAD_DOUBLE, STORE_DOUBLE, STORE_DOUBLE_CONSTANT, STX
-from .kinds import FRAME, kinds_before, stores_elsewhere
+from .kinds import AMONG, FRAME, kinds_before, stores_elsewhere
 from .remembered import remembered
 
 if TYPE_CHECKING:
@@ -39,7 +39,7 @@ def live_words(code: Code) -> dict[int, AbstractSet[int]]:
         insn = code[slot]
         if insn.opcode in STORES and insn.destination == FRAME_POINTER:
             return needed - {insn.offset}
-        if insn.opcode != LOAD_DOUBLE or kinds.get(slot, {}).get(insn.source, ("",))[0] != FRAME:
+        if insn.opcode != LOAD_DOUBLE or kinds.get(slot, {}).get(insn.source, ("",))[0] not in (FRAME, AMONG):
             return needed
         at = kinds[slot].stack_offset(insn)
         return needed | (stored if at is None else {at})

@@ -1,6 +1,7 @@
 """What xdpbox says of a program: `explain`, and what its words mean; and `same`."""
 from __future__ import annotations
 
+import functools
 import re
 import subprocess
 from dataclasses import dataclass
@@ -145,8 +146,9 @@ def called(xdpbox: str, settings: str) -> Called:
     return Called(stop=Stop(int(stop[1]), int(stop[2]), stop[3]) if stop else None)
 
 
+@functools.cache
 def verdict(xdpbox: str, settings: str) -> Verdict:
-    """What `xdpbox explain` answers to settings as text."""
+    """What `xdpbox explain` answers to settings as text. The same text isn't asked twice."""
     run = asked(xdpbox, "explain", settings)
     refused = re.search(r"^refused (V\d+) at (\d+)", run.stdout, re.M)
     return Verdict(run.stdout, refused[1], int(refused[2])) if refused else Verdict(run.stdout)

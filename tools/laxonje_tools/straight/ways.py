@@ -25,6 +25,7 @@ WAYS = [
     (IN_LOOPS, (BY_COPY, BY_SLOT)),
     (EVERYWHERE, (BY_COPY, BY_SLOT)),
 ]
+TOO_LONG: dict[tuple, TooMany] = {}  # by a program and the numbers that are told apart: of which there are too many copies, whatever is marked
 
 
 def without_counts(settings: dict, xdpbox: str, result: Result) -> Optional[Result]:
@@ -113,9 +114,12 @@ def searches(
     tell all numbers apart. Of numbers that share a counter all say the same. `at_once`: whether the first ones alone are made, or, `at_size`, if these find nothing but what is too large."""
     done = set() if loops(instructions_of(settings)) else {COUNTERS, IN_LOOPS}
     for numbers, ways in WAYS[:1] if at_once else WAYS:
-        results = []
+        results, key = [], (tuple(settings["program"]), repr(settings.get("reloc")), numbers)
         if numbers in done or unguarded and numbers == IN_LOOPS:
             continue
+        if key in TOO_LONG:
+            faults.append(TOO_LONG[key])
+            ways = ()
         for way in ways:
             search = Search(settings, xdpbox, numbers, way)
             try:
@@ -126,7 +130,9 @@ def searches(
                 faults.append(fail)
                 if fail.cause == SHARED:
                     return
-                done |= {numbers} if isinstance(fail, TooMany) and not search.began else set()
+                if isinstance(fail, TooMany) and not search.began:
+                    done |= {numbers}
+                    TOO_LONG[key] = fail
             done |= set() if search.is_by_way else {numbers}
             if numbers in done:
                 break

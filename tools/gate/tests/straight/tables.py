@@ -1,6 +1,8 @@
 """Hash maps to which a program adds rows, beside an interpreter that has each key's rows in the few places of its hash."""
 import pathlib
 import random
+import runpy
+import subprocess
 import tempfile
 import tomllib
 
@@ -44,6 +46,17 @@ NOT_STALE = {
     "a row of a processor": ("PERCPU_HASH", f"if (!last) return XDP_PASS; {UPDATE % 'BPF_ANY'} return *last == now ? XDP_DROP : XDP_PASS;"),
     "a number that is kept of a row": ("HASH", f"if (!last) return XDP_PASS; __u64 was = *last; {UPDATE % 'BPF_ANY'} return was == now ? XDP_DROP : XDP_PASS;"),
 }
+# keys behind the value's counters, and keys apart, of which `filter-test` asks Linux: what is added
+KEYS = """struct v { __u64 n[8]; }; MAP(behind, HASH, __u32, __u64) MAP(apart, LRU_HASH, __u64, struct v)
+SEC("xdp") int f(struct xdp_md *ctx) {
+	__u8 *p = (void *)(long)ctx->data;
+	if (p + 14 > (__u8 *)(long)ctx->data_end) return XDP_DROP;
+	__u64 key = p[0] + 1000, number = p[1]; __u32 small = p[0] + 5; struct v v = { { p[2], p[3] } };
+	bpf_map_update_elem(&behind, &small, &number, BPF_ANY);
+	bpf_map_update_elem(&apart, &key, &v, BPF_ANY);
+	return XDP_PASS;
+}
+"""
 # what stays refused: the maps, the function, and what is said
 REFUSED = {
     "a value of more bytes than the stack": (
@@ -213,6 +226,19 @@ def size_tests(clang, xdpbox, path):
         yield f"{name}: a host learns of them", "" if is_known and "a table of 65536 rows" in lines[0] else run.stderr + run.stdout[:400]
 
 
+def added_tests(clang, xdpbox, path):
+    """The keys of which `filter-test` asks Linux are those that the program added, whether they lie behind a value or apart."""
+    path.write_text(HEADERS + MAP + KEYS)
+    run, filled_in = settings_from(clang, xdpbox, path), runpy.run_path(str(FOLDER.parents[2] / "filter-test"))["filled_in"]
+    data, first = object_of(clang, path, path.with_suffix(".o")).read_bytes(), (1, 7, 200)
+    packets = "".join(f'\n[[packet]]\nqueue = 0\nbytes = "{byte:02x}{"03" * 13}"\n' for byte in first)
+    said = subprocess.run([xdpbox, "filter"], input=run.stdout + packets, capture_output=True, text=True, check=False).stdout
+    found = filled_in(run.stdout, data, [line for line in said.splitlines() if line.startswith("counter ")])
+    for name, size, more in ("behind", 4, 5), ("apart", 8, 1000):
+        wanted = {(byte + more).to_bytes(size, "little") for byte in first}
+        yield f"keys {name} are those of which Linux is asked", "" if set(found.get(name, {}).values()) == wanted else f"{found} {run.stderr}"
+
+
 def tests(clang, xdpbox):
     with tempfile.TemporaryDirectory() as name:
         folder = pathlib.Path(name)
@@ -225,6 +251,7 @@ def tests(clang, xdpbox):
             run = settings_from(clang, xdpbox, path)
             yield f"{name}: refused", "" if run.returncode == 1 and not run.stdout and wanted in run.stderr else run.stderr + run.stdout[:80]
         yield from size_tests(clang, xdpbox, path)
+        yield from added_tests(clang, xdpbox, path)
         rows = folder / "rows.list"
         rows.write_text("192.0.2.1\n")
         run = settings_from(clang, xdpbox, "--list", f"hosts={rows}", SOURCE)
