@@ -28,10 +28,10 @@ static uint64_t counters[ROWS];
 /* What the reader of lists hands over: `ready` has the lists of a text that the queue hasn't got yet, if `fresh`. */
 static struct handover {
 	pthread_mutex_t lock;
-	pthread_cond_t taken;
+	pthread_cond_t taken, given;
 	struct laxonje_program *ready;
 	int fresh;
-} handover = { PTHREAD_MUTEX_INITIALIZER, PTHREAD_COND_INITIALIZER, NULL, 0 };
+} handover = { PTHREAD_MUTEX_INITIALIZER, PTHREAD_COND_INITIALIZER, PTHREAD_COND_INITIALIZER, NULL, 0 };
 
 /* The settings with the addresses 10.0.0.0 on, or 10.1.0.0 on. */
 static size_t settings_of(unsigned number, char *text, size_t room)
@@ -54,6 +54,7 @@ static struct laxonje_program *read_list(struct laxonje_program *spare, unsigned
 	while (handover.fresh)
 		pthread_cond_wait(&handover.taken, &handover.lock);
 	old = handover.ready, handover.ready = spare, handover.fresh = 1;
+	pthread_cond_signal(&handover.given);
 	pthread_mutex_unlock(&handover.lock);
 	return old;
 }
@@ -66,11 +67,13 @@ static void *read_lists(void *first)
 	return spare;
 }
 
-/* Between two turns: gives the queue the lists that were handed over. Whether there were any. */
-static unsigned take_lists(struct laxonje_queue *queue, unsigned *refused)
+/* Between two turns: gives the queue the lists that were handed over, or waits for them. Whether there were any. */
+static unsigned take_lists(struct laxonje_queue *queue, int waits, unsigned *refused)
 {
 	unsigned taken = 0;
 	pthread_mutex_lock(&handover.lock);
+	while (waits && !handover.fresh)
+		pthread_cond_wait(&handover.given, &handover.lock);
 	if (handover.fresh)
 		taken = 1, handover.fresh = 0, *refused += laxonje_queue_relist(queue, handover.ready) != LAXONJE_RELISTED;
 	pthread_cond_signal(&handover.taken);
@@ -93,7 +96,7 @@ static void guest_sends(unsigned n)
 	memory[TX][0]++;
 }
 
-/* Takes packets until there were enough and each list has come. */
+/* Takes packets until there were enough and each list has come. Behind the last of the packets it waits for each list. */
 static void serve(struct laxonje_queue *queue)
 {
 	const struct laxonje_io io = { NULL, page, notify, NULL };
@@ -102,7 +105,7 @@ static void serve(struct laxonje_queue *queue)
 	uint64_t counted = 0;
 	for (unsigned n = 0; n < PACKETS || lists < LISTS; n++) {
 		struct laxonje_op over;
-		lists += take_lists(queue, &other);
+		lists += take_lists(queue, n >= PACKETS, &other);
 		guest_sends(n);
 		over = laxonje_drive_turn(&drive, &io);
 		*(over.outcome == LAXONJE_TURN_RAN && over.number < 4 ? &numbers[over.number] : &other) += 1;

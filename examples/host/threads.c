@@ -2,6 +2,7 @@
  * usage: threads RUNS */
 #include <laxonje.h>
 #include <pthread.h>
+#include <sched.h>
 #include <stdio.h>
 #include <stdlib.h>
 #include <string.h>
@@ -50,6 +51,7 @@ static unsigned long reads(void)
 	uint64_t last[THREADS] = { 0 };
 	unsigned long wrong = 0, done = 0;
 	while (done < THREADS) {
+		sched_yield();
 		done = 0;
 		for (size_t i = 0; i < THREADS; i++) {
 			uint64_t now = seen(&workers[i]);
