@@ -2,8 +2,7 @@
 
 An edit is a text of lines `file: PATH`, `old: TEXT`, `new: TEXT`, each text on one line and standing once in the file, as
 `rt must-fail` reads it. A line `fn: PATH` names the function that has to be refused, if that isn't the one whose body
-changes. No edit changes a clause of a contract, what its names stand for, a proof, or only what the prover reads; definitions
-change with code, or of a crate whose definitions are a machine.
+changes. No edit changes a clause of a contract, a proof, or only what the prover reads.
 
 A refusal counts by the goal that isn't proved: one of a clause, of a loop's or a type's invariant, or else one of safety, such as
 a sum that has to fit, an index, or what a callee requires."""
@@ -150,10 +149,6 @@ def function_at(file, text, at, types):
     return "::".join([*module, *inside, last[2]])
 
 
-# The crates whose definitions are a machine of their own, as others' code is: an edit of another one's is one of clauses.
-MACHINES = ("honest_pair",)
-
-
 def prepare(edit, folder, types):
     """Finds the functions that have to be refused: those that the edit names, or those whose bodies change; and whether it is apart."""
     changed_ones = changed_functions(edit, folder, types)
@@ -162,8 +157,6 @@ def prepare(edit, folder, types):
             raise Unreadable(f"it changes {it.file}, and no body")
     texts = {file: text_of(folder, file) for file in edit.files}
     made = changed(texts, edit.changes)
-    if not any(it.startswith("src/") for it in texts) and os.path.basename(folder) not in MACHINES:
-        raise Unreadable("it changes definitions, which contracts name, and no body")
     for file in (it for it in texts if it.startswith("src/")):
         if contracts_of(texts[file]) != contracts_of(made[file]):
             raise Unreadable(f"it changes a contract in {file}, and no body")
@@ -175,15 +168,12 @@ def prepare(edit, folder, types):
 
 
 def contracts_of(text):
-    """The clauses of a source's functions, the ghost members of its impls and traits, and the ghost fields of its types, with the imports
-    that say what they name and the attributes that say how they are proved, how often each."""
+    """The clauses of a source's functions, the ghost members of its impls and traits, and the ghost fields of its types, how often each."""
     source = rattle.read_text(text)
     clauses = [((it.owner, it.name), clause) for it in source.functions for clause in it.clauses]
     clauses += [((it.owner, it.trait), member) for it in source.impls for member in it.members]
     found = [(of, it.kind, it.name, " ".join(it.text.split())) for of, it in clauses]
-    found += [(it.name, *field) for it in source.types for field in rattle.ghost_fields(it)]
-    beside = [" ".join(it.split()) for it in FOR_PROOF.findall(bare_of(text)) if not it.startswith("let ")]
-    return collections.Counter([*found, *beside])
+    return collections.Counter([*found, *((it.name, *field) for it in source.types for field in rattle.ghost_fields(it))])
 
 
 # What the prover alone reads: attributes, ghost imports, and what is only named for a proof, as `let _value = *self;`.
@@ -192,12 +182,10 @@ FOR_PROOF = re.compile(r"#!?\[[^\]]*\]|\bghost use [^;]*;|\blet _\w*(?:: [^=;]*)
 
 def code_of(file, text):
     """The text of a source without comments, without what only the prover reads, and with one blank for several; of definitions all."""
-    return " ".join(FOR_PROOF.sub(" ", bare_of(text)).split()) if file.startswith("src/") else text
-
-
-def bare_of(text):
-    """The text of a source without comments."""
-    return rattle.CODE.sub(lambda it: " " if it.group().startswith("//") else it.group(), text)
+    if not file.startswith("src/"):
+        return text
+    bare = rattle.CODE.sub(lambda it: " " if it.group().startswith("//") else it.group(), text)
+    return " ".join(FOR_PROOF.sub(" ", bare).split())
 
 
 # How a line begins that functions have in common; an import counts for its file alone.
@@ -232,7 +220,7 @@ TOLD = re.compile(r"^(?:note: )?(?:\./)?(\S+?):(\d+):\d+: (?:(error): )?(.*)", r
 WAITS = re.compile(r"it calls|wait for a callee|depends on")
 OWN = re.compile(r"`search` did not prove ((?:`[^`]+`(?:,? (?:and )?)?)*)")
 # The goals of clauses, and those of what a loop or a type keeps; every other one is of safety.
-OF_CLAUSE = re.compile(r"(?:returns|ensures|holds)\b(?!-requires\b)")
+OF_CLAUSE = re.compile(r"(?:returns|ensures|holds)\b")
 OF_INVARIANT = re.compile(r"loop-.*-(?:init|preserved)\b|invariant_of-")
 # The files of a function's own proof, beside its lemmas.
 PROOF_FILES = ("/Answers.antt", "/Invariants.antt")

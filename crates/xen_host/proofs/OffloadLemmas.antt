@@ -1,21 +1,20 @@
 -- What is left undone of a packet, after one more slot.
-use Rattle.std.proofs.Common.{◌≡◌, ◌∙◌, List, [], ◌∷◌, ◌++◌, ap, refl, sym}
+use Rattle.std.proofs.Common.{◌≡◌, ◌∙◌, ℕ, List, [], ◌∷◌, ◌++◌, ap, refl, sym}
 use Rattle.std.specs.Prelude.{Bool, None, Option, Result, false, true}
 use Rattle.xen_netif.specs.Chain.{Slot, extra_info}
 use Rattle.xen_netif.specs.Segments.{segments_behind, segments_of}
 use Rattle.xen_netif.specs.Standing.{standing}
 use Rattle.xen_netif.specs.declared.chain.ChainState.{ChainState}
 use Rattle.xen_netif.specs.declared.fault.ChainFault.{ChainFault}
-use Rattle.xen_netif.specs.declared.flags.TxFlags.{TxFlags}
 use Rattle.xen_netif.specs.declared.segments.Offers.{Offers}
 use Rattle.xen_netif.specs.declared.segments.Segments.{Segments}
 use Rattle.xen_host.specs.Rest.{flags_behind, offload_behind, segments_if}
 use Rattle.xen_host.specs.declared.offload.Offload.{Offload}
 
-abbrev pub made : TxFlags → Option Segments → Offload
+abbrev pub made : ℕ → Option Segments → Offload
 made flags segments = record { flags = flags; segments = segments }
 
-pub made_behind : (offers : Offers) (before : List Slot) (slot : Slot) (old : Offload) (flags : TxFlags) (o : Option (Result ChainState ChainFault)) →
+pub made_behind : (offers : Offers) (before : List Slot) (slot : Slot) (old : Offload) (flags : ℕ) (o : Option (Result ChainState ChainFault)) →
     flags ≡ flags_behind before slot old.flags → standing (before ++ slot ∷ []) ≡ o →
     made flags (segments_if offers (before ++ slot ∷ []) o) ≡ offload_behind offers before slot old
 made_behind offers before slot old flags o f e =

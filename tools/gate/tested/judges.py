@@ -20,8 +20,6 @@ def sentence_tests():
     found = script("dev/long-sentences").long_sentences
     words = "word " * 36
     yield "a sentence that is too long", len(list(found(f"Short. {words.strip()}.\n\n- An item.\n"))) == 1
-    yield "a line of an item with four blanks before it", len(list(found(f"- An item\n    {words}.\n"))) == 1
-    yield "code with four blanks before it", not list(found(f"Text.\n\n    {words}\n    {words}\n\nText.\n"))
     yield "two sentences, a list and code", not list(found(f"{'word ' * 20}. {'Word ' * 20}.\n- {'word ' * 20}\n- {'word ' * 20}\n\n```text\n{words}\n```\n"))
     yield "a table, and a link's address", not list(found(f"| {words} |\n\nA [page]({words.strip()}) is short.\n"))
     texts = [it.read_text() for it in (ROOT / "README.md", ROOT / "SECURITY.md", *(ROOT / "docs").glob("*.md"))]

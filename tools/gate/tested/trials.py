@@ -85,7 +85,6 @@ def edit_tests():
         (FALSE, wrong_bodies.Verdict.CLAUSE),
         (FALSE.replace(":3:9", ":6:9"), wrong_bodies.Verdict.SAFETY),
         (SUM, wrong_bodies.Verdict.SAFETY),
-        (CLAUSE.replace("returns", "holds-requires"), wrong_bodies.Verdict.SAFETY),
         (INDEX_AND_LOOP, wrong_bodies.Verdict.INVARIANT),
         (LAST_OF_TWO, wrong_bodies.Verdict.CLAUSE),
         (INVARIANT, wrong_bodies.Verdict.INVARIANT),
@@ -108,10 +107,6 @@ def bad_edit_tests():
     yield "a clause that is added", was != wrong_bodies.contracts_of(contract.replace("-> u32\n", "-> u32\n    requires { ⊥ }\n"))
     yield "a function with a clause that is added", was != wrong_bodies.contracts_of(contract + contract.replace("first", "second"))
     yield "a ghost field that is added", was != wrong_bodies.contracts_of(contract + "struct Held {\n    ghost few: { ⊥ },\n}\n")
-    imports = "ghost use Rattle.low.specs.Part.{one, other};\n#[tactic(auto)]\n"
-    named = wrong_bodies.contracts_of(imports + contract)
-    yield "another name for what a clause names", named != wrong_bodies.contracts_of(imports.replace("one", "one as other") + contract)
-    yield "another tactic", named != wrong_bodies.contracts_of(imports.replace("auto", "none") + contract)
     yield "a body that is changed", was == wrong_bodies.contracts_of(contract.replace("    place", "    1"))
 
 

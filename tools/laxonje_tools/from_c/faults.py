@@ -119,8 +119,8 @@ def faults_of_map(declared: MapOfC) -> Iterator[str]:
         return
     if declared.type not in ARRAYS and declared.type not in KEYED:
         name, instead = MAP_TYPES.get(declared.type, (str(declared.type), NO_STATE))
-        known = "ARRAY, HASH and LRU_HASH, each also PERCPU, LPM_TRIE, QUEUE and STACK"
-        yield f"the map {declared.name} is a BPF_MAP_TYPE_{name}, and there are {known}: {instead}"
+        known = f"the map {declared.name} is a BPF_MAP_TYPE_{name}, and there are ARRAY, HASH, PERCPU_ARRAY, PERCPU_HASH and LPM_TRIE"
+        yield f"{known}: {instead}"
         return
     yield from faults_of_key(declared)
     if not 0 < declared.value_bytes <= COUNTER_BYTES * MOST_COUNTERS:
@@ -149,8 +149,7 @@ def faults_of_sizes(maps: list[Map]) -> Iterator[str]:
         yield f"there are {len(maps)} maps: at most {MOST_MAPS}; a value may have {MOST_COUNTERS} counters"
     for row in maps:
         if not 1 <= row.entries <= MOST_ENTRIES:
-            most = MOST_ENTRIES * MOST_MAPS - 1 if row.kind is None and row.entries >= MOST_ENTRIES * MOST_MAPS else MOST_ENTRIES
-            yield f"the map {row.name} has {row.entries} entries: 1 to {most}; --entries {row.name}=N gives it another number"
+            yield f"the map {row.name} has {row.entries} entries: 1 to {MOST_ENTRIES}; --entries {row.name}=N gives it another number"
         if not 1 <= row.counters <= MOST_COUNTERS:
             yield f"the values of the map {row.name} have {row.counters} counters: 1 to {MOST_COUNTERS}"
         if len(row.name.encode()) > MOST_NAME:

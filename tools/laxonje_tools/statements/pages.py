@@ -47,7 +47,7 @@ def contract_lines(it: Part) -> list[str]:
     for clause in item.clauses:
         if clause not in chosen and clause.kind.startswith("ensures"):
             first = clause.line - item.line
-            while not lines[first - 1].strip() or lines[first - 1].lstrip().startswith("//"):
+            while lines[first - 1].lstrip().startswith("//"):
                 first -= 1
             left_out |= set(range(first, clause.last - item.line + 1))
     docs = [f"/// {it}".rstrip() for it in item.docs]
@@ -296,8 +296,7 @@ def pages(tree: Tree, claims: list[Claim], theorem: Theorem) -> dict[pathlib.Pur
     found[THEOREM] = theorem_page(tree, theorem)
     text = (tree.root / CLAIMS).read_text(encoding="utf-8")
     found[CLAIMS] = linked(tree, text)
-    whole = statement(tree, [part(tree, text) for claim in claims for text in claim.contracts])
-    every = counts_of(tree, (*whole.groups, *whole.premises))
+    every = counts(tree, statement(tree, [part(tree, text) for claim in claims for text in claim.contracts]))
     found[README] = with_count((tree.root / README).read_text(encoding="utf-8"), every.definitions, every.lines)
     rows = (tree.root / ROWS).read_text(encoding="utf-8")
     found[ROWS] = linked(tree, with_claims(rows, text), ROWS)

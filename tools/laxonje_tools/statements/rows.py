@@ -7,7 +7,7 @@ import re
 from collections.abc import Iterator
 
 from . import rattle
-from .claims import BRACKETS, BY, ITEM, LINK, PAGE, ROWS, every_section, numbered, pages_of
+from .claims import BRACKETS, BY, ITEM, PAGE, ROWS, every_section, numbered, pages_of
 from .tree import Contract, Node, Tree
 
 EDITS = re.compile(r"((?i:also )?)(?i:refused)[^:`]*:((?: (?:of `\w+`: )?`[a-z]\w*`,?|; for [^:`]*(?= `))+)")
@@ -90,21 +90,10 @@ def edit_findings(tree: Tree) -> Iterator[str]:
     for crate, name in there["must-fail"]:
         if (crate, name) not in named:
             yield f"{ROWS}: no row names {name} of crates/{crate}/must-fail"
-    yield from (f"{first} and {other} are one wrong body" for first, other in twice([*there["must-fail"].values(), *there["more-edits"].values()]))
     found = COUNT.search((tree.root / PAGE).read_text(encoding="utf-8"))
     counts = tuple(len(there[folder]) for folder in FOLDERS)
     if found is None or (int(found[1]), int(found[2])) != counts:
         yield f"{PAGE}: it has to have: {numbers(counts)}"
-
-
-def twice(paths: list[pathlib.Path]) -> Iterator[tuple[str, str]]:
-    """The wrong bodies of a crate that are made as another one is, each behind that one; an empty one is told by who reads it."""
-    seen: dict[tuple[str, ...], str] = {}
-    for path in paths:
-        made = tuple(it for it in path.read_text(encoding="utf-8").split("\n") if it.startswith(("file:", "old:", "new:")))
-        name = path.relative_to(path.parents[2]).as_posix()
-        if made and (first := seen.setdefault((path.parents[1].name, *made), name)) != name:
-            yield first, name
 
 
 def left_to_rows(tree: Tree) -> set[str]:
@@ -201,7 +190,7 @@ def name_findings(tree: Tree) -> Iterator[str]:
             linked = ONE.findall(text, at, it.start())
             last = contracts_named(tree, row, linked[-1]) if linked else last
             at, head = it.end(), it[1] or it[2]
-            names = [name.rpartition("::")[2] for name in re.findall(r"`([\w:]+)`", it[4])]
+            names = re.findall(r"`(\w+)`", it[4])
             if head and head[0].isupper() and "::" not in head:
                 known = names_of_definitions(tree, row, head)
             else:
@@ -212,33 +201,6 @@ def name_findings(tree: Tree) -> Iterator[str]:
         last = contracts_named(tree, row, linked[-1]) if linked else last
 
 
-def names_there(tree: Tree) -> set[str]:
-    """The names of all that a row may name: crates, files and definitions with their fields and cases, types, functions and clauses."""
-    found = set(tree.crates)
-    for crate in tree.crates.values():
-        for path, module in crate.modules.items():
-            found |= {path[-1], *(it.name for it in module.definitions)}
-            found |= {name for node in nodes_of(tree, crate.name, path) for name in inner_names(tree, node)}
-        for path, source in crate.sources.items():
-            found |= {*path, *(it.name for it in [*source.types, *source.functions]), *(it.trait for it in source.impls)}
-            found |= {clause.name for it in source.functions for clause in it.clauses}
-    return found
-
-
-def carrying_findings(tree: Tree) -> Iterator[str]:
-    """The names of what carries a row that nothing has, and those in brackets that `name_findings` doesn't read."""
-    known = names_there(tree)
-    for row in rows(tree):
-        if row.page != ROWS or row.text.startswith("|"):
-            continue
-        text = re.split(r"(?i)(?:also )?refused[^:`]*:", row.text)[0]
-        unread = BRACKETS.findall(WITH_NAMES.sub("", LINK.sub(r"\1", text)))
-        yield from (f"{row.page}: {it}: no function or file of definitions stands before these brackets" for it in unread if "`" in it)
-        for name in re.findall(r"`((?:\w+::)*\w+)`", BRACKETS.sub("", LINK.sub(r"\1", text))):
-            if not set(name.split("::")[-2:]) <= known:
-                yield f"{row.page}: a row names {name}, which nothing has"
-
-
 def findings(tree: Tree) -> list[str]:
     """What is wrong with the rows."""
-    return [*edit_findings(tree), *number_findings(tree), *law_findings(tree), *name_findings(tree), *carrying_findings(tree)]
+    return [*edit_findings(tree), *number_findings(tree), *law_findings(tree), *name_findings(tree)]

@@ -280,18 +280,10 @@ def row_tests(stated, root: pathlib.Path) -> Iterator[tuple[str, bool]]:
     stated.write(Tree(root))
     yield "the numbers are written", stated.findings(Tree(root)) == []
     (root / "crates/low/more-edits/fourth.edit").unlink()
-    same = {f"crates/low/{it}.edit": "file: a\nold: b\nnew: c\n" for it in ("must-fail/make", "more-edits/third")}
-    yield "a wrong body that is another's copy", stated.findings(written(root, same))[0].endswith("low/more-edits/third.edit are one wrong body")
-    written(root, dict.fromkeys(same, ""))
     written(root, {"docs/CLAIMS.md": FILES["docs/CLAIMS.md"]})
     for old, new in (("`make` (`small`)", "`make` (`large`)"), ("(`Kind`)", "(`other`)"), ("`Base` (`Small`)", "`Base` (`Tiny`)")):
         stale = [it for it in found(page.replace(old, new)) if "is neither there nor reached" in it]
         yield f"a stale name, {new}", len(stale) == 1
-    for old, new in (("`Base`;", "`Bass`;"), ("`inner::helper`", "`inner::helped`"), ("`one` of all", "`once` of all")):
-        yield f"what carries a row and isn't there, {new}", any(it.endswith(", which nothing has") for it in found(page.replace(old, new)))
-    unread = found(page.replace("`make` (`small`)", "`make`'s (`large`)"))
-    yield "brackets behind no name", len(unread) == 1 and "(`large`): no function" in unread[0]
-    yield "a stale path in brackets", any("large is neither" in it for it in found(page.replace("(`small`)", "(`Thing::large`)")))
     yield "a wrong body of the other folder", any("third, which isn't in must-fail" in it for it in found(page.replace("also\n   ", "")))
     yield "a row without a wrong body", any(it.endswith(" 2 names no wrong body") for it in found(page.partition("; also")[0] + ".\n"))
     yield "a row that says so", found(page.replace("refused: `third`", "no wrong body of its own: it follows").replace("also\n   ", "")) == []

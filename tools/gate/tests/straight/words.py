@@ -16,10 +16,10 @@ NOT_HERE = {
     "a device map": (
         MAP.format("DEVMAP", 8, "__u32", "__u32", "m"),
         LOOKUP,
-        "and there are ARRAY, HASH and LRU_HASH, each also PERCPU, LPM_TRIE, QUEUE and STACK: there is no other device here: XDP_PASS gives",
+        "BPF_MAP_TYPE_DEVMAP, and there are ARRAY, HASH, PERCPU_ARRAY, PERCPU_HASH and LPM_TRIE: there is no other device here: XDP_PASS gives",
     ),
     "a map that packets change": (MAP.format("BLOOM_FILTER", 8, "__u32", "__u64", "m"), LOOKUP, "BPF_MAP_TYPE_BLOOM_FILTER, and there are ARRAY"),
-    "a large map": (MAP.format("ARRAY", 1 << 20, "__u32", "__u64", "m"), LOOKUP, "1048576 entries: 1 to 1048575; --entries m=N"),
+    "a large map": (MAP.format("ARRAY", 1 << 20, "__u32", "__u64", "m"), LOOKUP, "1048576 entries: 1 to 65536; --entries m=N"),
     "seventeen maps": (
         "".join(MAP.format("ARRAY", 1, "__u32", "__u64", name) for name in "mnopqrstuvwxyzabc"),
         LOOKUP,
