@@ -1,10 +1,9 @@
 -- Stated: claims rest on this file.
 -- Where a world begins.
-use Rattle.std.specs.Prelude.{ℕ, ◌≡◌, ◌<◌, ◌+◌, ◌*◌, false, List, [], Option}
+use Rattle.std.specs.Prelude.{ℕ, ◌≡◌, ◌<◌, ◌+◌, ◌*◌, List, [], Option}
 use Rattle.bpf_maps.specs.Beginning.{given}
 use Rattle.bpf_lists.specs.declared.list.MapList.{MapList}
 use Rattle.bpf_verify.specs.Consistent.{Accepted}
-use Rattle.xen_netif.specs.Segments.{no_offers}
 use Rattle.xen_back.specs.Queues.{state_of, wiring_of, IsReady}
 use Rattle.xen_back.specs.declared.queue.Queue.{Queue}
 use Rattle.xen_turns.specs.declared.wiring.Wiring.{Wiring}
@@ -13,8 +12,7 @@ use Rattle.xdp_world.specs.Frames.{frame_of, owners_of, table_frames}
 use Rattle.xdp_world.specs.Stands.{Stands}
 use Rattle.xdp_world.specs.declared.world.World.{World}
 
--- The wiring of queue n in a world of `queues` queues, whose program has these rows of its maps. It offers no extra, and its frontend takes
--- whole packets alone.
+-- The wiring of queue n in a world of `queues` queues, whose program has these rows of its maps.
 pub record IsFor (accepted : Accepted) (rows : List (Option MapList)) (queues index n : ℕ) (w : Wiring) : Type 0 where
   pub tx : w.vif.tx ≡ frame_of (514 * n)
   pub rx : w.vif.rx ≡ frame_of (514 * n + 1)
@@ -23,8 +21,6 @@ pub record IsFor (accepted : Accepted) (rows : List (Option MapList)) (queues in
   pub granter : w.vif.granter ≡ 1
   pub user : w.vif.user ≡ 0
   pub port : w.vif.port ≡ 2 * n + 1
-  pub offers : w.offers ≡ no_offers
-  pub accepts : w.accepts ≡ record { blank_checksums = false; segments = no_offers }
   pub program : w.program.now ≡ accepted
   pub lists : w.lists.now ≡ rows
   pub ifindex : w.ifindex ≡ index

@@ -5,7 +5,7 @@ import contextlib
 import random
 from typing import Iterator
 
-from .maps import ARRAY, MANY, TRIE, Map, some_map
+from .maps import TRIE, Map, some_map
 
 HEAD = """#include <linux/bpf.h>
 #include <linux/types.h>
@@ -18,30 +18,27 @@ MOST_BYTES, MOST_DEPTH = 150, 2  # that a filter compares, and of its blocks
 
 
 class Filter:
-    """A filter: its text, its maps, and what it has so far. `reached`: how many bytes were compared with the packet's end; `filled`: the names
-    of the hashes to which it adds rows."""
+    """A filter: its text, its maps, and what it has so far. `reached`: how many bytes were compared with the packet's end."""
 
     def __init__(self, seed: int) -> None:
         self.chance = random.Random(seed)
         self.lines, self.indent, self.names, self.reached = [], 1, 0, 0
-        self.variables, self.functions, self.globals, self.filled = [], [], [], set()
+        self.variables, self.functions, self.globals = [], [], []
         is_narrow = self.chance.random() < 0.3
         self.maps = [some_map(self.name("map"), self.chance, is_narrow) for _ in range(self.chance.choice((0, 1, 1, 2, 3)))]
-        self.table = [self.chance.randrange(256) for _ in range(9)]  # of 32 bytes it would lie in .rodata.cst32, which libbpf doesn't read
+        self.table = [self.chance.randrange(256) for _ in range(8)]
         self.compare()
         self.put_some(MOST_DEPTH, self.chance.choice((4, 6, 8, 10)))
 
     @property
     def text(self) -> str:
         declared = "".join(it.declared for it in self.maps) + "".join(self.globals) + "".join(self.functions)
+        table = f"static const __u32 table[8] = {{ {', '.join(map(str, self.table))} }};\n"
         body = "\n".join(self.lines)
-        table, end = "", self.action()
-        if "table[" in declared + body:  # libbpf refuses an object in which no load of a table is left
-            table, end = f"static const __u32 table[] = {{ {', '.join(map(str, self.table))} }};\n", "1 + (table[end - data & 7] & 1)"
         return (
             f'{HEAD}{table}{declared}\nSEC("xdp") int filter(struct xdp_md *ctx)\n{{\n'
             "\tvoid *data = (void *)(long)ctx->data, *end = (void *)(long)ctx->data_end;\n"
-            f'{body}\n\treturn {end};\n}}\nchar copying[] SEC("license") = "GPL";\n'
+            f'{body}\n\treturn {self.action()};\n}}\nchar copying[] SEC("license") = "GPL";\n'
         )
 
     # --- words
@@ -212,59 +209,17 @@ class Filter:
     # --- maps
 
     def count(self) -> None:
-        """A lookup, and what is done with its value; or a value that is pushed, taken, added or taken away."""
+        """A lookup, and what is done with its value."""
         if self.maps:
-            one = self.chance.choice(self.maps)
-            if one.is_queue:
-                self.move(one)
-            elif (one.is_filled or (one.kind == ARRAY and one.entries < MANY)) and self.chance.random() < (0.6 if one.is_filled else 0.2):
-                self.update(one)
-            else:
-                self.look_up(one)
-
-    def look_up(self, one: Map) -> None:
-        key, value = self.name("key"), self.name("value")
-        self.put_key(one, key)
-        self.put(f"struct {one.name}_value *{value} = bpf_map_lookup_elem(&{one.name}, &{key});")
-        with self.block(f"if ({value})"):
-            for _ in range(self.chance.choice((1, 1, 2))):
-                self.touch(value, self.chance.randrange(len(one.numbers)), one)
-
-    def put_value(self, one: Map) -> str:
-        """A value on the stack. Its bytes between the numbers are 0."""
-        value = self.name("value")
-        self.put(f"struct {one.name}_value {value}; __builtin_memset(&{value}, 0, sizeof {value});")
-        for at in range(len(one.numbers)):
-            self.put(f"{value}.n{at} = {self.number(1)};")
-        return value
-
-    def move(self, one: Map) -> None:
-        """A value that is pushed to a queue or a stack, taken or looked at."""
-        name, status = one.name, self.name("status")
-        if self.chance.random() < 0.5:
-            value = self.put_value(one)
-            self.put(f"long {status} = bpf_map_push_elem(&{name}, &{value}, {self.chance.choice(('BPF_ANY', 'BPF_EXIST'))});")
-        else:
-            value = self.name("value")
-            self.put(f"struct {name}_value {value};")
-            self.put(f"long {status} = bpf_map_{self.chance.choice(('pop', 'pop', 'peek'))}_elem(&{name}, &{value});")
-            self.define(f"{value}.n{self.chance.randrange(len(one.numbers))}")
-        self.define(status)
-
-    def update(self, one: Map) -> None:
-        """A value that is added, written over or taken away."""
-        name, key, status = one.name, self.name("key"), self.name("status")
-        self.put_key(one, key)
-        if name in self.filled and self.chance.random() < 0.3:
-            self.put(f"long {status} = bpf_map_delete_elem(&{name}, &{key});")
-        else:
-            self.filled |= {name} if one.is_filled else set()
-            flags = self.chance.choice(("BPF_ANY", "BPF_ANY", "BPF_EXIST", *(() if one.kind == ARRAY else ("BPF_NOEXIST",))))
-            self.put(f"long {status} = bpf_map_update_elem(&{name}, &{key}, &{self.put_value(one)}, {flags});")
-        self.define(status)
+            one, key, value = self.chance.choice(self.maps), self.name("key"), self.name("value")
+            self.put_key(one, key)
+            self.put(f"struct {one.name}_value *{value} = bpf_map_lookup_elem(&{one.name}, &{key});")
+            with self.block(f"if ({value})"):
+                for _ in range(self.chance.choice((1, 1, 2))):
+                    self.touch(value, self.chance.randrange(len(one.numbers)), one)
 
     def put_key(self, one: Map, key: str) -> None:
-        if not one.has_keys:
+        if not one.is_list:
             index = self.chance.choice((str(self.chance.randrange(one.entries)), f"(__u64){self.number(1)} % {one.entries}", self.number(1)))
             self.put(f"__u32 {key} = {index};")
             return

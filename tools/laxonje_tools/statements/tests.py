@@ -256,6 +256,9 @@ def stated_tests(stated) -> Iterator[tuple[str, bool]]:
         fact += "impl Fact {\n    pub fn make() -> Fact { Fact { size: 1 } }\n}\n"
         tree = written(root, {"crates/low/src/lib.rt": pair, "crates/low/src/facts.rt": fact})
         yield "what an invariant alone reaches", [it[-len(stated.STATED) :] for it in stated.findings(tree)] == [stated.STATED]
+        fact = fact.replace("pub struct Fact {\n    size: u32,", "pub struct Fact {\n    inside: Inside,\n}\nstruct Inside {\n    size: u32,")
+        tree = written(root, {"crates/low/src/facts.rt": fact})
+        yield "what one of a type within alone reaches", [it[-len(stated.STATED) :] for it in stated.findings(tree)] == [stated.STATED]
         tree = written(root, {"crates/low/src/lib.rt": FILES["crates/low/src/lib.rt"]})
         (root / "crates/low/src/facts.rt").unlink()
         tree = written(root, {"crates/low/specs/Base.antt": before + "\n" + IMPORTS})
