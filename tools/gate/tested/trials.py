@@ -1,4 +1,5 @@
 """Wrong bodies: what is read of an edit and of what the prover says, and how edits are tried."""
+import argparse
 import contextlib
 import io
 import os
@@ -243,6 +244,22 @@ def trial_tests():
         tried.source.write_text("fn first()\n    ensures { result ≡ three }\n{\n    one\n}\n")
         yield "an edit of a clause", tried.outcomes(tried.edit("three", "four")) == (["BAD"], 0)
         yield "an edit that adds a clause", tried.outcomes(tried.edit("fn first()", "fn first() requires { two }")) == (["BAD"], 0)
+
+
+def choice_tests():
+    """Which edits the gate tries: of must-fail all, or with few jobs a third, other ones for each commit, and a tenth of the others."""
+    edits = script("gate/more-edits")
+    first, others = edits.edits_in("bpf_same", "must-fail"), edits.edits_in("bpf_same", "more-edits")
+    gate = {"all": False, "read": False, "gate": True, "must_fail": False}
+
+    def tried(jobs, number):
+        return edits.chosen("bpf_same", argparse.Namespace(**gate, jobs=jobs), number)[0]
+
+    parts = [[it for it in tried(2, number) if it in first] for number in range(3)]
+    yield "a third with few jobs, and each edit by one of three commits", sorted(sum(parts, [])) == first and all(parts)
+    yield "all with many jobs", all(set(first) <= set(tried(4, number)) for number in range(10))
+    tenths = [it for number in range(10) for it in tried(4, number) if it in others]
+    yield "a tenth of the others, and each by one of ten commits", sorted(tenths) == others
 
 
 def kept_tests():
