@@ -5,8 +5,8 @@ use Rattle.bpf_note.specs.declared.bound.Bound.{Bound}
 use Rattle.bpf_note.specs.State.{put}
 use Rattle.bpf_note.specs.Join.{lesser}
 use Rattle.bpf_note.specs.Parts.{top_in, safe_in, IsNormal}
-use Rattle.bpf_note.specs.Bounds.{IsSet, AreJoined}
-use Rattle.bpf_note.specs.Chunks.{together, IsQuiet, IsChunk, AreChunks, SameChunks, IsSetIn}
+use Rattle.bpf_note.specs.Bounds.{IsSet, AreJoined, IsSetIn}
+use Rattle.bpf_note.specs.Chunks.{together, IsQuiet, IsChunk, AreChunks, SameChunks}
 use Rattle.bpf_note.proofs.BoundLemmas.{same_bounds}
 use Rattle.bpf_note.proofs.PlaceLemmas.{le_cases, past_end}
 use Rattle.bpf_note.proofs.ChunkLemmas.{SaySameOf, view_normal, low_says, high_says}

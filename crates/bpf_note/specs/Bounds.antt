@@ -1,7 +1,7 @@
 -- For proofs: no claim rests on this file.
 -- What is done to lists of bounds.
-use Rattle.std.specs.Prelude.{ℕ, suc, ◌≡◌, List, [], ◌∷◌, ◌++◌, drop, Bool, false, Option, None, Some, max, if◌then◌else◌}
-use Rattle.std.specs.Prelude.{nat_lt, ◌==◌, ◌||◌, not, is_some}
+use Rattle.std.specs.Prelude.{ℕ, suc, ◌/◌, ◌≡◌, ◌≢◌, List, [], ◌∷◌, ◌++◌, drop, Bool, false, Option, None, Some, max, if◌then◌else◌}
+use Rattle.std.specs.Prelude.{nat_lt, ◌==◌, ◌||◌, not, is_some, slice_index_or}
 use Rattle.bpf_note.specs.declared.bound.Bound.{Bound}
 use Rattle.bpf_note.specs.State.{put}
 use Rattle.bpf_note.specs.Join.{lesser}
@@ -55,3 +55,8 @@ paired a b = record { id = a.id; top = max a.top b.top; safe = lesser a.safe b.s
 abbrev pub all_alone : List Bound → List Bound
 all_alone [] = []
 all_alone (b ∷ bs) = with_said (alone b) (all_alone bs)
+
+-- what is said of one id is replaced, in its chunk of 32 ids
+pub record IsSetIn (old : List (List Bound)) (b : Bound) (new : List (List Bound)) : Type 0 where
+  pub here : IsSet (slice_index_or old (b.id / 32) []) b (slice_index_or new (b.id / 32) [])
+  pub others : (k : ℕ) → k ≢ b.id / 32 → slice_index_or old k [] ≡ slice_index_or new k []

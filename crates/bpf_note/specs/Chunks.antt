@@ -1,10 +1,9 @@
--- For proofs: no claim rests on this file.
+-- Stated: claims rest on this file.
 -- Bounds in chunks: chunk k has those of the ids 32 k to 32 k + 31, and past the last chunk there are none. A list beside the
 -- chunks has the bounds of the ids from 4,096 on, which no slot's number is.
-use Rattle.std.specs.Prelude.{ℕ, ◌+◌, ◌*◌, ◌/◌, ◌≡◌, ◌≢◌, ◌<◌, ◌≤◌, List, [], ◌∷◌, ◌++◌, None, length, slice_index_or}
+use Rattle.std.specs.Prelude.{ℕ, ◌+◌, ◌*◌, ◌≡◌, ◌<◌, ◌≤◌, List, [], ◌∷◌, ◌++◌, None, length, slice_index_or}
 use Rattle.bpf_note.specs.declared.bound.Bound.{Bound}
 use Rattle.bpf_note.specs.Parts.{top_in, safe_in, IsNormal}
-use Rattle.bpf_note.specs.Bounds.{IsSet}
 use Rattle.bpf_note.specs.Fingerprint.{fingerprint_of}
 
 -- the chunks, one after another
@@ -37,8 +36,3 @@ SameChunks old new = (k : ℕ) → slice_index_or old k [] ≡ slice_index_or ne
 abbrev pub AlikeChunks : List (List Bound) → List (List Bound) → Type 0
 AlikeChunks xs ys = (k : ℕ) → k < length xs → k < length ys →
     fingerprint_of (slice_index_or xs k []) ≡ fingerprint_of (slice_index_or ys k [])
-
--- what is said of one id is replaced, in its chunk
-pub record IsSetIn (old : List (List Bound)) (b : Bound) (new : List (List Bound)) : Type 0 where
-  pub here : IsSet (slice_index_or old (b.id / 32) []) b (slice_index_or new (b.id / 32) [])
-  pub others : (k : ℕ) → k ≢ b.id / 32 → slice_index_or old k [] ≡ slice_index_or new k []

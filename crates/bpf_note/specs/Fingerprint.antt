@@ -1,4 +1,4 @@
--- For proofs: no claim rests on this file.
+-- Stated: claims rest on this file.
 -- A number of a list of bounds: lists with other numbers differ.
 use Rattle.std.specs.Prelude.{ℕ, ◌+◌, ◌*◌, ◌%◌, ◌^◌, List, [], ◌∷◌, Option, None, Some, fold}
 use Rattle.std.specs.Hash as fed

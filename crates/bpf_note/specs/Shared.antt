@@ -1,4 +1,4 @@
--- For proofs: no claim rests on this file.
+-- Stated: claims rest on this file.
 -- Lists that are shared.
 use Rattle.std.specs.Prelude.{List, [], Option, None, Some}
 

@@ -57,6 +57,15 @@ impl Chunk {
         })
     }
 
+    /// What is known of one id alone.
+    fn only(alloc: Global, new: Bound) -> Result<Chunk, AllocError>
+        ensures { IfOk result (λ s. IsSet [] new s) }
+    {
+        let mut bounds = Vec::with_capacity(alloc, 1)?;
+        set_bound(&mut bounds, new)?;
+        Chunk::of(alloc, bounds)
+    }
+
     /// Another reference to these bounds.
     pub(crate) fn share(&self) -> Result<Chunk, AllocError>
         ensures { IfOk result (λ s. s ≡ self.now) }
@@ -102,20 +111,8 @@ impl Chunk {
         ensures err { OnErr result (self.new ≡ self.old) }
     {
         match &mut self.list {
-            Some(list) => {
-                if Rc::strong_count(list) != 1 {
-                    let own = with_room(alloc, list.as_slice())?;
-                    *list = Rc::new(alloc, own)?;
-                }
-                let bounds = Rc::make_mut(list)?;
-                set_bound(bounds, new)?;
-                self.fingerprint = fingerprint_of(bounds);
-            }
-            None => {
-                let mut bounds = Vec::with_capacity(alloc, 1)?;
-                set_bound(&mut bounds, new)?;
-                *self = Chunk::of(alloc, bounds)?;
-            }
+            Some(list) => self.fingerprint = set_shared(list, alloc, new)?,
+            None => *self = Chunk::only(alloc, new)?,
         }
         Ok(())
     }
@@ -140,4 +137,28 @@ impl Chunk {
         let (own, others) = (self.as_slice(), other.as_slice());
         self.same_as(other) || covers_bounds(own, others)
     }
+}
+
+/// Makes a list that has other owners one with no other, with room for one more. An `Err` changes nothing.
+fn part(list: &mut Rc<Vec<Bound>>, alloc: Global) -> Result<(), AllocError>
+    ensures { list.new.value.items ≡ list.old.value.items }
+{
+    if Rc::strong_count(list) != 1 {
+        let own = with_room(alloc, list.as_slice())?;
+        *list = Rc::new(alloc, own)?;
+    }
+    Ok(())
+}
+
+/// Sets what is known of an id in a list that may have other owners. Gives the new fingerprint. An `Err` changes nothing.
+fn set_shared(list: &mut Rc<Vec<Bound>>, alloc: Global, new: Bound) -> Result<u64, AllocError>
+    requires { IsNormal list.old.value.items }
+    ensures ok { OnOk result (IsSet list.old.value.items new list.new.value.items) }
+    ensures fingerprint { IfOk result (λ f. f ≡ fingerprint_of list.new.value.items) }
+    ensures err { OnErr result (list.new.value.items ≡ list.old.value.items) }
+{
+    part(list, alloc)?;
+    let bounds = Rc::make_mut(list)?;
+    set_bound(bounds, new)?;
+    Ok(fingerprint_of(bounds))
 }

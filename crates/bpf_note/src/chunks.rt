@@ -1,7 +1,7 @@
 //! Bounds in chunks: chunk k has those of the ids 32 k to 32 k + 31, and past the last chunk there are none.
 ghost use Rattle.std.specs.Prelude.{◌≡◌, ◌<◌, ◌≤◌, ◌↔◌, ◌/◌, ℕ, [], max, length, slice_index_or, IfOk, IsTrue, OnOk, OnErr};
-ghost use Rattle.bpf_note.specs.Bounds.{AreJoined};
-ghost use Rattle.bpf_note.specs.Chunks.{IsSetIn, SameChunks, AlikeChunks};
+ghost use Rattle.bpf_note.specs.Bounds.{AreJoined, IsSetIn};
+ghost use Rattle.bpf_note.specs.Chunks.{SameChunks, AlikeChunks};
 ghost use Rattle.bpf_note.specs.Parts.{IsNormal};
 
 use crate::bound::Bound;

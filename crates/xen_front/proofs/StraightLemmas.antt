@@ -1,16 +1,20 @@
 -- Writes one after another, and their accesses.
-use Rattle.std.proofs.Common.{◌≡◌, ℕ, zero, suc, ◌+◌, ◌-◌, ◌*◌, List, [], ◌∷◌, ◌++◌, Option, length, refl, ◌∙◌, ap, arith}
+use Rattle.std.proofs.Common.{◌≡◌, ℕ, zero, suc, ◌+◌, ◌-◌, ◌*◌, List, [], ◌∷◌, ◌++◌, Option, get_or, length, refl, ◌∙◌, ap, arith, subst}
+use Rattle.xen_netif.specs.Slots.{tx_req_words}
+use Rattle.xen_netif.specs.declared.tx.TxReq.{TxReq}
 use Rattle.xen_page.specs.Access.{Performs}
 use Rattle.xen_page.specs.declared.access.Access.{Access}
 use Rattle.xen_page.specs.declared.access.Access.TheVariants as access
+use Rattle.xen_page.specs.declared.place.Place.{Place}
+use Rattle.xen_page.proofs.AccessLemmas.{performs_then}
 use Rattle.xen_steps.specs.Drive.{Any, Bounded, Driven, LedBy, IsPageWant}
 use Rattle.xen_steps.specs.Event.{Event}
 use Rattle.xen_steps.specs.Pages.{PageWrite, write_all, writes}
-use Rattle.xen_steps.specs.Places.{page_word}
+use Rattle.xen_steps.specs.Places.{page_word, tx_entry}
 use Rattle.xen_steps.specs.Steps.{Steps}
 use Rattle.xen_steps.specs.declared.want.Want.TheVariants as want
 use Rattle.xen_steps.proofs.DriveLemmas.{bounded_gone, bounded_le, occurs_write}
-use Rattle.xen_front.specs.Slots.{page_writes, word_at}
+use Rattle.xen_front.specs.Slots.{page_writes, tx_writes, word_at}
 use Rattle.xen_front.specs.Rest.{rest_at}
 use Rattle.xen_front.specs.Short.{IsShort}
 use Rattle.xen_front.specs.Straight.{AreOnBus, touched}
@@ -72,3 +76,24 @@ unfolding IsShort
 short_gone w s p q x y t h g =
     bounded_le (IsPageWant w.frames) Any (rest_at w s p q y) (17000 - length t) 17000
     (bounded_gone (IsPageWant w.frames) Any (rest_at w s p q x) (rest_at w s p q y) t 17000 h g) (omega arith)
+
+-- the three words of a list, written at three places
+three_words : Place → Place → Place → List ℕ → List Access
+three_words p q r ws = access.Write p (get_or ws 0 0) ∷ access.Write q (get_or ws 1 0) ∷ access.Write r (get_or ws 2 0) ∷ []
+
+-- a request's words, written one after another into its entry
+pub performs_request : {S : Type 0} (log : S → Option (List Access)) (gives : S → Access → S → Type 0) (a b c d : S)
+    (p q r : Place) (frame i : ℕ) (ws : List ℕ) (t u : TxReq) →
+    p ≡ tx_entry frame i 0 → q ≡ tx_entry frame i 1 → r ≡ tx_entry frame i 2 → ws ≡ tx_req_words t → t ≡ u →
+    Performs log gives a (access.Write p (get_or ws 0 0) ∷ []) b → Performs log gives b (access.Write q (get_or ws 1 0) ∷ []) c →
+    Performs log gives c (access.Write r (get_or ws 2 0) ∷ []) d → Performs log gives a (touched (tx_writes frame i 0 (tx_req_words u))) d
+unfolding three_words
+performs_request log gives a b c d p q r frame i ws t u first second third words same one two three =
+    let x = tx_entry frame i 0 in
+    let y = tx_entry frame i 1 in
+    let z = tx_entry frame i 2 in
+    let said : three_words p q r ws ≡ three_words x y z (tx_req_words u) =
+    ap (λ n. three_words n q r ws) first ∙ ap (λ n. three_words x n r ws) second ∙ ap (λ n. three_words x y n ws) third ∙ ap (three_words x y z) (words ∙ ap tx_req_words same) in
+    let rest = performs_then log gives b c d (access.Write q (get_or ws 1 0) ∷ []) (access.Write r (get_or ws 2 0) ∷ []) two three in
+    let all = performs_then log gives a b d (access.Write p (get_or ws 0 0) ∷ []) (access.Write q (get_or ws 1 0) ∷ access.Write r (get_or ws 2 0) ∷ []) one rest in
+    subst (λ (l : List Access). Performs log gives a l d) said all
