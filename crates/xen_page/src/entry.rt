@@ -92,6 +92,7 @@ impl Entry {
 
 /// Returns whether `user` may reach the frame of an entry of `granter`'s table with these rights: the frame, which is then the
 /// granter's, or the first fault.
+#[inline(always)]
 pub fn check(
     owners: &Owners,
     granter: u16,
@@ -114,6 +115,7 @@ pub fn check(
     Ok(entry.frame)
 }
 
+#[inline(always)]
 pub(crate) fn is_owner(owners: &Owners, domain: u16, frame: u32) -> bool
     ensures { result ≡ owns owners.now domain frame }
 {

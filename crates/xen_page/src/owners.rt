@@ -110,6 +110,7 @@ impl Owners {
     }
 
     /// The domain that owns the frame, if the frame exists.
+    #[inline(always)]
     pub fn of(&self, frame: u32) -> Option<u16>
         ensures { result ≡ slice_get self.now frame }
     {
