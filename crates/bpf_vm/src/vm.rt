@@ -1,5 +1,5 @@
 //! An interpreter of an accepted program.
-ghost use Rattle.std.specs.Prelude.{◌≡◌, ◌+◌, ◌≤◌, ◌%◌, ◌^◌, [], ℕ, None};
+ghost use Rattle.std.specs.Prelude.{◌≡◌, ◌+◌, ◌<◌, ◌≤◌, ◌%◌, ◌^◌, [], ℕ, None};
 ghost use Rattle.bpf_lists.specs.Find.{find_in};
 ghost use Rattle.bpf_note.specs.State.{State, IsStart};
 ghost use Rattle.bpf_flow.specs.Step.{Exited, step};
@@ -144,6 +144,14 @@ impl<'p, 'b> Vm<'p, 'b> {
         ensures { IsStep (label_of (now self.old) old) self.old self.new }
     {
         self.resume(old);
+    }
+
+    /// A law of every interpreter, empty at run time: it has done fewer instructions than its program does at most.
+    #[inline(always)]
+    pub fn is_bounded(&self)
+        ensures { self.now.count < instructions self.now.program.code }
+    {
+        let _count = self.count;
     }
 
     /// Returns the number of instructions that are done, a wanted exit included.

@@ -34,15 +34,13 @@ pub fn run_counting<'b, T: Tallies>(
             VmWant::Load { m, k, j } => {
                 let number = counters.load(program.shapes(), m, k, j);
                 vm.loaded(number);
-                // Only the proof uses what this call ensures: the bound of the instructions.
-                let _count = vm.count();
+                vm.is_bounded();
                 ops += 1;
             }
             VmWant::Add { m, k, j, delta } => {
                 let old = counters.add(program.shapes(), m, k, j, delta);
                 vm.added(old);
-                // Only the proof uses what this call ensures: the bound of the instructions.
-                let _count = vm.count();
+                vm.is_bounded();
                 ops += 1;
             }
             VmWant::Exit { .. } => return (vm.end(), ops),

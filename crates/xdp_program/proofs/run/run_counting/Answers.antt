@@ -1,7 +1,8 @@
-use Rattle.std.proofs.Common.{◌∙◌, List, subst, sym, arith}
+use Rattle.std.proofs.Common.{◌∙◌, ◌≡◌, ◌<◌, List, subst, sym, arith}
 use Rattle.bpf_note.specs.Shape.{IsCounter, Shape}
 use Rattle.bpf_note.specs.declared.op.Op.TheVariants.{Load, Add}
-use Rattle.bpf_verify.specs.Consistent.{Accepted}
+use Rattle.bpf_verify.specs.Consistent.{Accepted, instructions}
+use Rattle.bpf_vm.proofs.RunLemmas.{few_instructions}
 use Rattle.xdp_program.proofs.RanLemmas.{sofar_advanced, sofar_load, sofar_add, ran_of}
 use Rattle.xdp_program.proofs.run.run_counting.Goals as goal
 
@@ -80,3 +81,21 @@ returns-in-Exit-clause-ran g c =
 
 pub returns-in-Exit-clause-room : goal.returns-in-Exit-clause-room
 returns-in-Exit-clause-room g c = c.end.ensures.room ∙ (c.in-Exit.ensures.advanced.room ∙ c.loop-m.invariant.room)
+
+pub overflow_add-ops : goal.overflow_add-ops
+overflow_add-ops g c =
+    let p = c.args.program.now in
+    let a = c.in-Load.ensures.advanced in
+    let same : c.loaded.new.self.program ≡ p = c.loaded.ensures.program ∙ (a.program ∙ c.loop-m.invariant.sofar.program) in
+    let below : c.loaded.new.self.count < instructions p.code =
+    subst (λ (x : Accepted). c.loaded.new.self.count < instructions x.code) same c.is_bounded.ensures in
+    omega (arith, c.loop-m.invariant.few, a.count, c.loaded.ensures.count, below, few_instructions p.code, c.shapes.ensures.consistent.laid_out.short)
+
+pub overflow_add-ops-in-Add : goal.overflow_add-ops-in-Add
+overflow_add-ops-in-Add g c =
+    let p = c.args.program.now in
+    let a = c.in-Add.ensures.advanced in
+    let same : c.added.new.self.program ≡ p = c.added.ensures.program ∙ (a.program ∙ c.loop-m.invariant.sofar.program) in
+    let below : c.added.new.self.count < instructions p.code =
+    subst (λ (x : Accepted). c.added.new.self.count < instructions x.code) same c.is_bounded-in-Add.ensures in
+    omega (arith, c.loop-m.invariant.few, a.count, c.added.ensures.count, below, few_instructions p.code, c.shapes-in-Add.ensures.consistent.laid_out.short)
