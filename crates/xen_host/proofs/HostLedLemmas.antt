@@ -1,6 +1,6 @@
 -- What a host was asked leads from a computation: one ask, an ask before others, and asks after which nothing is asked yet.
 use Rattle.std.proofs.Common.{◌≡◌, ℕ, ◌⊎◌, inl, inr, true, false, List, [], ◌∷◌, ◌++◌, refl, sym, ap, ◌∙◌, subst, append_assoc, append-nil}
-use Rattle.xen_host.specs.declared.offload.Offload.{Offload}
+use Rattle.xen_host.specs.Offload.{Offload}
 use Rattle.xen_steps.specs.Drive.{LedBy}
 use Rattle.xen_steps.specs.Event.{Event}
 use Rattle.xen_steps.specs.Steps.{Steps}
@@ -59,6 +59,11 @@ asks_before was full ends offload from between new host mid host_after a words a
 pub asked_from : {H A : Type 0} (was : H → Ask → List ℕ → H → Type 0) (full : H → Type 0) (ends : Ask → Steps A → Type 0) (offload : Offload) (from same : Steps A) (new : EngineAt) (host host_after : H) →
     same ≡ from → HostLed was full ends offload same new host host_after → HostLed was full ends offload from new host host_after
 asked_from was full ends offload from same new host host_after e h = subst (λ x. HostLed was full ends offload x new host host_after) e h
+
+-- With the same left undone.
+pub asked_with : {H A : Type 0} (was : H → Ask → List ℕ → H → Type 0) (full : H → Type 0) (ends : Ask → Steps A → Type 0) (same offload : Offload) (from : Steps A) (new : EngineAt) (host host_after : H) →
+    same ≡ offload → HostLed was full ends same from new host host_after → HostLed was full ends offload from new host host_after
+asked_with was full ends same offload from new host host_after e h = subst (λ x. HostLed was full ends x from new host host_after) e h
 
 -- ---- several asks that take no answer and no words
 

@@ -1,7 +1,7 @@
 -- C's host: what it was asked stands in its ops.
 use Rattle.std.proofs.Common.{◌≡◌, ℕ, zero, suc, ◌+◌, ◌<◌, ◌≤◌, ◌⊎◌, inl, inr, true, false, Option, None, Some, List, [], ◌∷◌, ◌++◌, length, take, drop, map, refl, sym, ap, ◌∙◌, subst, append_assoc, append-nil, length-append, length-drop, arith}
 use Rattle.std.proofs.lemmas.List.{length-take}
-use Rattle.xen_host.specs.declared.offload.Offload.{Offload}
+use Rattle.xen_host.specs.Offload.{Offload}
 use Rattle.xen_netif.specs.declared.segments.Offers.{Offers}
 use Rattle.xen_steps.specs.Event.{Event, Read}
 use Rattle.xen_page.specs.declared.place.Place.{Place}

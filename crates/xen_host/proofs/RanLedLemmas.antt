@@ -2,7 +2,7 @@
 use Rattle.std.proofs.Common.{◌≡◌, ℕ, List, [], refl, subst}
 use Rattle.std.specs.Prelude.{Option}
 use Rattle.bpf_note.specs.declared.op.Op.{Op}
-use Rattle.xen_host.specs.declared.offload.Offload.{Offload}
+use Rattle.xen_host.specs.Offload.{Offload}
 use Rattle.xen_steps.specs.Steps.{Steps}
 use Rattle.xen_turns.specs.Turned.{Ending}
 use Rattle.xen_host.specs.Asks.{Ask}

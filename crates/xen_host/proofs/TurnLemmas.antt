@@ -2,7 +2,7 @@
 use Rattle.std.proofs.Common.{◌≡◌, ℕ, List, [], ◌∷◌, ◌++◌, length, map, sym, ap, ◌∙◌, subst, Bool}
 use Rattle.std.specs.Prelude.{Option, Some, None}
 use Rattle.bpf_note.specs.declared.op.Op.{Op as Operation}
-use Rattle.xen_host.specs.declared.offload.Offload.{Offload}
+use Rattle.xen_host.specs.Offload.{Offload}
 use Rattle.xen_netif.specs.declared.offload.RxOffload.{RxOffload}
 use Rattle.xen_steps.specs.Drive.{LedBy}
 use Rattle.xen_steps.specs.Event.{Event}

@@ -2,7 +2,7 @@
 -- An engine with what is lent to its functions: its wiring, and the room of its packet.
 use Rattle.std.specs.Prelude.{ℕ, List}
 use Rattle.xen_netif.specs.Chain.{Slot}
-use Rattle.xen_host.specs.declared.offload.Offload.{Offload}
+use Rattle.xen_host.specs.Offload.{Offload}
 use Rattle.xen_netif.specs.declared.fragment.Fragment.{Fragment}
 use Rattle.xen_netif.specs.declared.offload.RxOffload.{RxOffload}
 use Rattle.xen_rx_fill.specs.declared.target.Target.{Target}

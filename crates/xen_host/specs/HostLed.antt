@@ -5,7 +5,7 @@ use Rattle.bpf_note.specs.declared.op.Op.{Op}
 use Rattle.xen_netif.specs.Chain.{Slot}
 use Rattle.xen_netif.specs.Copy.{bytes_from}
 use Rattle.xen_netif.specs.declared.fragment.Fragment.{Fragment}
-use Rattle.xen_host.specs.declared.offload.Offload.{Offload}
+use Rattle.xen_host.specs.Offload.{Offload}
 use Rattle.xen_netif.specs.declared.offload.RxOffload.{RxOffload}
 use Rattle.xen_netif.specs.declared.status.Status.{Status}
 use Rattle.xen_page.specs.declared.place.Place.{Place}

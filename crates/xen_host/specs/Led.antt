@@ -2,7 +2,7 @@
 -- Where what is asked leads to: what is under way goes on at an engine's stage, or is over.
 use Rattle.std.specs.Prelude.{ℕ, ◌≡◌, Bool, true, false, List, []}
 use Rattle.xen_netif.specs.Chain.{Slot}
-use Rattle.xen_host.specs.declared.offload.Offload.{Offload}
+use Rattle.xen_host.specs.Offload.{Offload}
 use Rattle.xen_steps.specs.Steps.{Steps, done}
 use Rattle.xen_turns.specs.Deliveries.{Arrival}
 use Rattle.xen_turns.specs.Turned.{Ending, turned}

@@ -11,7 +11,7 @@ ghost use Rattle.xen_host.specs.UnderWay.{resting_at};
 
 use crate::engine::Engine;
 use crate::host::Host;
-use crate::offload::NO_OFFLOAD;
+use crate::offload::Offload;
 use crate::room::Room;
 use crate::stage::Stage;
 use crate::wires::Wires;
@@ -28,7 +28,7 @@ impl Engine {
         Engine {
             state,
             stage: Stage::Ready,
-            offload: NO_OFFLOAD,
+            offload: Offload::none(),
             work: Work::none(),
         }
     }

@@ -16,7 +16,7 @@ use xen_netif::{
 };
 
 /// In which form the slots are held.
-#[derive(Clone, Copy, Debug, PartialEq, Eq)]
+#[derive(Clone, Copy)]
 pub enum SlotForm {
     /// There are none.
     Empty,
@@ -50,7 +50,7 @@ impl Model for Slots {
 /// Puts a fragment that is all into the room for fragments. If one was before it is replaced, without a call that
 /// clears the room.
 #[inline(always)]
-fn put_alone(room: &mut ArrayVec<Fragment, 18>, fragment: Fragment)
+pub(crate) fn put_alone(room: &mut ArrayVec<Fragment, 18>, fragment: Fragment)
     ensures { room.new.items ≡ fragment ∷ [] }
 {
     if room.len() == 1 {
@@ -161,6 +161,18 @@ impl Slots {
         pushed
     }
 
+    /// Holds the slot of these three words, which is a whole chain, in place of none.
+    #[inline(always)]
+    pub(crate) fn hold(&mut self, words: [u32; 3])
+        requires plain { extra_info words ≡ false }
+        requires alone { more_data words ≡ false }
+        ensures { self.new ≡ words ∷ [] }
+    {
+        self.single = words;
+        self.form = SlotForm::Single;
+        self.count = 1;
+    }
+
     /// Adds the slot of these three words, and says what is wanted next, as [`Chain::push`] does.
     #[inline(always)]
     pub fn push(&mut self, words: [u32; 3]) -> Result<ChainState, ChainFault>
@@ -172,9 +184,7 @@ impl Slots {
         match self.form {
             SlotForm::Empty => {
                 if is_alone(words) {
-                    self.single = words;
-                    self.form = SlotForm::Single;
-                    self.count = 1;
+                    self.hold(words);
                     Ok(ChainState::Complete)
                 } else {
                     self.push_first(words)

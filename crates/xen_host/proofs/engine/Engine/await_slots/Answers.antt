@@ -45,60 +45,8 @@ step_until_over-requires g c =
     let task = wait pages (packet_at old) in
     record { goes = going log gives size did serves task s w bus before 3 e after host d (λ n new end host_after x. let k = wait_short log gives size did c.waits_are_rests.ensures.rests s pages (packet_at old) w bus before n new end host_after x in omega (arith, k)) c.requires.serving }
 
-pub returns-clause-stands : goal.returns-clause-stands
-returns-clause-stands g c =
-    let log = g.B.Bus.log in
-    let gives = g.B.Bus.access_gives in
-    let size = g.B.Bus.size in
-    let w = g.W.Wires.wiring c.args.wires.now in
-    let did = g.T.Tallies.did w.program.now.shapes in
-    let old = engine_at w (g.R.Room.held c.args.packet.now) c.args.self.now in
-    let s = old.state in
-    let bus = c.args.bus.now in
-    let before = c.args.counters.now in
-    let made = c.new-host.result in
-    let sized = ap size c.new-host.ensures.bus ∙ c.requires.size in
-    let pages = c.args.pages in
-    let mid = engine_at w (g.R.Room.held c.args.packet.now) c.begin_wait.new.self in
-    let e = engine_at w (g.R.Room.held c.step_over.new.packet) c.step_over.new.self in
-    let host = c.step_over.new.host in
-    let after = c.step_over.new.counters in
-    let d = wait_begun log gives size did old mid e pages bus before after made host sized c.new-host.ensures.over c.new-host.ensures.bus (c.begin_wait.ensures.begun w (g.R.Room.held c.args.packet.now) c.requires.rests) c.step_over.ensures.stands c.step_over.ensures.stepped in
-    let task = wait pages (packet_at old) in
-    let x = c.step_until_over.ensures.gone in
-    let end = engine_at w (g.R.Room.held c.step_until_over.new.packet) c.step_until_over.new.self in
-    let r = gone_then log gives size did task s w bus before x.0 e end after c.step_until_over.new.counters host c.step_until_over.new.host d x.1 in
-    r.stands
-
-pub returns-clause-size : goal.returns-clause-size
-returns-clause-size g c =
-    let log = g.B.Bus.log in
-    let gives = g.B.Bus.access_gives in
-    let size = g.B.Bus.size in
-    let w = g.W.Wires.wiring c.args.wires.now in
-    let did = g.T.Tallies.did w.program.now.shapes in
-    let old = engine_at w (g.R.Room.held c.args.packet.now) c.args.self.now in
-    let s = old.state in
-    let bus = c.args.bus.now in
-    let before = c.args.counters.now in
-    let made = c.new-host.result in
-    let sized = ap size c.new-host.ensures.bus ∙ c.requires.size in
-    let pages = c.args.pages in
-    let mid = engine_at w (g.R.Room.held c.args.packet.now) c.begin_wait.new.self in
-    let e = engine_at w (g.R.Room.held c.step_over.new.packet) c.step_over.new.self in
-    let host = c.step_over.new.host in
-    let after = c.step_over.new.counters in
-    let d = wait_begun log gives size did old mid e pages bus before after made host sized c.new-host.ensures.over c.new-host.ensures.bus (c.begin_wait.ensures.begun w (g.R.Room.held c.args.packet.now) c.requires.rests) c.step_over.ensures.stands c.step_over.ensures.stepped in
-    let task = wait pages (packet_at old) in
-    let x = c.step_until_over.ensures.gone in
-    let end = engine_at w (g.R.Room.held c.step_until_over.new.packet) c.step_until_over.new.self in
-    let r = gone_then log gives size did task s w bus before x.0 e end after c.step_until_over.new.counters host c.step_until_over.new.host d x.1 in
-    -- the bus was lent to the host until here
-    let same = c.bus-1.given.1 (sym (c.step_until_over.ensures.loan ∙ c.step_over.ensures.loan ∙ c.new-host.ensures.loan)) in
-    ap size same ∙ r.sized ∙ sym c.requires.size
-
-pub returns-clause-awaited : goal.returns-clause-awaited
-returns-clause-awaited g c =
+pub returns : goal.returns
+returns g c =
     let log = g.B.Bus.log in
     let gives = g.B.Bus.access_gives in
     let size = g.B.Bus.size in
@@ -124,7 +72,11 @@ returns-clause-awaited g c =
     -- the bus was lent to the host until here
     let same = c.bus-1.given.1 (sym (c.step_until_over.ensures.loan ∙ c.step_over.ensures.loan ∙ c.new-host.ensures.loan)) in
     let is : c.in-Wait.awaited ≡ m.0 = cc (sym (ap (λ (o : Over). ask_of o) c.in-Wait.is) ∙ m.1) in
-    subst (λ b. HasAwaitedAt log gives old end pages c.in-Wait.awaited bus b before c.step_until_over.new.counters) (sym same) (subst (λ k. HasAwaitedAt log gives old end pages k bus c.step_until_over.new.host.bus.now before c.step_until_over.new.counters) (sym is) m.2)
+    record {
+      stands = r.stands;
+      size = ap size same ∙ r.sized ∙ sym c.requires.size;
+      awaited = subst (λ b. HasAwaitedAt log gives old end pages c.in-Wait.awaited bus b before c.step_until_over.new.counters) (sym same) (subst (λ k. HasAwaitedAt log gives old end pages k bus c.step_until_over.new.host.bus.now before c.step_until_over.new.counters) (sym is) m.2);
+    }
 
 pub unreachable-requires : goal.unreachable-requires
 unreachable-requires g c =

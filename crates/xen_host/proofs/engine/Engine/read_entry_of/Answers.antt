@@ -3,7 +3,6 @@ use Rattle.std.specs.Prelude.{Option, Some}
 use Rattle.xen_steps.specs.Steps.{bind}
 use Rattle.xen_host.specs.Asks as ask
 use Rattle.xen_host.proofs.HostLedLemmas.{asked_from, asks_one}
-use Rattle.xen_netif.specs.declared.fragment.Fragment.{Fragment}
 use Rattle.xen_page.specs.Table.{entry_place}
 use Rattle.xen_page.specs.declared.place.Place.{Place}
 use Rattle.xen_page.specs.declared.entry.Rights.TheVariants.{ReadOnly}
@@ -11,7 +10,7 @@ use Rattle.xen_rx_fill.specs.Entries.{entry_at}
 use Rattle.xen_turns.specs.Rest.{fragment_at}
 use Rattle.xen_turns.specs.Tree.{after_copy, copy, entered}
 use Rattle.xen_host.specs.EngineAt.{engine_at}
-use Rattle.xen_host.proofs.engine.Engine.read_entry.Goals as goal
+use Rattle.xen_host.proofs.engine.Engine.read_entry_of.Goals as goal
 
 pub returns-in-None : goal.returns-in-None
 returns-in-None g c =
@@ -21,7 +20,7 @@ returns-in-None g c =
           let w = q.wires in
           let b = q.work in
           let f = fragment_at b.fragments c.args.i in
-          let there = sym (ap (λ (x : Fragment). entry_place w.vif.table.now x.gref) c.fragment-gref.ensures) ∙ sym c.place.ensures ∙ c.in-None.is in
+          let there = sym (ap (entry_place w.vif.table.now) c.requires.its) ∙ sym c.place.ensures ∙ c.in-None.is in
           let same = ap (λ (o : Option Place). bind (bind (entry_at w.vif ReadOnly o) (entered f (copy w (drop (c.args.i + 1) b.fragments)) b.packet)) (after_copy w q.state b.chain)) there in
           asked_from _ _ _ _ _ _ _ _ _ (sym same) (c.refuse.ensures.led q.work.packet);
     }
@@ -35,8 +34,8 @@ returns-in-Some g c =
           let b = q.work in
           let at = c.in-Some.at in
           let f = fragment_at b.fragments c.args.i in
-          let there = sym (ap (λ (x : Fragment). entry_place w.vif.table.now x.gref) c.fragment-gref.ensures) ∙ sym c.place.ensures ∙ c.in-Some.is in
+          let there = sym (ap (entry_place w.vif.table.now) c.requires.its) ∙ sym c.place.ensures ∙ c.in-Some.is in
           let same = ap (λ (o : Option Place). bind (bind (entry_at w.vif ReadOnly o) (entered f (copy w (drop (c.args.i + 1) b.fragments)) b.packet)) (after_copy w q.state b.chain)) there in
           let left = bind (bind (entry_at w.vif ReadOnly (Some at)) (entered f (copy w (drop (c.args.i + 1) b.fragments)) b.packet)) (after_copy w q.state b.chain) in
-          asks_one _ _ _ _ _ left _ _ _ (ask.Entry at c.fragment-gref.result.gref ReadOnly) _ c.read_entry.ensures refl refl tt same (record { is_rest = refl; waits = (refl, (refl, λ a. (refl, λ d. tt))); is_here = refl; told = (sym c.place.ensures ∙ c.in-Some.is, refl) }) refl (c.requires.few, c.requires.within, copies);
+          asks_one _ _ _ _ _ left _ _ _ (ask.Entry at c.args.gref ReadOnly) _ c.read_entry.ensures refl refl tt same (record { is_rest = refl; waits = (refl, (refl, λ a. (refl, λ d. tt))); is_here = refl; told = (sym c.place.ensures ∙ c.in-Some.is, refl) }) refl (c.requires.few, c.requires.within, copies);
     }
