@@ -468,8 +468,12 @@ struct laxonje_verdict laxonje_again(struct laxonje_program *program, struct lax
 
 /* Runs a program on a packet where it lies. Its counters are the first words of `counters`. Nothing is run, and nothing
  * changes, with no program, with fewer words than laxonje_counters says, or with more than LAXONJE_PACKET bytes. */
-struct laxonje_result laxonje_run(struct laxonje_program *program, uint64_t *counters, size_t counter_count,
-                               uint8_t *packet, size_t packet_bytes, uint32_t ifindex, uint32_t queue);
+static inline struct laxonje_result laxonje_run(struct laxonje_program *program, uint64_t *counters, size_t counter_count,
+                                                uint8_t *packet, size_t packet_bytes, uint32_t ifindex, uint32_t queue);
+
+/* The same with the result in `out`, whatever stood there. With a null `out` nothing is run. */
+void laxonje_run_into(struct laxonje_program *program, uint64_t *counters, size_t counter_count, uint8_t *packet, size_t packet_bytes,
+                      uint32_t ifindex, uint32_t queue, struct laxonje_result *out);
 
 /* Runs a program on the packets of a batch, one after another where they lie, and writes a result for each. How many that
  * are: the fewer of `packet_count` and `result_count`, and 0 with no program. A packet that doesn't lie in the bytes, or
@@ -663,6 +667,14 @@ static inline void laxonje_program_delete(struct laxonje_program **program)
 	laxonje_free(*program);
 	free(*program);
 	*program = NULL;
+}
+
+static inline struct laxonje_result laxonje_run(struct laxonje_program *program, uint64_t *counters, size_t counter_count,
+                                                uint8_t *packet, size_t packet_bytes, uint32_t ifindex, uint32_t queue)
+{
+	struct laxonje_result out;
+	laxonje_run_into(program, counters, counter_count, packet, packet_bytes, ifindex, queue, &out);
+	return out;
 }
 
 static inline size_t laxonje_clock(struct laxonje_program *program)

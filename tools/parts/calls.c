@@ -12,7 +12,7 @@ HELD(laxonje_load_settings);
 HELD(laxonje_load_object);
 HELD(laxonje_again);
 HELD(laxonje_free);
-HELD(laxonje_run);
+HELD(laxonje_run_into);
 HELD(laxonje_run_batch);
 HELD(laxonje_counters);
 HELD(laxonje_place);
@@ -80,11 +80,14 @@ void laxonje_free(struct laxonje_program *program)
 		held_laxonje_free(program);
 }
 
-struct laxonje_result laxonje_run(struct laxonje_program *program, uint64_t *counters, size_t counter_count, uint8_t *packet,
-                                  size_t packet_bytes, uint32_t ifindex, uint32_t queue)
+void laxonje_run_into(struct laxonje_program *program, uint64_t *counters, size_t counter_count, uint8_t *packet, size_t packet_bytes,
+                      uint32_t ifindex, uint32_t queue, struct laxonje_result *out)
 {
 	static const struct laxonje_result nothing = { 0, LAXONJE_ABORTED, 0 };
-	return program ? held_laxonje_run(program, counters, counter_count, packet, packet_bytes, ifindex, queue) : nothing;
+	if (program && out)
+		held_laxonje_run_into(program, counters, counter_count, packet, packet_bytes, ifindex, queue, out);
+	else if (out)
+		*out = nothing;
 }
 
 size_t laxonje_run_batch(struct laxonje_program *program, uint64_t *counters, size_t counter_count, uint8_t *bytes, size_t byte_count,

@@ -2,6 +2,7 @@
  * ctypes does. tools/parts/pack-host compiles this into each archive. To a host in C the headers' own come first. */
 #define laxonje_program_new inline_program_new
 #define laxonje_program_delete inline_program_delete
+#define laxonje_run inline_run
 #define laxonje_clock inline_clock
 #define laxonje_runs_alone inline_runs_alone
 #define laxonje_queue_new inline_queue_new
@@ -24,6 +25,7 @@
 #include <laxonje_drive.h>
 #undef laxonje_program_new
 #undef laxonje_program_delete
+#undef laxonje_run
 #undef laxonje_clock
 #undef laxonje_runs_alone
 #undef laxonje_queue_new
@@ -47,6 +49,7 @@
 /* Each has the type of the header's own. */
 extern __typeof__(inline_program_new) laxonje_program_new;
 extern __typeof__(inline_program_delete) laxonje_program_delete;
+extern __typeof__(inline_run) laxonje_run;
 extern __typeof__(inline_clock) laxonje_clock;
 extern __typeof__(inline_runs_alone) laxonje_runs_alone;
 extern __typeof__(inline_queue_new) laxonje_queue_new;
@@ -75,6 +78,12 @@ struct laxonje_program *laxonje_program_new(void)
 void laxonje_program_delete(struct laxonje_program **program)
 {
 	inline_program_delete(program);
+}
+
+struct laxonje_result laxonje_run(struct laxonje_program *program, uint64_t *counters, size_t counter_count, uint8_t *packet,
+                                  size_t packet_bytes, uint32_t ifindex, uint32_t queue)
+{
+	return inline_run(program, counters, counter_count, packet, packet_bytes, ifindex, queue);
 }
 
 size_t laxonje_clock(struct laxonje_program *program)

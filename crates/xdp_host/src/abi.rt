@@ -12,7 +12,7 @@ use xdp_program::{RelistFault, Run};
 
 /// The size of a map.
 #[repr(C)]
-#[derive(Clone, Copy, Debug, PartialEq, Eq, Drop)]
+#[derive(Clone, Copy, Drop)]
 pub struct XdpMap {
     pub entries: u32,
     pub counters: u32,
@@ -21,7 +21,7 @@ pub struct XdpMap {
 /// The verdict on a program or on its lists: the header says what the numbers mean. None is made but of a fault, or of a program's
 /// number of instructions.
 #[repr(C)]
-#[derive(Clone, Copy, Debug, PartialEq, Eq, Drop)]
+#[derive(Clone, Copy, Drop)]
 pub struct XdpVerdict {
     kind: u32,
     cause: u32,
@@ -98,7 +98,7 @@ impl From<ObjectFault> for XdpVerdict {
 
 /// The end of a run. Nothing was run if no instruction was done.
 #[repr(C)]
-#[derive(Clone, Copy, Debug, PartialEq, Eq, Drop)]
+#[derive(Clone, Copy, Drop)]
 pub struct XdpRun {
     pub number: u32,
     pub action: u32,

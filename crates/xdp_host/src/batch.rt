@@ -7,7 +7,7 @@ use crate::loaded_program::LoadedProgram;
 
 /// A packet of a batch: `length` of its bytes, from `start` on.
 #[repr(C)]
-#[derive(Clone, Copy, Debug, PartialEq, Eq, Drop)]
+#[derive(Clone, Copy, Drop)]
 pub struct XdpPacket {
     pub start: usize,
     pub length: usize,

@@ -4,7 +4,7 @@ use std::alloc::{AllocError, AllocFailed};
 use xdp_program::TextFault;
 
 /// The reason why there is no program.
-#[derive(Clone, Copy, Debug, PartialEq, Eq, Drop)]
+#[derive(Clone, Copy, Drop)]
 pub enum Fault {
     /// The decoder or the verifier refuses it. Out of memory is V0.
     Refused(Refusal),

@@ -74,7 +74,7 @@ pub use queue_fault::QueueFault;
 pub use queue_handle::{XdpQueue, queues_cross_threads};
 pub use queue_waits::{laxonje_queue_await, laxonje_queue_counters, laxonje_queue_flags};
 pub use relisting::{laxonje_queue_relist, laxonje_relist};
-pub use runs::{laxonje_counters, laxonje_place, laxonje_run, laxonje_run_batch};
+pub use runs::{laxonje_counters, laxonje_place, laxonje_run_batch, laxonje_run_into};
 pub use segment_calls::{
     laxonje_queue_offer, laxonje_queue_segment_size, laxonje_queue_segment_type,
 };

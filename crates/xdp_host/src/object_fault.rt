@@ -3,7 +3,7 @@ use crate::fault::Fault;
 use xdp_object::SetupFault;
 
 /// The reason why an object's function is no program here.
-#[derive(Clone, Copy, Debug, PartialEq, Eq, Drop)]
+#[derive(Clone, Copy, Drop)]
 pub enum ObjectFault {
     /// The object has no setup of the function.
     Setup(SetupFault),

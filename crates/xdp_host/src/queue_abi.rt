@@ -8,7 +8,7 @@ use xen_host::{Begin, State};
 /// The parts of a queue beside its lists: the frames of its rings, two domains, a port, what the program is told, and the indices
 /// at which the rings are gone on with.
 #[repr(C)]
-#[derive(Clone, Copy, Debug, PartialEq, Eq, Drop)]
+#[derive(Clone, Copy, Drop)]
 pub struct XdpQueueDesc {
     pub tx: u32,
     pub rx: u32,
@@ -23,7 +23,7 @@ pub struct XdpQueueDesc {
 
 /// The state of a queue between two turns.
 #[repr(C)]
-#[derive(Clone, Copy, Debug, PartialEq, Eq, Drop)]
+#[derive(Clone, Copy, Drop)]
 pub struct XdpQueueState {
     pub kind: u32,
     pub tx_index: u32,

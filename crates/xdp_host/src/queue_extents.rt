@@ -15,7 +15,7 @@ use xen_host::{Extent, FrameOwners, Lists, MakeFault, Program, Queue};
 
 /// `frames` frames, one after another, which one domain owns. `include/laxonje.h` has this struct in the same order.
 #[repr(C)]
-#[derive(Clone, Copy, Debug, PartialEq, Eq, Drop)]
+#[derive(Clone, Copy, Drop)]
 pub struct XdpExtent {
     pub frames: u32,
     pub domain: u16,

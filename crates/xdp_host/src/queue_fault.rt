@@ -8,7 +8,7 @@ use xen_host::MakeFault;
 pub const MADE: u32 = 0;
 
 /// The reason why no queue was made.
-#[derive(Clone, Copy, Debug, PartialEq, Eq, Drop)]
+#[derive(Clone, Copy, Drop)]
 pub enum QueueFault {
     /// Memory ran out, or a part is wrong.
     Make(MakeFault),

@@ -12,33 +12,34 @@ use crate::abi::XdpRun;
 use crate::batch::{XdpPacket, run_each};
 use crate::handle::XdpProgram;
 
-/// Runs a program on a packet where it lies. With no program, too few words or a packet of more than 65,535 bytes nothing
-/// is run and nothing changes.
+/// Runs a program on a packet where it lies, and says how in `out`, whatever stood there: a result that is returned would pass through a
+/// further call. With no program, too few words or a packet of more than 65,535 bytes nothing is run and nothing else changes.
 #[unsafe(no_mangle)]
-pub extern "C" fn laxonje_run(
+pub extern "C" fn laxonje_run_into(
     program: &mut XdpProgram,
     counters: &mut [u64],
     packet: &mut [u8],
     ifindex: u32,
     queue: u32,
-) -> XdpRun
+    out: &mut XdpRun,
+)
     ensures kept { program.new.slot.held ≡ program.old.slot.held }
     ensures made { IfSome program.old.slot.held (λ h. IsMade h.program.shapes counters.old packet.old →
-        Ran h.program h.lists packet.old ifindex queue counters.old result.number packet.new counters.new result.instructions) }
-    ensures action { result.action ≡ action_number (action_of result.number) }
+        Ran h.program h.lists packet.old ifindex queue counters.old out.new.number packet.new counters.new out.new.instructions) }
+    ensures action { out.new.action ≡ action_number (action_of out.new.number) }
     ensures unmade { IfSome program.old.slot.held (λ h. IsUnmade h.program.shapes counters.old packet.old →
-        IsNotRun result packet.old packet.new counters.old counters.new) }
-    ensures none { IfNone program.old.slot.held (IsNotRun result packet.old packet.new counters.old counters.new) }
+        IsNotRun out.new packet.old packet.new counters.old counters.new) }
+    ensures none { IfNone program.old.slot.held (IsNotRun out.new packet.old packet.new counters.old counters.new) }
     ensures words { length counters.new ≡ length counters.old }
 {
-    match program.held_mut() {
+    *out = match program.held_mut() {
         Some(held) => XdpRun::from(held.run(counters, packet, ifindex, queue)),
         None => XdpRun::nothing(),
-    }
+    };
 }
 
 /// Runs a program on the packets of a batch, one after another where they lie, as far as there are results. How many
-/// that are: with no program, none. A packet that doesn't lie in the bytes, or that [`laxonje_run`] wouldn't run, has the
+/// that are: with no program, none. A packet that doesn't lie in the bytes, or that [`laxonje_run_into`] wouldn't run, has the
 /// result of no run.
 #[unsafe(no_mangle)]
 pub extern "C" fn laxonje_run_batch(

@@ -356,10 +356,10 @@ extern "C" {
         object: *const u8, object_bytes: usize, function: *const u8, function_bytes: usize, out: *mut laxonje_program,
     ) -> laxonje_verdict;
     pub fn laxonje_again(program: *mut laxonje_program, out: *mut laxonje_program) -> laxonje_verdict;
-    pub fn laxonje_run(
-        program: *mut laxonje_program, counters: *mut u64, counter_count: usize, packet: *mut u8, packet_bytes: usize, ifindex: u32,
-        queue: u32,
-    ) -> laxonje_result;
+    pub fn laxonje_run_into(
+        program: *mut laxonje_program, counters: *mut u64, counter_count: usize, packet: *mut u8, packet_bytes: usize, ifindex: u32, queue: u32,
+        out: *mut laxonje_result,
+    );
     pub fn laxonje_run_batch(
         program: *mut laxonje_program, counters: *mut u64, counter_count: usize, bytes: *mut u8, byte_count: usize,
         packets: *const laxonje_packet, packet_count: usize, results: *mut laxonje_result, result_count: usize, ifindex: u32, queue: u32,

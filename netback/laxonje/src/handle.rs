@@ -84,9 +84,10 @@ impl ProgramHandle {
     }
 
     pub fn run(&mut self, counters: &mut [u64], packet: &mut [u8], ifindex: u32, queue: u32) -> sys::laxonje_result {
-        let (words, bytes) = (counters.len(), packet.len());
+        let (words, bytes, mut out) = (counters.len(), packet.len(), sys::laxonje_result::default());
         // SAFETY: the module's reason.
-        unsafe { sys::laxonje_run(self.own(), counters.as_mut_ptr(), words, packet.as_mut_ptr(), bytes, ifindex, queue) }
+        unsafe { sys::laxonje_run_into(self.own(), counters.as_mut_ptr(), words, packet.as_mut_ptr(), bytes, ifindex, queue, &mut out) };
+        out
     }
 
     /// Runs the packets of a batch. Returns the number of outcomes.
