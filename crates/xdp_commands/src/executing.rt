@@ -35,7 +35,7 @@ pub fn execute<'b>(
 }
 
 /// The size of an accepted program.
-#[derive(Clone, Copy, Debug, PartialEq, Eq)]
+#[derive(Clone, Copy)]
 pub struct Accepted {
     pub instructions: u32,
     pub slots: u32,

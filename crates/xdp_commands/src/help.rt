@@ -5,7 +5,7 @@ ghost use Rattle.xdp_commands.specs.Help.{help_lines, version_line};
 use std::alloc::{AllocError, Global};
 
 /// A topic of help.
-#[derive(Clone, Copy, Debug, PartialEq, Eq)]
+#[derive(Clone, Copy)]
 pub enum Topic {
     /// All commands.
     Commands,
