@@ -23,7 +23,8 @@ def sentence_tests():
     yield "a line of an item with four blanks before it", len(list(found(f"- An item\n    {words}.\n"))) == 1
     yield "code with four blanks before it", not list(found(f"Text.\n\n    {words}\n    {words}\n\nText.\n"))
     yield "two sentences, a list and code", not list(found(f"{'word ' * 20}. {'Word ' * 20}.\n- {'word ' * 20}\n- {'word ' * 20}\n\n```text\n{words}\n```\n"))
-    yield "a table, and a link's address", not list(found(f"| {words} |\n\nA [page]({words.strip()}) is short.\n"))
+    yield "a cell that is too long", len(list(found(f"| a | {words}|\n|---|---|\n| {'word ' * 20} | {'word ' * 20} |\n"))) == 1
+    yield "a link's address", not list(found(f"A [page]({words.strip()}) is short.\n"))
     texts = [it.read_text() for it in (ROOT / "README.md", ROOT / "SECURITY.md", *(ROOT / "docs").glob("*.md"))]
     yield "the sentences of the pages: tools/dev/long-sentences prints long ones", not any(list(found(it)) for it in texts)
     yield f"the words of the pages, of {MOST_WORDS:,}", sum(len(it.split()) for it in texts) <= MOST_WORDS

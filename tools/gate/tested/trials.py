@@ -247,7 +247,8 @@ def trial_tests():
 
 
 def choice_tests():
-    """Which edits the gate tries: of must-fail all, or with few jobs a third, other ones for each commit, and a tenth of the others."""
+    """Which edits the gate tries: all of must-fail and a tenth of the others, or with few jobs a sixth and a twentieth, other ones for each
+    commit."""
     edits = script("gate/more-edits")
     first, others = edits.edits_in("bpf_same", "must-fail"), edits.edits_in("bpf_same", "more-edits")
     gate = {"all": False, "read": False, "gate": True, "must_fail": False}
@@ -255,11 +256,15 @@ def choice_tests():
     def tried(jobs, number):
         return edits.chosen("bpf_same", argparse.Namespace(**gate, jobs=jobs), number)[0]
 
-    parts = [[it for it in tried(2, number) if it in first] for number in range(3)]
-    yield "a third with few jobs, and each edit by one of three commits", sorted(sum(parts, [])) == first and all(parts)
+    def by(commits, jobs, edits):
+        """What so many commits try of these edits, each."""
+        return [[it for it in tried(jobs, number) if it in edits] for number in range(commits)]
+
+    sixths = by(6, 2, first)
+    yield "a sixth with few jobs, and each edit by one of six commits", sorted(sum(sixths, [])) == first and all(sixths)
+    yield "a twentieth of the others with few jobs, and each by one of twenty commits", sorted(sum(by(20, 2, others), [])) == others
     yield "all with many jobs", all(set(first) <= set(tried(4, number)) for number in range(10))
-    tenths = [it for number in range(10) for it in tried(4, number) if it in others]
-    yield "a tenth of the others, and each by one of ten commits", sorted(tenths) == others
+    yield "a tenth of the others, and each by one of ten commits", sorted(sum(by(10, 4, others), [])) == others
 
 
 def kept_tests():

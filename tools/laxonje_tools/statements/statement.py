@@ -28,6 +28,10 @@ class Part:
         return f"{self.contract.source.file}:{self.contract.item.line}"
 
 
+def counted(number: int, what: str) -> str:
+    return f"{number} {what}" if number == 1 else f"{number} {what}s"
+
+
 @dataclasses.dataclass(frozen=True)
 class Counts:
     definitions: int
@@ -37,8 +41,9 @@ class Counts:
     types: int
 
     def __str__(self) -> str:
-        types = f"; {self.types} types of sources" if self.types else ""
-        return f"{self.definitions} definitions of {self.lines} lines, in {self.files} files of {self.crates} crates{types}"
+        types = f"; {counted(self.types, 'type')} of sources" if self.types else ""
+        definitions = f"{counted(self.definitions, 'definition')} of {counted(self.lines, 'line')}"
+        return f"{definitions}, in {counted(self.files, 'file')} of {counted(self.crates, 'crate')}{types}"
 
 
 @dataclasses.dataclass(frozen=True)

@@ -256,6 +256,9 @@ def stated_tests(stated) -> Iterator[tuple[str, bool]]:
         fact += "impl Fact {\n    pub fn make() -> Fact { Fact { size: 1 } }\n}\n"
         tree = written(root, {"crates/low/src/lib.rt": pair, "crates/low/src/facts.rt": fact})
         yield "what an invariant alone reaches", [it[-len(stated.STATED) :] for it in stated.findings(tree)] == [stated.STATED]
+        fact = fact.replace("pub struct Fact {\n    size: u32,", "pub struct Fact {\n    inside: Inside,\n}\nstruct Inside {\n    size: u32,")
+        tree = written(root, {"crates/low/src/facts.rt": fact})
+        yield "what one of a type within alone reaches", [it[-len(stated.STATED) :] for it in stated.findings(tree)] == [stated.STATED]
         tree = written(root, {"crates/low/src/lib.rt": FILES["crates/low/src/lib.rt"]})
         (root / "crates/low/src/facts.rt").unlink()
         tree = written(root, {"crates/low/specs/Base.antt": before + "\n" + IMPORTS})
@@ -363,7 +366,7 @@ def contract_tests(tree: Tree) -> Iterator[tuple[str, bool]]:
     yield "documentation", make.docs == ["Makes some.", "", "By hand."]
     small = statement(tree, [part(tree, "low::make (small)")])
     yield "one clause alone", [it.name for it in small.nodes] == ["one", "IsSmall"]
-    yield "counts", str(counts(tree, small)) == "2 definitions of 5 lines, in 1 files of 1 crates"
+    yield "counts", str(counts(tree, small)) == "2 definitions of 5 lines, in 1 file of 1 crate"
     yield "words of the kit", outside(tree, small) == {"Rattle.std.specs.Prelude": ["ℕ", "◌<◌"]}
     text = "\n".join(pages.contract_lines(small.parts[0]))
     yield "other clauses aren't shown", "ensures small" in text and "other" not in text and "requires some" in text

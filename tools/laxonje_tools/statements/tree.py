@@ -318,10 +318,19 @@ class Tree:
         return [rattle.Clause("ghost", name, text, 0, 0) for name, text in rattle.ghost_fields(self.type_of(node))]
 
     def named_by_facts(self, node: Node) -> list[Node]:
-        """What these name, over the imports of the type's Model or of its file."""
+        """What these name, over the imports of the type's Model or of its file, and what those of the types within it do, which no
+        field shows."""
         model = self.model_of(node)
         imports = self.crates[node.crate].sources[node.module].imports if model is None else model.imports
-        return list(self.of_clauses(node.crate, node.module, self.facts_of(node), imports))
+        return [*self.of_clauses(node.crate, node.module, self.facts_of(node), imports), *self.kept_in(node)]
+
+    def kept_in(self, node: Node) -> Iterator[Node]:
+        """The types of a struct's fields, whoever sees these, that have an invariant."""
+        it = self.type_of(node)
+        for name in rattle.type_names(rattle.masked(it.text)) if it.kind == "struct" else []:
+            found = self.type_named(node.crate, node.module, name)
+            if found is not None and found != node and (self.facts_of(found) or any(self.kept_in(found))):
+                yield found
 
     def premises(self, found: Iterable[Node], below: Callable[[Node], list[Node]] | None = None) -> list[Node]:
         """What the invariants of these types, and of those that are met then, depend on besides, lowest first."""
