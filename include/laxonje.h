@@ -386,20 +386,28 @@ struct laxonje_queue_standing {
  * program's run did, and `slots` how many slots the packet took. `index` and `grant` are 0: they are for later versions. */
 struct laxonje_op {
 	uint32_t kind;
-	uint32_t frame;
-	uint32_t word;
-	uint32_t count;
-	uint32_t lent;
-	uint32_t value[2];
-	uint32_t entry;
-	uint32_t reference;
-	uint32_t outcome;
-	uint32_t number;
-	uint32_t cause;
-	uint32_t ops;
-	uint32_t slots;
-	uint32_t index;
-	int32_t grant;
+	union {
+		struct {
+			uint32_t frame;
+			uint32_t word;
+			uint32_t count;
+			uint32_t lent;
+			union {
+				uint32_t value[2];
+				uint32_t reference;
+			};
+			uint32_t entry;
+		};
+		struct {
+			uint32_t outcome;
+			uint32_t number;
+			uint32_t cause;
+			uint32_t ops;
+			uint32_t slots;
+			uint32_t index;
+			int32_t grant;
+		};
+	};
 };
 
 LAXONJE_ASSERT(sizeof(void *) == 8 && sizeof(size_t) == 8);
@@ -417,14 +425,8 @@ LAXONJE_ASSERT(offsetof(struct laxonje_queue_desc, queue) == 20 && offsetof(stru
 LAXONJE_ASSERT(offsetof(struct laxonje_queue_desc, rx_index) == 28);
 LAXONJE_ASSERT(sizeof(struct laxonje_queue_standing) == 16 && offsetof(struct laxonje_queue_standing, tx_index) == 4);
 LAXONJE_ASSERT(offsetof(struct laxonje_queue_standing, rx_index) == 8 && offsetof(struct laxonje_queue_standing, halt) == 12);
-LAXONJE_ASSERT(sizeof(struct laxonje_op) == 64 && offsetof(struct laxonje_op, frame) == 4);
-LAXONJE_ASSERT(offsetof(struct laxonje_op, word) == 8 && offsetof(struct laxonje_op, count) == 12);
-LAXONJE_ASSERT(offsetof(struct laxonje_op, lent) == 16 && offsetof(struct laxonje_op, value) == 20);
-LAXONJE_ASSERT(offsetof(struct laxonje_op, entry) == 28 && offsetof(struct laxonje_op, reference) == 32);
-LAXONJE_ASSERT(offsetof(struct laxonje_op, outcome) == 36 && offsetof(struct laxonje_op, number) == 40);
-LAXONJE_ASSERT(offsetof(struct laxonje_op, cause) == 44 && offsetof(struct laxonje_op, ops) == 48);
-LAXONJE_ASSERT(offsetof(struct laxonje_op, slots) == 52 && offsetof(struct laxonje_op, index) == 56);
-LAXONJE_ASSERT(offsetof(struct laxonje_op, grant) == 60);
+LAXONJE_ASSERT(sizeof(struct laxonje_op) == 32 && offsetof(struct laxonje_op, frame) == 4);
+LAXONJE_ASSERT(offsetof(struct laxonje_op, value) == 20 && offsetof(struct laxonje_op, entry) == 28);
 
 /* The version of the header that fits the library: LAXONJE_VERSION, or the two are of different releases. */
 uint32_t laxonje_version(void);

@@ -42,24 +42,34 @@ struct laxonje_words_ {
 #define LAXONJE_LOAD_4_(words, at)                                                                            \
 	__asm__ __volatile__("movdqu %1, %%xmm0\n\tmovdqu %%xmm0, %0"                                         \
 	                     : "=m"(*(struct laxonje_words_ *)(words)) : "m"(*(const struct laxonje_words_ *)(at)) : "xmm0", "memory")
+struct laxonje_two_ {
+	uint32_t word[2];
+};
+#define LAXONJE_LOAD_2_(words, at)                                                                            \
+	__asm__ __volatile__("movq %1, %%xmm0\n\tmovq %%xmm0, %0"                                             \
+	                     : "=m"(*(struct laxonje_two_ *)(words)) : "m"(*(const struct laxonje_two_ *)(at)) : "xmm0", "memory")
 #endif
 
 /* Words in rising order, each once: by four as far as they go, since any answer is allowed for any word, and four times four in a round. */
 static inline void laxonje_drive_load_(const uint32_t *at, uint32_t count, uint32_t *words)
 {
-	uint32_t i = 0;
+	const uint32_t *const end = at + count;
 #ifdef LAXONJE_LOAD_4_
-	for (; i + 16 <= count; i += 16) {
-		LAXONJE_LOAD_4_(words + i, at + i);
-		LAXONJE_LOAD_4_(words + i + 4, at + i + 4);
-		LAXONJE_LOAD_4_(words + i + 8, at + i + 8);
-		LAXONJE_LOAD_4_(words + i + 12, at + i + 12);
+	for (; end - at >= 16; at += 16, words += 16) {
+		LAXONJE_LOAD_4_(words, at);
+		LAXONJE_LOAD_4_(words + 4, at + 4);
+		LAXONJE_LOAD_4_(words + 8, at + 8);
+		LAXONJE_LOAD_4_(words + 12, at + 12);
 	}
-	for (; i + 4 <= count; i += 4)
-		LAXONJE_LOAD_4_(words + i, at + i);
+	for (; end - at >= 4; at += 4, words += 4)
+		LAXONJE_LOAD_4_(words, at);
+	if (end - at >= 2) {
+		LAXONJE_LOAD_2_(words, at);
+		at += 2, words += 2;
+	}
 #endif
-	for (; i < count; i++)
-		words[i] = __atomic_load_n(at + i, __ATOMIC_ACQUIRE);
+	for (; at < end; at++, words++)
+		*words = __atomic_load_n(at, __ATOMIC_ACQUIRE);
 }
 
 /* Words into a page. */
@@ -116,14 +126,16 @@ static inline int laxonje_drive_make_(struct laxonje_drive *drive, const struct 
 /* The producer of a ring, which is word 0 of its frame, into the first lent word. Returns 0 if its page can't be had. */
 static inline int laxonje_drive_producer_(struct laxonje_drive *drive, const struct laxonje_io *io, uint32_t ring)
 {
-	struct laxonje_op read = { LAXONJE_OP_READ, ring, 0, 1, 0, { 0, 0 }, 0, 0, 0, 0, 0, 0, 0, 0, 0 };
+	struct laxonje_op read;
+	read.kind = LAXONJE_OP_READ, read.frame = ring, read.word = 0, read.count = 1, read.lent = 0, read.value[0] = read.value[1] = 0, read.entry = 0;
 	return laxonje_drive_make_(drive, io, &read);
 }
 
 /* In place of the op that ends something, if nothing was begun. */
 static inline struct laxonje_op laxonje_drive_nothing_(uint32_t cause)
 {
-	struct laxonje_op op = { 0, 0, 0, 0, 0, { 0, 0 }, 0, 0, LAXONJE_NOTHING, 0, cause, 0, 0, 0, 0 };
+	struct laxonje_op op;
+	op.kind = 0, op.outcome = LAXONJE_NOTHING, op.number = 0, op.cause = cause, op.ops = op.slots = op.index = 0, op.grant = 0;
 	return op;
 }
 

@@ -54,6 +54,7 @@ mod runs;
 mod segment_calls;
 mod shared_calls;
 mod shared_fault;
+mod turns_calls;
 
 pub use abi::{XdpMap, XdpRun, XdpVerdict};
 pub use advice::laxonje_advice;

@@ -1,7 +1,7 @@
 //! What C asks of a queue's rx slots, of the slots of a turn, and of its counters.
 ghost use Rattle.std.specs.Prelude.{◌≡◌, None, IfNone, IfSome, IsSome, MatchOption};
 ghost use Rattle.xdp_host.specs.Shared.{words_of};
-ghost use Rattle.xen_netif.specs.Slots.{tx_flag_bits};
+ghost use Rattle.xen_netif.specs.Slots.{tx_flag_bits, tx_flags_of};
 ghost use Rattle.xdp_host.specs.Begins.{WaitAnswers, no_queue};
 
 use crate::queue_abi::{NO_QUEUE, TOO_MANY_SLOTS, begin_number};
@@ -41,7 +41,7 @@ pub extern "C" fn laxonje_queue_await(queue: &mut XdpQueue, pages: u32) -> u32
 #[unsafe(no_mangle)]
 pub extern "C" fn laxonje_queue_flags(queue: &mut XdpQueue) -> u32
     ensures kept { queue.new.slot.held ≡ queue.old.slot.held }
-    ensures flags { MatchOption queue.old.slot.held (result ≡ 0) (λ q. result ≡ tx_flag_bits q.engine.offload.flags) }
+    ensures flags { MatchOption queue.old.slot.held (result ≡ 0) (λ q. result ≡ tx_flag_bits (tx_flags_of q.engine.offload.flags)) }
 {
     match queue.held_mut() {
         Some(held) => u32::from(held.flags().bits()),
