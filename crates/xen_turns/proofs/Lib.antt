@@ -15,3 +15,6 @@ pub mod OnceLemmas
 pub mod TurnOnceLemmas
 pub mod ArriveLemmas
 pub mod WaitLemmas
+pub mod WovenLemmas
+pub mod SeveralLemmas
+pub mod SeveralBounds

@@ -77,7 +77,7 @@ slots_places w t i ((a ∷ b ∷ []) ∷ slots) h = absurd h.0
 slots_places w t i ((a ∷ b ∷ c ∷ []) ∷ slots) h = ap (λ l. tx_slot w.vif (add32 t i) 0 ∷ tx_slot w.vif (add32 t i) 1 ∷ tx_slot w.vif (add32 t i) 2 ∷ l) (slots_places w t (i + 1) slots h.1)
 slots_places w t i ((a ∷ b ∷ c ∷ d ∷ s) ∷ slots) h = absurd h.0
 
-few_shown : (t p n : ℕ) → available t p ≡ Some n → n ≤ 256
+pub few_shown : (t p n : ℕ) → available t p ≡ Some n → n ≤ 256
 few_shown t p n e = by (nat_le (distance t p) 256) refl e
   where
     by : (b : Bool) → nat_le (distance t p) 256 ≡ b → (if b then Some (distance t p) else None) ≡ Some n → n ≤ 256

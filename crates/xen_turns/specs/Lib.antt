@@ -15,3 +15,5 @@ pub mod Delivered
 pub mod Awaited
 pub mod Deliveries
 pub mod Waits
+pub mod Woven
+pub mod Several

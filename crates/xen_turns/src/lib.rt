@@ -3,7 +3,7 @@
 //!
 //! - `state`, `turn`, `wiring`, `delivery`: what a queue is between two, is wired to, and what becomes of each
 //! - `decisions`: what is decided on the way, whichever way it goes
-//! - `laws`: what holds of every turn, delivery and wait
+//! - `laws`: what holds of every turn, delivery and wait; `several`: of turns of several packets
 //!
 //! Among the definitions, `Turns` is the authority, the table of turns; `Tree` is the computation that makes them.
 #![tactic(auto)]
@@ -11,6 +11,7 @@
 pub mod decisions;
 mod delivery;
 pub mod laws;
+pub mod several;
 mod state;
 mod turn;
 mod wiring;
