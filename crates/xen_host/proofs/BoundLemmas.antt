@@ -46,6 +46,7 @@ turning_left w s stage.Notice b t c = c
 turning_left w s (stage.Deliver producer) b t c = absurd (cc t)
 turning_left w s (stage.Wait pages) b t c = absurd (cc t)
 turning_left w s (stage.WaitLook pages) b t c = absurd (cc t)
+turning_left w s stage.Several b t c = absurd (cc t)
 
 delivering_left : (w : Wiring) (s : State) (g : Stage) (b : WorkAt) → is_delivering g ≡ true → TaskCompletes w s g b → Arriving w s g b
 delivering_left w s stage.Ready b t c = absurd (cc t)
@@ -61,6 +62,7 @@ delivering_left w s stage.Notice b t c = absurd (cc t)
 delivering_left w s (stage.Deliver producer) b t c = c
 delivering_left w s (stage.Wait pages) b t c = absurd (cc t)
 delivering_left w s (stage.WaitLook pages) b t c = absurd (cc t)
+delivering_left w s stage.Several b t c = absurd (cc t)
 
 waiting_left : (w : Wiring) (s : State) (g : Stage) (b : WorkAt) → is_waiting g ≡ true → TaskCompletes w s g b → Waiting w s g
 waiting_left w s stage.Ready b t c = absurd (cc t)
@@ -75,6 +77,7 @@ waiting_left w s stage.Notice b t c = absurd (cc t)
 waiting_left w s (stage.Deliver producer) b t c = absurd (cc t)
 waiting_left w s (stage.Wait pages) b t c = c
 waiting_left w s (stage.WaitLook pages) b t c = c
+waiting_left w s stage.Several b t c = absurd (cc t)
 
 some_turn : (q : EngineAt) → Stands q → (s : State) (t : List Event) (a : Ask) → IsTurningAt q s t a → (p : List Event) × (e : Ending) × Runs (whole_turn q.wires s) (t ++ p) e
 some_turn q st s t a h =

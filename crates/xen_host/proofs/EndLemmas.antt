@@ -70,6 +70,7 @@ reads_of_turn w s stage.Notice b t = tt
 reads_of_turn w s (stage.Deliver producer) b t = cc t
 reads_of_turn w s (stage.Wait pages) b t = cc t
 reads_of_turn w s (stage.WaitLook pages) b t = cc t
+reads_of_turn w s stage.Several b t = cc t
 
 pub reads_of_delivery : (w : Wiring) (s : State) (g : Stage) (b : WorkAt) → is_delivering g ≡ true → AsksReads (due_in w s g b) (reads_in g) (rest_of_delivery w.vif s g b)
 reads_of_delivery w s stage.Ready b t = cc t
@@ -85,6 +86,7 @@ reads_of_delivery w s stage.Notice b t = cc t
 reads_of_delivery w s (stage.Deliver producer) b t = tt
 reads_of_delivery w s (stage.Wait pages) b t = cc t
 reads_of_delivery w s (stage.WaitLook pages) b t = cc t
+reads_of_delivery w s stage.Several b t = cc t
 
 pub reads_of_wait : (w : Wiring) (s : State) (g : Stage) (b : WorkAt) → is_waiting g ≡ true → AsksReads (due_in w s g b) (reads_in g) (rest_of_wait w.vif.rx s g)
 reads_of_wait w s stage.Ready b t = cc t
@@ -99,11 +101,12 @@ reads_of_wait w s stage.Notice b t = cc t
 reads_of_wait w s (stage.Deliver producer) b t = cc t
 reads_of_wait w s (stage.Wait pages) b t = tt
 reads_of_wait w s (stage.WaitLook pages) b t = (refl, λ a. tt)
+reads_of_wait w s stage.Several b t = cc t
 
 -- ---- what ends
 
 -- a queue at a stage of a turn whose rest completes, and so on
-turn_task : (w : Wiring) (s : State) (g : Stage) (b : WorkAt) → is_turning g ≡ true → Completes w (rest_in w s g b) → TaskCompletes w s g b
+pub turn_task : (w : Wiring) (s : State) (g : Stage) (b : WorkAt) → is_turning g ≡ true → Completes w (rest_in w s g b) → TaskCompletes w s g b
 turn_task w s stage.Ready b t h = cc t
 turn_task w s stage.Announce b t h = h
 turn_task w s (stage.Slot left) b t h = h
@@ -117,6 +120,7 @@ turn_task w s stage.Notice b t h = h
 turn_task w s (stage.Deliver producer) b t h = cc t
 turn_task w s (stage.Wait pages) b t h = cc t
 turn_task w s (stage.WaitLook pages) b t h = cc t
+turn_task w s stage.Several b t h = cc t
 
 pub task_turn : (w : Wiring) (s : State) (g : Stage) (b : WorkAt) → is_turning g ≡ true → TaskCompletes w s g b → Completes w (rest_in w s g b)
 task_turn w s stage.Ready b t h = cc t
@@ -132,6 +136,7 @@ task_turn w s stage.Notice b t h = h
 task_turn w s (stage.Deliver producer) b t h = cc t
 task_turn w s (stage.Wait pages) b t h = cc t
 task_turn w s (stage.WaitLook pages) b t h = cc t
+task_turn w s stage.Several b t h = cc t
 
 delivery_task : (w : Wiring) (s : State) (g : Stage) (b : WorkAt) → is_delivering g ≡ true → Arriving w s g b → TaskCompletes w s g b
 delivery_task w s stage.Ready b t h = cc t
@@ -147,6 +152,7 @@ delivery_task w s stage.Notice b t h = cc t
 delivery_task w s (stage.Deliver producer) b t h = h
 delivery_task w s (stage.Wait pages) b t h = cc t
 delivery_task w s (stage.WaitLook pages) b t h = cc t
+delivery_task w s stage.Several b t h = cc t
 
 wait_task : (w : Wiring) (s : State) (g : Stage) (b : WorkAt) → is_waiting g ≡ true → Waiting w s g → TaskCompletes w s g b
 wait_task w s stage.Ready b t h = cc t
@@ -161,8 +167,9 @@ wait_task w s stage.Notice b t h = cc t
 wait_task w s (stage.Deliver producer) b t h = cc t
 wait_task w s (stage.Wait pages) b t h = h
 wait_task w s (stage.WaitLook pages) b t h = h
+wait_task w s stage.Several b t h = cc t
 
-ready_task : (w : Wiring) (s : State) (g : Stage) (b : WorkAt) → g ≡ stage.Ready → TaskCompletes w s g b
+pub ready_task : (w : Wiring) (s : State) (g : Stage) (b : WorkAt) → g ≡ stage.Ready → TaskCompletes w s g b
 ready_task w s g b e = subst (λ (x : Stage). TaskCompletes w s x b) (sym e) tt
 
 -- ---- where a step ends

@@ -1,5 +1,5 @@
 -- A step of an engine: what it is of goes on, and the engine stays as it has to be.
-use Rattle.std.proofs.Common.{◌≡◌, ℕ, ◌<◌, List, [], ◌∷◌, ◌++◌, length, map, refl, sym, ap, ◌∙◌, subst, true}
+use Rattle.std.proofs.Common.{◌≡◌, ℕ, ◌<◌, List, [], ◌∷◌, ◌++◌, length, map, refl, sym, ◌∙◌, subst, true}
 use Rattle.std.specs.Prelude.{None, Option, Some, IsSome}
 use Rattle.std.specs.Prelude.{◌^◌, Bool}
 use Rattle.xen_netif.specs.declared.offload.Accepts.{Accepts}
@@ -33,7 +33,7 @@ use Rattle.xen_host.specs.Hosts.{events_of}
 use Rattle.xen_host.specs.Stands.{Stands}
 use Rattle.xen_host.specs.StepsAt.{BeginsAt, StepsAt}
 use Rattle.xen_host.specs.UnderWay.{IsBegunAt, IsWaitBegunAt, between, first_read, resting_at}
-use Rattle.xen_host.specs.Rest.{is_delivering, is_waiting, no_offload, rest_in}
+use Rattle.xen_host.specs.Rest.{is_delivering, is_stepping, is_waiting, no_offload, rest_in}
 use Rattle.xen_host.specs.EngineAt.{EngineAt, WorkAt}
 use Rattle.bpf_note.specs.declared.op.Op.{Op as Operation}
 use Rattle.xen_host.specs.declared.stage.Purpose.TheVariants as purpose
@@ -58,6 +58,7 @@ task_delivery w s stage.Notice b t h = cc t
 task_delivery w s (stage.Deliver producer) b t h = h
 task_delivery w s (stage.Wait pages) b t h = cc t
 task_delivery w s (stage.WaitLook pages) b t h = cc t
+task_delivery w s stage.Several b t h = cc t
 
 task_wait : (w : Wiring) (s : State) (g : Stage) (b : WorkAt) → is_waiting g ≡ true → TaskCompletes w s g b → Waiting w s g
 task_wait w s stage.Ready b t h = cc t
@@ -72,6 +73,7 @@ task_wait w s stage.Notice b t h = cc t
 task_wait w s (stage.Deliver producer) b t h = cc t
 task_wait w s (stage.Wait pages) b t h = h
 task_wait w s (stage.WaitLook pages) b t h = h
+task_wait w s stage.Several b t h = cc t
 
 wires_stand : (q : EngineAt) → Stands q → (w : Wiring) → w ≡ q.wires → IsWired w.vif × TurnsComplete w
 wires_stand q st w e = subst (λ (x : Wiring). IsWired x.vif × TurnsComplete x) (sym e) (st.wired, st.turns)
@@ -123,11 +125,11 @@ module _ {H : Type 0} (was : H → Ask → List ℕ → H → Type 0) (full : H 
 
 -- and what is under way goes on
 pub stepped_at : {H : Type 0} {was : H → Ask → List ℕ → H → Type 0} {full : H → Type 0} {gave : H → Place → List ℕ → H → Type 0} {host host_after : H} (old new : EngineAt) → Stands old → (went : List (Option Operation) → Type 0) (same : Type 0) → (went [] → same) → new.wires ≡ old.wires →
-    GoesOnAt was full gave old.stage old new went host host_after → (old.stage ≡ stage.Ready → ⊥) → StepsAt was full gave went same old new host host_after
+    GoesOnAt was full gave old.stage old new went host host_after → is_stepping old.stage ≡ true → StepsAt was full gave went same old new host host_after
 stepped_at {was = was} {full = full} {gave = gave} {host = host} {host_after = host_after} old new st went none_same none same led busy = by (under old.stage old new went led)
   where
     by : Under was full gave old.stage old new went host host_after → StepsAt was full gave went none_same old new host host_after
-    by (nothing e h) = absurd (busy e)
+    by (nothing e h) = absurd (cc (busy, e))
     by (turn t) =
         let a = t.led in
         let l = a.led.led in
@@ -280,22 +282,20 @@ wait_stands e st pages =
 
 -- ---- what is under way
 
-pub busy_at : (s : State) (g : Stage) → (g ≡ stage.Ready → ⊥) → between s g ≡ None
-busy_at s stage.Ready h = absurd (h refl)
-busy_at s stage.Announce h = refl
-busy_at s (stage.Slot left) h = refl
-busy_at s (stage.Entry i at) h = refl
-busy_at s (stage.Page i f frame) h = refl
-busy_at s (stage.Fill f p) h = refl
-busy_at s (stage.Respond i) h = refl
-busy_at s stage.Push h = refl
-busy_at s stage.Notice h = refl
-busy_at s (stage.Deliver producer) h = refl
-busy_at s (stage.Wait pages) h = refl
-busy_at s (stage.WaitLook pages) h = refl
-
-pub not_ready_at : (e : EngineAt) → resting_at e ≡ None → e.stage ≡ stage.Ready → ⊥
-not_ready_at e busy same = let rests = ap (λ (g : Stage). between e.state g) same in cc (busy, rests)
+pub stepping_at : (g : Stage) → (g ≡ stage.Ready → ⊥) → (g ≡ stage.Several → ⊥) → is_stepping g ≡ true
+stepping_at stage.Ready h k = absurd (h refl)
+stepping_at stage.Announce h k = refl
+stepping_at (stage.Slot left) h k = refl
+stepping_at (stage.Entry i at) h k = refl
+stepping_at (stage.Page i f frame) h k = refl
+stepping_at (stage.Fill f p) h k = refl
+stepping_at (stage.Respond i) h k = refl
+stepping_at stage.Push h k = refl
+stepping_at stage.Notice h k = refl
+stepping_at (stage.Deliver producer) h k = refl
+stepping_at (stage.Wait pages) h k = refl
+stepping_at (stage.WaitLook pages) h k = refl
+stepping_at stage.Several h k = absurd (k refl)
 
 pub ready_at : (e : EngineAt) → IsSome (resting_at e) → e.stage ≡ stage.Ready
 ready_at e h = by e.state e.stage h
@@ -313,6 +313,7 @@ ready_at e h = by e.state e.stage h
     by s (stage.Deliver producer) h = absurd (cc h)
     by s (stage.Wait pages) h = absurd (cc h)
     by s (stage.WaitLook pages) h = absurd (cc h)
+    by s stage.Several h = absurd (cc h)
 
 -- what is to begin: all of it is left
 pub delivery_begins : (e : EngineAt) (producer : ℕ) (b : WorkAt) (packet : List ℕ) → IsSome (resting_at e) → producer < 2 ^ 32 → b.packet ≡ packet → IsDeliverable e.wires.accepts b.offload packet →

@@ -44,7 +44,7 @@ same_place : {A : Type 0} (at due : Place) (n : ℕ) (s : Steps A) → AsksReads
 same_place at due zero s h r some = absurd (omega (arith, some))
 same_place at due (suc n) s h r some = cc (h.0, r.0)
 
-due_of : {A : Type 0} (a : Ask) (due : Place) (n : ℕ) (s : Steps A) → WaitsFor a n s → AsksReads due n s → IsDue a due n
+pub due_of : {A : Type 0} (a : Ask) (due : Place) (n : ℕ) (s : Steps A) → WaitsFor a n s → AsksReads due n s → IsDue a due n
 due_of (Read at count) due n s w r = (w.0, same_place at due n s (subst (λ m. AsksReads at m s) (sym w.0) w.1) r)
 due_of (Entry at reference rights) due n s w r = (w.0, same_place at due n s (subst (λ m. AsksReads at m s) (sym w.0) w.1) r)
 due_of (Push at word read) due n s w r = (w.0, same_place (page_word at.frame read) due n s (subst (λ m. AsksReads (page_word at.frame read) m s) (sym w.0) w.1) r)

@@ -29,7 +29,7 @@ use Rattle.xen_host.specs.declared.stage.Stage.TheVariants as stage
 use Rattle.xen_host.specs.EngineAt.{WorkAt}
 use Rattle.xen_host.proofs.LedLemmas.{did_more, keeps, length_more, ops_more, put_ask, stay_kept}
 
-asks_append : (all : List Asked) (a : Asked) → asks_of (all ++ a ∷ []) ≡ asks_of all ++ a.ask ∷ []
+pub asks_append : (all : List Asked) (a : Asked) → asks_of (all ++ a ∷ []) ≡ asks_of all ++ a.ask ∷ []
 asks_append [] a = refl
 asks_append (x ∷ all) a = ap (λ l. x.ask ∷ l) (asks_append all a)
 
@@ -50,7 +50,7 @@ stand_all first (a ∷ all) done old new s e =
     let count : mid.count ≡ length (done ++ a.ask ∷ []) = put.counted ∙ one ∙ ap suc s.1 ∙ sym (length_more done a.ask) in
     subst (λ l. Stand first l new) (append_assoc done (a.ask ∷ []) (asks_of all)) (stand_all first all (done ++ a.ask ∷ []) mid new (ops, count) e.2)
 
-put_length : (k : ℕ) (o : HostOp) (l : List HostOp) → k < length l → length (take k l ++ o ∷ drop (k + 1) l) ≡ length l
+pub put_length : (k : ℕ) (o : HostOp) (l : List HostOp) → k < length l → length (take k l ++ o ∷ drop (k + 1) l) ≡ length l
 put_length k o l some = omega (arith, length-append (take k l) (o ∷ drop (k + 1) l), length-take k l, length-drop (k + 1) l, some)
 
 -- As many as there were, and no more are said than there was room for.
@@ -131,11 +131,11 @@ keep_rest (a ∷ all) old new some e =
     let r = keep_rest all e.0 new (omega (arith, e.1.counted)) e.2 in
     (r.0 ∙ k.0, (k.1, r.1))
 
-stays : (all : List Asked) (lent : List ℕ) → Keeping all → WordsStay (asks_of all) lent lent
+pub stays : (all : List Asked) (lent : List ℕ) → Keeping all → WordsStay (asks_of all) lent lent
 stays [] lent k = refl
 stays (a ∷ all) lent k = stay_kept a.ask (asks_of all) lent lent k.0 (stays all lent k.1)
 
-events_same : (all : List Asked) (lent : List ℕ) → Keeping all → events_of all ≡ did_all (asks_of all) lent
+pub events_same : (all : List Asked) (lent : List ℕ) → Keeping all → events_of all ≡ did_all (asks_of all) lent
 events_same [] lent k = refl
 events_same (a ∷ all) lent k = ap (λ l. did_by a.ask a.words ++ l) (events_same all lent k.1) ∙ ap (λ l. l ++ did_all (asks_of all) lent) (did_same a.ask a.words lent k.0)
 
@@ -276,7 +276,7 @@ take_front : (n count : ℕ) (lent : List ℕ) → n ≡ count → take count (t
 take_front n count lent e = ap (λ k. take k (take n lent)) (sym e) ∙ take_twice n lent ∙ ap (λ k. take k lent) e
 
 -- What is read of the lent words stands in front of them.
-read_same : {A : Type 0} (a : Ask) (n : ℕ) (s : Steps A) (lent : List ℕ) → WaitsFor a n s → read_by a (take n lent) ≡ read_by a lent
+pub read_same : {A : Type 0} (a : Ask) (n : ℕ) (s : Steps A) (lent : List ℕ) → WaitsFor a n s → read_by a (take n lent) ≡ read_by a lent
 read_same (ask.Read at count) n s lent w = ap (λ l. reads_at at l) (take_front n count lent w.0)
 read_same (ask.Entry at reference rights) n s lent w = ap (λ l. reads_at at l) (take_front n 2 lent w.0)
 read_same (ask.Push at word read) n s lent w = ap (λ l. reads_at (page_word at.frame read) l) (take_front n 1 lent w.0)
@@ -292,7 +292,7 @@ some_same : {A : Type 0} (a : Option Ask) (n : ℕ) (s : Steps A) (lent : List �
 some_same None n s lent w = refl
 some_same (Some a) n s lent w = read_same a n s lent w
 
-offload_same : (o : Offers) (g : Stage) (b : WorkAt) (lent : List ℕ) (f : Offload) → offload_after o g b (take (reads_in g) lent) f ≡ offload_after o g b lent f
+pub offload_same : (o : Offers) (g : Stage) (b : WorkAt) (lent : List ℕ) (f : Offload) → offload_after o g b (take (reads_in g) lent) f ≡ offload_after o g b lent f
 offload_same o stage.Ready b lent f = refl
 offload_same o stage.Announce b lent f = refl
 offload_same o (stage.Slot left) b lent f = ap (λ l. offload_behind o b.chain l f) (take_twice 3 lent)
@@ -305,6 +305,7 @@ offload_same o stage.Notice b lent f = refl
 offload_same o (stage.Deliver producer) b lent f = refl
 offload_same o (stage.Wait pages) b lent f = refl
 offload_same o (stage.WaitLook pages) b lent f = refl
+offload_same o stage.Several b lent f = refl
 
 module _ (went : List (Option Operation) → Type 0) (same : Type 0) (old new : Queue) (host host_after : Ops) (d : SteppedOver IsPut IsFull HasGiven went same old new host host_after) where
   answered : (d.words ≡ take (reads_in old.engine.stage) (lent_words host.words.now)) × (d.mid ≡ host)

@@ -260,7 +260,7 @@ wait_step s pages packet q next c t o p z =
     (ends t reads rest (owed_some o) 2 pays) (sized q next c) (λ i h. adds q next c t reads [] (owed_some o) pays i)
 
 -- Its first step makes both accesses, or ends: a PUSH leads to the second stage, and nothing was made in the first.
-pushed : (a : Ask) (lent : List ℕ) (t : List Event) → IsPush a → weight (did_by a lent) ≤ weight t → 2 ≤ weight t + owed a
+pushed : (a : Ask) (lent : List ℕ) (t : List Event) → IsPush 1 a → weight (did_by a lent) ≤ weight t → 2 ≤ weight t + owed a
 pushed (ask.Push at word read) lent t p l = omega (arith, l)
 pushed (ask.Read at count) lent t p l = absurd p
 pushed (ask.Entry at reference rights) lent t p l = absurd p
@@ -317,6 +317,7 @@ first_waits table lent rx s after pages (stage.Wait left) a t i told waits gone 
     let some : 1 ≤ weight t = omega (arith, one, none) in
     omega (arith, both_made rx s after pages left s.halt t some gone)
 first_waits table lent rx s after pages (stage.WaitLook left) a t i told waits gone z did one = pushed a lent t told did
+first_waits table lent rx s after pages stage.Several a t i told waits gone z did one = cc i
 
 -- ---- a host's loop
 

@@ -15,7 +15,7 @@ use Rattle.xen_host.specs.Fed.{AsksReads, fed}
 use Rattle.xen_host.specs.Asks.{Ask}
 use Rattle.xen_host.specs.HostLed.{AfterAnswer, DeliveryLeads, FillGoesOn, GoesOnAt, TurnRanLeads, WaitLeads}
 use Rattle.xen_host.specs.Hosts.{WasGiven}
-use Rattle.xen_host.specs.Rest.{due_filling, due_in, offload_after, is_delivering, is_turning, is_waiting, reads_filling, reads_in, rest_filling, rest_in, rest_of_delivery, rest_of_wait}
+use Rattle.xen_host.specs.Rest.{due_filling, due_in, offload_after, is_delivering, is_stepping, is_turning, is_waiting, reads_filling, reads_in, rest_filling, rest_in, rest_of_delivery, rest_of_wait}
 use Rattle.xen_host.specs.EngineAt.{EngineAt}
 use Rattle.xen_host.specs.declared.stage.Fill.{Fill}
 use Rattle.xen_host.specs.declared.stage.Purpose.{Purpose}
@@ -93,7 +93,7 @@ module _ {H : Type 0} (was : H → Ask → List ℕ → H → Type 0) (full : H 
     pub counters : went []
 
   pub data Under : Type 0 where
-    nothing : g ≡ stage.Ready → (new ≡ old) × (host_after ≡ host) × went [] → Under
+    nothing : is_stepping g ≡ false → (new ≡ old) × (host_after ≡ host) × went [] → Under
     turn : AtTurn → Under
     delivery : AtDelivery → Under
     wait : AtWait → Under
@@ -117,3 +117,4 @@ under stage.Notice old new went h = turn (record { turning = refl; not_deliverin
 under {host = host} (stage.Deliver producer) old new went h = delivery (record { not_turning = refl; delivering = refl; not_waiting = refl; offload = λ words. refl; led = unanswered _ host h.0; counters = h.1 })
 under {host = host} (stage.Wait pages) old new went h = wait (record { not_turning = refl; not_delivering = refl; waiting = refl; offload = λ words. refl; led = unanswered _ host h.0; counters = h.1 })
 under (stage.WaitLook pages) old new went h = wait (record { not_turning = refl; not_delivering = refl; waiting = refl; offload = λ words. refl; led = h.0; counters = h.1 })
+under stage.Several old new went h = nothing refl h

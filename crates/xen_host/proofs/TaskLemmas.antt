@@ -1,11 +1,11 @@
 -- What an engine is about: it goes on, and it is busy until it is over.
-use Rattle.std.proofs.Common.{◌≡◌, ℕ, true, false, List, Option, Some, None, refl, ◌∙◌}
+use Rattle.std.proofs.Common.{◌≡◌, ℕ, true, false, List, Option, Some, refl, ◌∙◌}
 use Rattle.std.specs.Prelude.{IsSome}
 use Rattle.xen_netif.specs.declared.offload.RxOffload.{RxOffload}
 use Rattle.xen_steps.specs.Event.{Event}
 use Rattle.xen_turns.specs.declared.state.State.{State}
 use Rattle.xen_host.specs.Asks.{Ask, Read, Entry, Write, Store, StoreTwo, Push, Notify, TurnOver, DeliveryOver, WaitOver}
-use Rattle.xen_host.specs.Rest.{is_delivering, is_turning, is_waiting}
+use Rattle.xen_host.specs.Rest.{is_delivering, is_stepping, is_turning, is_waiting}
 use Rattle.xen_host.specs.declared.stage.Stage.{Stage}
 use Rattle.xen_host.specs.declared.stage.Stage.TheVariants as stage
 use Rattle.xen_host.specs.EngineAt.{EngineAt}
@@ -54,56 +54,59 @@ waits_on q (WaitOver x) s pages packet t n h = absurd (cc n)
 
 -- ---- at which stages
 
-turning_busy : (s : State) (g : Stage) → is_turning g ≡ true → between s g ≡ None
-turning_busy s stage.Ready t = cc t
-turning_busy s stage.Announce t = refl
-turning_busy s (stage.Slot left) t = refl
-turning_busy s (stage.Entry i at) t = refl
-turning_busy s (stage.Page i f frame) t = refl
-turning_busy s (stage.Fill f p) t = refl
-turning_busy s (stage.Respond i) t = refl
-turning_busy s stage.Push t = refl
-turning_busy s stage.Notice t = refl
-turning_busy s (stage.Deliver producer) t = refl
-turning_busy s (stage.Wait pages) t = refl
-turning_busy s (stage.WaitLook pages) t = refl
+turning_busy : (g : Stage) → is_turning g ≡ true → is_stepping g ≡ true
+turning_busy stage.Ready t = cc t
+turning_busy stage.Announce t = refl
+turning_busy (stage.Slot left) t = refl
+turning_busy (stage.Entry i at) t = refl
+turning_busy (stage.Page i f frame) t = refl
+turning_busy (stage.Fill f p) t = refl
+turning_busy (stage.Respond i) t = refl
+turning_busy stage.Push t = refl
+turning_busy stage.Notice t = refl
+turning_busy (stage.Deliver producer) t = refl
+turning_busy (stage.Wait pages) t = refl
+turning_busy (stage.WaitLook pages) t = refl
+turning_busy stage.Several t = cc t
 
-delivering_busy : (s : State) (g : Stage) → is_delivering g ≡ true → between s g ≡ None
-delivering_busy s stage.Ready t = cc t
-delivering_busy s stage.Announce t = refl
-delivering_busy s (stage.Slot left) t = refl
-delivering_busy s (stage.Entry i at) t = refl
-delivering_busy s (stage.Page i f frame) t = refl
-delivering_busy s (stage.Fill f p) t = refl
-delivering_busy s (stage.Respond i) t = refl
-delivering_busy s stage.Push t = refl
-delivering_busy s stage.Notice t = refl
-delivering_busy s (stage.Deliver producer) t = refl
-delivering_busy s (stage.Wait pages) t = refl
-delivering_busy s (stage.WaitLook pages) t = refl
+delivering_busy : (g : Stage) → is_delivering g ≡ true → is_stepping g ≡ true
+delivering_busy stage.Ready t = cc t
+delivering_busy stage.Announce t = refl
+delivering_busy (stage.Slot left) t = refl
+delivering_busy (stage.Entry i at) t = refl
+delivering_busy (stage.Page i f frame) t = refl
+delivering_busy (stage.Fill f p) t = refl
+delivering_busy (stage.Respond i) t = refl
+delivering_busy stage.Push t = refl
+delivering_busy stage.Notice t = refl
+delivering_busy (stage.Deliver producer) t = refl
+delivering_busy (stage.Wait pages) t = refl
+delivering_busy (stage.WaitLook pages) t = refl
+delivering_busy stage.Several t = cc t
 
-waiting_busy : (s : State) (g : Stage) → is_waiting g ≡ true → between s g ≡ None
-waiting_busy s stage.Ready t = cc t
-waiting_busy s stage.Announce t = refl
-waiting_busy s (stage.Slot left) t = refl
-waiting_busy s (stage.Entry i at) t = refl
-waiting_busy s (stage.Page i f frame) t = refl
-waiting_busy s (stage.Fill f p) t = refl
-waiting_busy s (stage.Respond i) t = refl
-waiting_busy s stage.Push t = refl
-waiting_busy s stage.Notice t = refl
-waiting_busy s (stage.Deliver producer) t = refl
-waiting_busy s (stage.Wait pages) t = refl
-waiting_busy s (stage.WaitLook pages) t = refl
+waiting_busy : (g : Stage) → is_waiting g ≡ true → is_stepping g ≡ true
+waiting_busy stage.Ready t = cc t
+waiting_busy stage.Announce t = refl
+waiting_busy (stage.Slot left) t = refl
+waiting_busy (stage.Entry i at) t = refl
+waiting_busy (stage.Page i f frame) t = refl
+waiting_busy (stage.Fill f p) t = refl
+waiting_busy (stage.Respond i) t = refl
+waiting_busy stage.Push t = refl
+waiting_busy stage.Notice t = refl
+waiting_busy (stage.Deliver producer) t = refl
+waiting_busy (stage.Wait pages) t = refl
+waiting_busy (stage.WaitLook pages) t = refl
+waiting_busy stage.Several t = cc t
 
-pub begun_delivery_busy : (q : EngineAt) (s : State) (o : RxOffload) (packet : List ℕ) (t : List Event) (a : Option Ask) → IsDeliveringAt q s o packet t a → resting_at q ≡ None
-begun_delivery_busy q s o packet t a h = delivering_busy q.state q.stage h.0.is_here
+pub begun_delivery_busy : (q : EngineAt) (s : State) (o : RxOffload) (packet : List ℕ) (t : List Event) (a : Option Ask) → IsDeliveringAt q s o packet t a → is_stepping q.stage ≡ true
+begun_delivery_busy q s o packet t a h = delivering_busy q.stage h.0.is_here
 
-pub begun_wait_busy : (q : EngineAt) (s : State) (pages : ℕ) (packet : List ℕ) (t : List Event) (a : Option Ask) → IsWaitingAt q s pages packet t a → resting_at q ≡ None
-begun_wait_busy q s pages packet t a h = waiting_busy q.state q.stage h.0.is_here
+pub begun_wait_busy : (q : EngineAt) (s : State) (pages : ℕ) (packet : List ℕ) (t : List Event) (a : Option Ask) → IsWaitingAt q s pages packet t a → is_stepping q.stage ≡ true
+begun_wait_busy q s pages packet t a h = waiting_busy q.stage h.0.is_here
 
-pub is_busy : (k : Task) (q : EngineAt) (a : Ask) (s : State) (t : List Event) → is_over a ≡ false → GoesOn k q a s t → resting_at q ≡ None
-is_busy turn q a s t n h = turning_busy q.state q.stage (turns_on q a s t n h).is_here
+pub is_busy : (k : Task) (q : EngineAt) (a : Ask) (s : State) (t : List Event) → is_over a ≡ false → GoesOn k q a s t → is_stepping q.stage ≡ true
+is_busy turn q a s t n h = turning_busy q.stage (turns_on q a s t n h).is_here
 is_busy (delivery o packet) q a s t n h = begun_delivery_busy q s o packet t (Some a) (delivers_on q a s o packet t n h)
 is_busy (wait pages packet) q a s t n h = begun_wait_busy q s pages packet t (Some a) (waits_on q a s pages packet t n h)
 
@@ -123,6 +126,7 @@ at_rest q h = rests q.state q.stage h
     rests s (stage.Deliver producer) h = absurd (cc h)
     rests s (stage.Wait pages) h = absurd (cc h)
     rests s (stage.WaitLook pages) h = absurd (cc h)
+    rests s stage.Several h = absurd (cc h)
 
 -- ---- a step
 

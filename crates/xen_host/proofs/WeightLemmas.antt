@@ -1,14 +1,17 @@
 -- What the events of a host's steps weigh, and that a way on which each step weighs more ends.
-use Rattle.std.proofs.Common.{◌≡◌, ℕ, zero, suc, ◌+◌, ◌≤◌, List, [], ◌∷◌, ◌++◌, length, refl, subst, arith}
+use Rattle.std.proofs.Common.{◌≡◌, ℕ, zero, suc, ◌+◌, ◌≤◌, List, [], ◌∷◌, ◌++◌, length, refl, ap, arith}
 use Rattle.std.specs.Prelude.{Option, None, Some, IsSome}
 use Rattle.xen_steps.specs.Drive.{accesses, notices_in}
 use Rattle.xen_steps.specs.Event.{Event, Read, Write, Instr, Load, Add, Notify}
 use Rattle.xen_host.specs.Asks.{AllSized, Ask, IsSized, did_by, read_by}
 use Rattle.xen_host.specs.Asks as ask
 use Rattle.xen_host.specs.Loops.{AreSteps, IsStep}
-use Rattle.xen_host.specs.Queues.{resting}
+use Rattle.xen_host.specs.Queues.{resting, seen}
+use Rattle.xen_host.specs.Rest.{is_stepping}
 use Rattle.xen_host.specs.UnderWay.{read_by_some}
 use Rattle.xen_host.specs.declared.queue.Queue.{Queue}
+use Rattle.xen_host.specs.declared.stage.Stage.{Stage}
+use Rattle.xen_host.proofs.EngineLemmas.{ready_at}
 
 -- ---- what events weigh: one for each access, and one for each notice
 
@@ -103,7 +106,7 @@ pub data After (P : Queue → List Event → Option Ask → Type 0) (most v : �
 
 pub rested : (n : ℕ) (q new : Queue) → IsSome (resting q) → AreSteps n q new → n ≡ 0
 rested zero q new r s = refl
-rested (suc n) q new r s = let none = subst IsSome s.1.enough.busy r in cc none
+rested (suc n) q new r s = absurd (cc (s.1.enough.busy, ap (λ (g : Stage). is_stepping g) (ready_at (seen q) r)))
 
 pub step_few : {P : Queue → List Event → Option Ask → Type 0} {most : ℕ} (n v : ℕ) (q new : Queue) → AreSteps n q new →
     ((t : List Event) (a : Ask) → P q t (Some a) → IsSized a → n + (weight t + owed a) ≤ most + 1) → After P most v q → suc n + v ≤ most + 1

@@ -36,8 +36,8 @@ pub data Ask : Type 0 where
 -- A turn is over.
 abbrev pub done_op : Kind → HostOp
 done_op kind.Idle = over 0 0 0
-done_op (kind.Ran ops number slots) = record (over 1 0 slots) { number = number; ops = ops }
-done_op (kind.Refused cause ops slots) = record (over 2 (refusal_number cause) slots) { ops = ops }
+done_op (kind.Ran ops number slots) = record (over 1 0 slots) { word = number; lent = ops }
+done_op (kind.Refused cause ops slots) = record (over 2 (refusal_number cause) slots) { lent = ops }
 done_op (kind.Halted cause) = over 3 (halt_number cause) 0
 
 -- What became of a packet that was delivered.
@@ -62,7 +62,7 @@ entry_number ReadWrite = 2
 
 abbrev pub op_of : Ask → HostOp
 op_of (Read at count) = access 1 at count
-op_of (Entry at reference rights) = record (access 1 at 2) { entry = entry_number rights; reference = reference }
+op_of (Entry at reference rights) = record (access 1 at 2) { entry = entry_number rights; first = reference }
 op_of (Write at count) = access 2 at count
 op_of (Store at word) = record (access 5 at 1) { first = word }
 op_of (StoreTwo at first second) = record (access 5 at 2) { first = first; second = second }

@@ -21,6 +21,7 @@ Waiting w s g = Finishes (IsPageWant (length w.vif.owners.now)) (rest_of_wait w.
 -- It ends, whatever it is answered, and until then wants nothing that it may not.
 abbrev pub TaskCompletes : Wiring → State → Stage → WorkAt → Type 0
 TaskCompletes w s stage.Ready b = Unit {0}
+TaskCompletes w s stage.Several b = Unit {0}
 TaskCompletes w s (stage.Fill f purpose.Delivery) b = Arriving w s (stage.Fill f purpose.Delivery) b
 TaskCompletes w s (stage.Deliver producer) b = Arriving w s (stage.Deliver producer) b
 TaskCompletes w s (stage.Wait pages) b = Waiting w s (stage.Wait pages)
@@ -38,6 +39,7 @@ wait-prop w s g = Finishes-prop (IsPageWant (length w.vif.owners.now)) (IsPageWa
 
 pub TaskCompletes-prop : (w : Wiring) (s : State) (g : Stage) (b : WorkAt) → IsProp (TaskCompletes w s g b)
 TaskCompletes-prop w s stage.Ready b = λ x y i. x
+TaskCompletes-prop w s stage.Several b = λ x y i. x
 TaskCompletes-prop w s (stage.Fill f purpose.Delivery) b = delivery-prop w s (stage.Fill f purpose.Delivery) b
 TaskCompletes-prop w s (stage.Deliver producer) b = delivery-prop w s (stage.Deliver producer) b
 TaskCompletes-prop w s (stage.Wait pages) b = wait-prop w s (stage.Wait pages)

@@ -68,3 +68,4 @@ Fits-prop stage.Notice b = hlevel props
 Fits-prop (stage.Deliver producer) b = hlevel props
 Fits-prop (stage.Wait pages) b = hlevel props
 Fits-prop (stage.WaitLook pages) b = hlevel props
+Fits-prop stage.Several b = hlevel props

@@ -23,6 +23,7 @@ use Rattle.xen_turns.specs.Turned.{Ending}
 use Rattle.xen_turns.specs.Waits.{Wait}
 use Rattle.xen_host.specs.Asks.{AllSized, Ask, TakeNone, needs_no_answer}
 use Rattle.xen_host.specs.Chained.{replies, stores}
+use Rattle.xen_host.specs.Early.{EarlyFrom}
 use Rattle.xen_host.specs.Fed.{fed}
 use Rattle.xen_host.specs.Fits.{Fits}
 use Rattle.xen_host.specs.Hosts.{Asked, WasAskedAll, WasGiven, asks_of, events_of, plain_all}
@@ -123,6 +124,8 @@ pub record HasCopied {H : Type 0} (was : H → Ask → List ℕ → H → Type 0
   pub led : TurnRanLeads was full old.offload (bind (copy old.wires (drop i old.work.fragments)
       (old.work.packet ++ bytes_from f (f.offset / 4) words)) (after_copy old.wires old.state old.work.chain)) new went
       mid host_after
+  pub early : EarlyFrom (λ s. bind (copy old.wires (drop i old.work.fragments) (old.work.packet ++ bytes_from f (f.offset / 4) words)) (after_copy old.wires s
+      old.work.chain)) old.state new
 
 abbrev pub FillGoesOn : {H : Type 0} → (H → Ask → List ℕ → H → Type 0) → (H → Type 0) → (H → Place → List ℕ → H → Type 0) → Fill → Purpose →
     (old new : EngineAt) → (host host_after : H) → Type 0
@@ -136,6 +139,7 @@ FillGoesOn was full gave f p old new host host_after =
 abbrev pub GoesOnAt : {H : Type 0} → (H → Ask → List ℕ → H → Type 0) → (H → Type 0) → (H → Place → List ℕ → H → Type 0) → Stage →
     (old new : EngineAt) → (went : List (Option Op) → Type 0) → (host host_after : H) → Type 0
 GoesOnAt was full gave stage.Ready old new went host host_after = (new ≡ old) × (host_after ≡ host) × went []
+GoesOnAt was full gave stage.Several old new went host host_after = (new ≡ old) × (host_after ≡ host) × went []
 GoesOnAt was full gave (stage.Fill f purpose.Delivery) old new went host host_after =
     AfterAnswer gave (due_filling old.wires.vif old.state.rx_index f old.work) (reads_filling f) (λ words mid. DeliveryLeads was full old.offload old.work.packet
     (fed (rest_of_delivery old.wires.vif old.state (stage.Fill f purpose.Delivery) old.work) words) new mid host_after) host ×

@@ -1,18 +1,21 @@
 -- Stated: claims rest on this file.
 -- What queues that share counters do with them, and their reader.
-use Rattle.std.specs.Prelude.{ℕ, ◌≡◌, ◌⊎◌, ◌+◌, ◌++◌, List, [], ◌∷◌, IsSome, None, Some}
+use Rattle.std.specs.Prelude.{ℕ, ◌≡◌, ◌≢◌, ◌⊎◌, ◌+◌, ◌++◌, List, [], ◌∷◌, IsSome, None, Some}
 use Rattle.std.specs.Arc.{arc_value}
 use Rattle.bpf_maps.specs.Seats.{CountersView, SeatView, begin_of, new_seats}
 use Rattle.bpf_note.specs.Shape.{IsCounter}
 use Rattle.bpf_note.specs.declared.op.Op.TheVariants.{Add, Load}
 use Rattle.bpf_verify.specs.Consistent.{Accepted}
 use Rattle.xen_host.specs.Queues.{AreEnoughAtSeat, AreFewAtSeat, AreTheSame, HasSteppedAtSeat, resting, wired_to}
+use Rattle.xen_host.specs.Severals.{AreEnoughTogetherAtSeat, AreFewTogetherAtSeat, HasSteppedTogetherAtSeat}
 use Rattle.xen_host.specs.declared.op.HostOp.{HostOp}
 use Rattle.xen_host.specs.declared.queue.Queue.{Queue}
 use Rattle.xen_host.specs.declared.sharing.Share.{Share}
 use Rattle.xen_host.specs.declared.sharing.ShareFault.{ShareFault}
 use Rattle.xen_host.specs.declared.sharing.ShareFault.TheVariants as fault
 use Rattle.xen_host.specs.declared.sharing.SharedCounters.{SharedCounters}
+use Rattle.xen_host.specs.declared.stage.Stage.TheVariants as stage
+use Rattle.xen_host.specs.declared.turn_result.TurnResult.{TurnResult}
 
 -- The counters themselves.
 abbrev pub counters_of : SharedCounters → CountersView
@@ -106,3 +109,21 @@ pub record StepsShared (old new : Queue) (lent lent_after : List ℕ) (ops ops_a
   pub stepped : AreEnoughAtSeat old lent ops → HasSteppedAtSeat old new lent lent_after share.seat share_after.seat ops ops_after count
   pub few : AreFewAtSeat old lent ops →
       (count ≡ 0) × (lent_after ≡ lent) × (ops_after ≡ ops) × AreTheSame old new × (share_after.seat ≡ share.seat)
+
+-- So it is while a turn of several packets is under way, and of what is under way by itself, whose step leaves the results.
+pub record TurnsShared (old new : Queue) (lent lent_after : List ℕ) (ops ops_after : List HostOp) (results results_after : List TurnResult)
+    (count : ℕ) : Type 0 where
+  pub share : Share
+  pub share_after : Share
+  pub before : old.share ≡ Some share
+  pub after : new.share ≡ Some share_after
+  pub counters : share_after.counters ≡ share.counters
+  pub seat : share_after.seat ≡ record share.seat { ops = share_after.seat.ops }
+  pub stepped : AreEnoughTogetherAtSeat old lent ops results →
+      HasSteppedTogetherAtSeat old new lent lent_after share.seat share_after.seat ops ops_after results results_after count
+  pub few : old.engine.stage ≡ stage.Several → AreFewTogetherAtSeat lent ops results →
+      (count ≡ 0) × (lent_after ≡ lent) × (ops_after ≡ ops) × (results_after ≡ results) × AreTheSame old new × (share_after.seat ≡ share.seat)
+  pub alone : AreEnoughAtSeat old lent ops →
+      (results_after ≡ results) × HasSteppedAtSeat old new lent lent_after share.seat share_after.seat ops ops_after count
+  pub none : old.engine.stage ≢ stage.Several → AreFewAtSeat old lent ops →
+      (count ≡ 0) × (lent_after ≡ lent) × (ops_after ≡ ops) × (results_after ≡ results) × AreTheSame old new × (share_after.seat ≡ share.seat)

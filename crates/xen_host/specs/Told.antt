@@ -17,9 +17,10 @@ abbrev pub IsEntry : List ℕ → Rights → Ask → Type 0
 IsEntry table rights (Entry at reference wanted) = (entry_place table reference ≡ Some at) × (wanted ≡ rights)
 IsEntry table rights a = ⊥
 
-abbrev pub IsPush : Ask → Type 0
-IsPush (Push at word read) = Unit {0}
-IsPush a = ⊥
+-- A PUSH that stores in this word of a ring's page (ring.h, struct sring: req_event is word 1, rsp_prod is word 2).
+abbrev pub IsPush : ℕ → Ask → Type 0
+IsPush n (Push at word read) = at.word ≡ n
+IsPush n a = ⊥
 
 -- Neither an entry nor a PUSH.
 abbrev pub IsOther : Ask → Type 0
@@ -29,14 +30,14 @@ IsOther a = Unit {0}
 
 abbrev pub IsToldFilling : List ℕ → Fill → Ask → Type 0
 IsToldFilling table (fill.Grant left id at) a = IsEntry table ReadWrite a
-IsToldFilling table (fill.Push grants) a = IsPush a
+IsToldFilling table (fill.Push grants) a = IsPush 2 a
 IsToldFilling table f a = IsOther a
 
 -- What was said last, by the stage that it leads to.
 abbrev pub IsToldAt : List ℕ → Stage → Ask → Type 0
-IsToldAt table stage.Announce a = IsPush a
+IsToldAt table stage.Announce a = IsPush 1 a
 IsToldAt table (stage.Entry i at) a = IsEntry table ReadOnly a
 IsToldAt table (stage.Fill f p) a = IsToldFilling table f a
-IsToldAt table stage.Push a = IsPush a
-IsToldAt table (stage.WaitLook pages) a = IsPush a
+IsToldAt table stage.Push a = IsPush 2 a
+IsToldAt table (stage.WaitLook pages) a = IsPush 1 a
 IsToldAt table g a = IsOther a

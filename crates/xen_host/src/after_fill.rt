@@ -1,9 +1,10 @@
 //! After a packet went into rx buffers, or couldn't: one that was sent back, and one of the host's own.
 
-ghost use Rattle.std.specs.Prelude.{◌≡◌, ◌≤◌, ℕ, List, length};
+ghost use Rattle.std.specs.Prelude.{◌≡◌, ℕ, List, true};
 ghost use Rattle.xen_steps.specs.Steps.{done, next};
 ghost use Rattle.xen_turns.specs.Deliveries.{unless_halted};
 ghost use Rattle.xen_turns.specs.Tree.{after_transmit};
+ghost use Rattle.xen_host.specs.Early.{is_late};
 ghost use Rattle.xen_host.specs.HostLed.{DeliveryLeads, FillLeads, TurnLeads};
 ghost use Rattle.xen_host.specs.Led.{beside};
 ghost use Rattle.xen_turns.specs.declared.wiring.Wiring.{Wiring};
@@ -32,6 +33,7 @@ impl Engine {
         requires free { H.is_free host.old }
         ensures led { FillLeads H.was_asked H.is_full purpose (beside (engine_at (W.wiring wires.now) (R.held packet.old) self.old)) (done
             outcome) (engine_at (W.wiring wires.now) (R.held packet.new) self.new) host.old host.new }
+        ensures late { is_late self.new.stage ≡ true }
     {
         match purpose {
             Purpose::Back { ops: counted } => self.sent(counted, outcome, wires, packet, host),
@@ -56,6 +58,7 @@ impl Engine {
         ensures led { TurnLeads H.was_asked H.is_full self.old.offload (after_transmit (W.wiring wires.now)
             self.old.state
             self.old.work.chain (R.held packet.old) counted outcome) (engine_at (W.wiring wires.now) (R.held packet.new) self.new) host.old host.new }
+        ensures late { is_late self.new.stage ≡ true }
     {
         let slots = self.work.chain.len() as u32;
         match after_sending(&self.state, counted, slots, outcome) {
@@ -95,6 +98,7 @@ impl Engine {
           after,
           delivery,
         )) (engine_at w packet self.new) host.old host.new }
+        ensures late { is_late self.new.stage ≡ true }
     {
         self.state = after;
         self.stage = Stage::Ready;

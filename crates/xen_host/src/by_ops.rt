@@ -1,11 +1,11 @@
 //! A turn's beginning and a step, for a host in C: what is asked stands in its ops.
 
-ghost use Rattle.std.specs.Prelude.{◌≡◌, ◌<◌, ◌≤◌, IsSome, None, length};
+ghost use Rattle.std.specs.Prelude.{◌≡◌, ◌<◌, ◌≤◌, IsSome, length, true};
 ghost use Rattle.bpf_maps.specs.Layout.{total};
 ghost use Rattle.bpf_maps.specs.Seats.{IsSeatOf};
 ghost use Rattle.xen_host.specs.Hosts.{IsFresh, IsFree, IsSameLoan};
 ghost use Rattle.xen_host.specs.LentWords.{lent_words};
-ghost use Rattle.xen_host.specs.Queues.{HasBegun, HasStepped, HasSteppedAtSeat, resting, wired_to};
+ghost use Rattle.xen_host.specs.Queues.{HasBegun, HasStepped, HasSteppedAtSeat, has_steps, resting, wired_to};
 
 use crate::host::Ops;
 use crate::op::HostOp;
@@ -46,7 +46,7 @@ impl Queue {
     /// Goes on with what is under way, over a host that has said nothing yet.
     #[inline(always)]
     fn step_ops(&mut self, counters: &mut [u64], host: &mut Ops<'_>)
-        requires busy { resting self.old ≡ None }
+        requires busy { has_steps self.old ≡ true }
         requires counts { total (wired_to self.old).program.shapes ≤ length counters.old }
         requires fresh { IsFresh host.old }
         ensures counters { length counters.new ≡ length counters.old }
@@ -67,7 +67,7 @@ impl Queue {
         counters: &mut [u64],
         ops: &mut [HostOp],
     ) -> usize
-        requires busy { resting self.old ≡ None }
+        requires busy { has_steps self.old ≡ true }
         requires enough { 1024 ≤ length words.old }
         requires counts { total (wired_to self.old).program.shapes ≤ length counters.old }
         requires room { 1 ≤ length ops.old }
@@ -88,7 +88,7 @@ impl Queue {
     /// As `step_ops`, at a seat.
     #[inline(always)]
     fn step_ops_at_seat(&mut self, counters: &Counters, seat: &mut CounterSeat, host: &mut Ops<'_>)
-        requires busy { resting self.old ≡ None }
+        requires busy { has_steps self.old ≡ true }
         requires shapes { counters.now.shapes ≡ (wired_to self.old).program.shapes }
         requires seat { IsSeatOf counters.now seat.old }
         requires fresh { IsFresh host.old }
@@ -110,7 +110,7 @@ impl Queue {
         seat: &mut CounterSeat,
         ops: &mut [HostOp],
     ) -> usize
-        requires busy { resting self.old ≡ None }
+        requires busy { has_steps self.old ≡ true }
         requires enough { 1024 ≤ length words.old }
         requires shapes { counters.now.shapes ≡ (wired_to self.old).program.shapes }
         requires seat { IsSeatOf counters.now seat.old }

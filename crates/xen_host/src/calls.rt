@@ -1,13 +1,14 @@
 //! An engine's calls, for whoever lends it its wiring and the room of its packet.
 
-ghost use Rattle.std.specs.Prelude.{◌≡◌, IsSome, List, None, Some, ℕ};
+ghost use Rattle.std.specs.Prelude.{◌≡◌, IsSome, List, Some, true, ℕ};
 ghost use Rattle.xdp_program.specs.Tallies.{Went};
 ghost use Rattle.xen_turns.specs.declared.wiring.Wiring.{Wiring};
 ghost use Rattle.xen_host.specs.EngineAt.{engine_at};
-ghost use Rattle.xen_host.specs.Rest.{no_offload};
+ghost use Rattle.xen_host.specs.Rest.{is_stepping, no_offload};
 ghost use Rattle.xen_host.specs.Stands.{Stands};
 ghost use Rattle.xen_host.specs.StepsAt.{BeginsAt, StepsAt};
 ghost use Rattle.xen_host.specs.UnderWay.{resting_at};
+ghost use Rattle.xen_host.specs.declared.stage.Stage.TheVariants as stage;
 
 use crate::engine::Engine;
 use crate::host::Host;
@@ -23,6 +24,7 @@ impl Engine {
     /// An engine between two turns.
     pub fn new(state: State) -> Engine
         ensures offload { result.offload ≡ no_offload }
+        ensures ready { result.stage ≡ stage.Ready }
         ensures rests { (w : Wiring) (packet : List ℕ) → resting_at (engine_at w packet result) ≡ Some state }
     {
         Engine {
@@ -79,7 +81,7 @@ impl Engine {
         host: &mut H,
     )
         requires stands { Stands (engine_at (W.wiring wires.now) (R.held packet.old) self.old) }
-        requires busy { resting_at (engine_at (W.wiring wires.now) (R.held packet.old) self.old) ≡ None }
+        requires busy { is_stepping self.old.stage ≡ true }
         requires counts { T.serves (W.wiring wires.now).program.now.shapes counters.old }
         requires fresh { H.is_fresh host.old }
         requires free { H.is_free host.old }

@@ -1,11 +1,11 @@
 //! A step over any host, with the program's counters where they are: in words of the host's, or at a seat.
 
-ghost use Rattle.std.specs.Prelude.{◌≡◌, ◌≤◌, None, length};
+ghost use Rattle.std.specs.Prelude.{◌≡◌, ◌≤◌, length, true};
 ghost use Rattle.bpf_maps.specs.Layout.{total};
 ghost use Rattle.bpf_maps.specs.Seats.{IsSeatOf};
 ghost use Rattle.xdp_program.specs.Tallies.{HasWords, IsSeated, Went};
 ghost use Rattle.xen_host.specs.Over.{SteppedOver, StepsOver, StepsOverAtSeat};
-ghost use Rattle.xen_host.specs.Queues.{resting, wired_to};
+ghost use Rattle.xen_host.specs.Queues.{has_steps, wired_to};
 
 use crate::host::Host;
 use crate::queue::Queue;
@@ -16,7 +16,7 @@ impl Queue {
     /// Goes on with what is under way: takes the answer that it waits for, and asks its host for what comes then.
     #[inline(always)]
     fn step_counting<H: Host, T: Tallies>(&mut self, counters: &mut T, host: &mut H)
-        requires busy { resting self.old ≡ None }
+        requires busy { has_steps self.old ≡ true }
         requires counts { T.serves (wired_to self.old).program.shapes counters.old }
         requires fresh { H.is_fresh host.old }
         requires free { H.is_free host.old }
@@ -31,7 +31,7 @@ impl Queue {
     /// As [`Queue::step_by`], in words that are lent.
     #[inline(always)]
     fn step_in_words<H: Host>(&mut self, counters: &mut CounterWords<'_>, host: &mut H)
-        requires busy { resting self.old ≡ None }
+        requires busy { has_steps self.old ≡ true }
         requires counts { HasWords (wired_to self.old).program.shapes counters.old }
         requires fresh { H.is_fresh host.old }
         requires free { H.is_free host.old }
@@ -48,7 +48,7 @@ impl Queue {
     /// counters are words of the host's.
     #[inline(always)]
     pub fn step_by<H: Host>(&mut self, counters: &mut [u64], host: &mut H)
-        requires busy { resting self.old ≡ None }
+        requires busy { has_steps self.old ≡ true }
         requires counts { total (wired_to self.old).program.shapes ≤ length counters.old }
         requires fresh { H.is_fresh host.old }
         requires free { H.is_free host.old }
@@ -63,7 +63,7 @@ impl Queue {
     /// As [`Queue::step_by_at_seat`], at a seat that is lent.
     #[inline(always)]
     fn step_seated<H: Host>(&mut self, counters: &mut Seated<'_>, host: &mut H)
-        requires busy { resting self.old ≡ None }
+        requires busy { has_steps self.old ≡ true }
         requires counts { IsSeated (wired_to self.old).program.shapes counters.old }
         requires fresh { H.is_fresh host.old }
         requires free { H.is_free host.old }
@@ -83,7 +83,7 @@ impl Queue {
         seat: &mut CounterSeat,
         host: &mut H,
     )
-        requires busy { resting self.old ≡ None }
+        requires busy { has_steps self.old ≡ true }
         requires shapes { counters.now.shapes ≡ (wired_to self.old).program.shapes }
         requires seat { IsSeatOf counters.now seat.old }
         requires fresh { H.is_fresh host.old }

@@ -1,10 +1,11 @@
 //! What a queue works with.
 
-ghost use Rattle.std.specs.Prelude.{◌≡◌};
+ghost use Rattle.std.specs.Prelude.{true, ◌≡◌};
 ghost use Rattle.xen_steps.specs.Steps.{done};
 ghost use Rattle.xen_turns.specs.Tree.{halted as halted_spec};
 ghost use Rattle.xen_turns.specs.Turned.{turned};
 ghost use Rattle.xen_turns.specs.declared.wiring.Wiring.{Wiring};
+ghost use Rattle.xen_host.specs.Early.{is_late};
 ghost use Rattle.xen_host.specs.EngineAt.{engine_at};
 ghost use Rattle.xen_host.specs.HostLed.{TurnLeads};
 ghost use Rattle.xen_host.specs.Led.{packet_after};
@@ -44,8 +45,14 @@ impl Engine {
     #[inline(always)]
     pub(crate) fn end<H: Host, R: Room>(&mut self, kind: Kind, packet: &mut R, host: &mut H)
         requires { H.is_free host.old }
-        ensures led { (w : Wiring) → TurnLeads H.was_asked H.is_full self.old.offload (done (self.old.state, turned kind (R.held packet.old)))
+        ensures led { (w : Wiring) → TurnLeads H.was_asked H.is_full self.old.offload (done (
+          self.old.state,
+          turned kind (R.held
+              packet.old),
+        ))
             (engine_at w (R.held packet.new) self.new) host.old host.new }
+        ensures rx { self.new.state.rx_index ≡ self.old.state.rx_index }
+        ensures late { is_late self.new.stage ≡ true }
     {
         keep_packet(&kind, packet);
         self.stage = Stage::Ready;
@@ -58,6 +65,8 @@ impl Engine {
         requires { H.is_free host.old }
         ensures led { (w : Wiring) → TurnLeads H.was_asked H.is_full self.old.offload (halted_spec self.old.state cause)
             (engine_at w (R.held packet.new) self.new) host.old host.new }
+        ensures rx { self.new.state.rx_index ≡ self.old.state.rx_index }
+        ensures late { is_late self.new.stage ≡ true }
     {
         self.state = halted(&self.state, cause);
         self.end(Kind::Halted { cause }, packet, host)

@@ -24,6 +24,7 @@ impl Model for Offload {
 
 impl Offload {
     ghost use Rattle.xen_netif.specs.Slots.{tx_flags_of};
+    ghost use Rattle.xen_host.specs.Offload.{segment_size, segment_type};
     ghost use Rattle.xen_host.specs.Rest.{no_offload};
 
     /// That of a turn that has read no slot.
@@ -73,5 +74,25 @@ impl Offload {
         ensures { result ≡ self.now.segments }
     {
         self.segments
+    }
+
+    /// The number of their type, and 0 for none.
+    pub(crate) fn segment_type(&self) -> u16
+        ensures { result ≡ segment_type self.now.segments }
+    {
+        match self.segments {
+            Some(segments) => u16::from(segments.kind.number()),
+            None => 0,
+        }
+    }
+
+    /// The most bytes of payload in each, and 0 for none.
+    pub(crate) fn segment_size(&self) -> u16
+        ensures { result ≡ segment_size self.now.segments }
+    {
+        match self.segments {
+            Some(segments) => segments.size,
+            None => 0,
+        }
     }
 }

@@ -5,6 +5,7 @@ ghost use Rattle.xen_ring.specs.Index.{is_due};
 ghost use Rattle.xen_steps.specs.Places.{add32};
 ghost use Rattle.xen_steps.specs.Steps.{done};
 ghost use Rattle.xen_rx_fill.specs.Transmit.{outcome_of, rx_answer, rx_notice, rx_publish};
+ghost use Rattle.xen_host.specs.Early.{is_late};
 ghost use Rattle.xen_host.specs.Chained.{reply};
 ghost use Rattle.xen_host.specs.EngineAt.{engine_at};
 ghost use Rattle.xen_host.specs.HostLed.{FillLeads, HasReplied};
@@ -45,7 +46,8 @@ impl Engine {
     )
         requires within { i < length self.now.work.targets }
         requires free { H.is_free host.old }
-        ensures asked { H.was_asked host.old (reply (W.wiring wires.now).vif self.now.state.rx_index (rx_offload purpose self.now.work.offload) (R.held packet.now)
+        ensures asked { H.was_asked host.old (reply (W.wiring wires.now).vif self.now.state.rx_index (rx_offload purpose
+            self.now.work.offload) (R.held packet.now)
             grants self.now.work.targets i) [] host.new }
         ensures settled { H.is_settled host.new }
     {
@@ -67,7 +69,8 @@ impl Engine {
     ) -> Option<u32>
         requires within { from ≤ length self.now.work.targets }
         requires free { H.is_free host.old }
-        ensures { HasReplied H.was_asked H.is_free H.is_full (engine_at (W.wiring wires.now) (R.held packet.now) self.now) (rx_offload purpose self.now.work.offload)
+        ensures { HasReplied H.was_asked H.is_free H.is_full (engine_at (W.wiring wires.now) (R.held packet.now) self.now) (rx_offload
+            purpose self.now.work.offload)
             grants from result host.old host.new }
     {
         for i in from..self.work.targets.len() {
@@ -95,6 +98,7 @@ impl Engine {
         ensures led { FillLeads H.was_asked H.is_full purpose (beside (engine_at (W.wiring wires.now) (R.held packet.now) self.old))
             (rx_answer (W.wiring wires.now).vif self.old.state.rx_index (rx_offload purpose self.old.work.offload) (R.held packet.now) grants (length
             self.old.work.targets) from (drop from self.old.work.targets)) (engine_at (W.wiring wires.now) (R.held packet.now) self.new) host.old host.new }
+        ensures late { is_late self.new.stage ≡ true }
     {
         match self.say_replies(purpose, grants, from, wires, packet, host) {
             Some(i) => {
@@ -120,6 +124,7 @@ impl Engine {
         ensures led { (packet : List ℕ) → FillLeads H.was_asked H.is_full purpose (beside (engine_at (W.wiring wires.now) packet
             self.old)) (rx_publish (W.wiring wires.now).vif self.old.state.rx_index grants (length self.old.work.targets))
             (engine_at (W.wiring wires.now) packet self.new) host.old host.new }
+        ensures late { is_late self.new.stage ≡ true }
     {
         self.stage = Stage::Fill {
             fill: Fill::Push { grants },
@@ -145,6 +150,7 @@ impl Engine {
             (rx_notice (W.wiring wires.now).vif (is_due self.old.state.rx_index (add32 self.old.state.rx_index (length
             self.old.work.targets)) event) (outcome_of grants (length self.old.work.targets))) (engine_at (W.wiring wires.now)
             (R.held packet.new) self.new) host.old host.new }
+        ensures late { is_late self.new.stage ≡ true }
     {
         let end = self.state.rx_index.wrapping_add(self.work.targets.len());
         if due(self.state.rx_index, end, event) {
@@ -168,6 +174,7 @@ impl Engine {
         ensures led { FillLeads H.was_asked H.is_full purpose (beside (engine_at (W.wiring wires.now) (R.held packet.old) self.old))
             (rx_notice (W.wiring wires.now).vif true (outcome_of grants (length self.old.work.targets))) (engine_at (W.wiring
             wires.now) (R.held packet.new) self.new) host.old host.new }
+        ensures late { is_late self.new.stage ≡ true }
     {
         self.stage = Stage::Fill {
             fill: Fill::Notice { grants },
@@ -193,6 +200,7 @@ impl Engine {
         ensures led { FillLeads H.was_asked H.is_full purpose (beside (engine_at (W.wiring wires.now) (R.held packet.old) self.old)) (done
             (outcome_of grants (length self.old.work.targets))) (engine_at (W.wiring wires.now) (R.held packet.new) self.new) host.old
             host.new }
+        ensures late { is_late self.new.stage ≡ true }
     {
         let outcome = outcome_of(grants, self.work.targets.len());
         self.filled(purpose, outcome, wires, packet, host)

@@ -1,6 +1,6 @@
 //! A packet on its way into rx buffers.
 
-ghost use Rattle.std.specs.Prelude.{◌≡◌, ◌<◌, ◌≤◌, ◌+◌, ◌*◌, ◌-◌, ◌++◌, ◌∷◌, [], ℕ, List, drop, false, length, map, suc, take, true};
+ghost use Rattle.std.specs.Prelude.{◌≡◌, ◌<◌, ◌≤◌, ◌+◌, ◌*◌, ◌-◌, ◌++◌, ◌∷◌, [], ℕ, List, false, length, suc, true};
 ghost use Rattle.std.specs.Prelude.{None, Some};
 ghost use Rattle.std.specs.Prelude.{slice_index};
 ghost use Rattle.xen_netif.specs.Slots.{rx_req_of};
@@ -10,10 +10,11 @@ ghost use Rattle.xen_page.specs.declared.entry.Rights.TheVariants.{ReadWrite};
 ghost use Rattle.xen_steps.specs.Places.{add32, available};
 ghost use Rattle.xen_steps.specs.Steps.{bind};
 ghost use Rattle.xen_rx_fill.specs.Entries.{entry};
-ghost use Rattle.xen_rx_fill.specs.Packets.{frame_in, response_word, slot_of, takes_extra, target_at, words as packet_size};
-ghost use Rattle.xen_rx_fill.specs.Places.{rx_slot, rx_word};
+ghost use Rattle.xen_rx_fill.specs.Packets.{takes_extra};
+ghost use Rattle.xen_rx_fill.specs.Places.{rx_slot};
 ghost use Rattle.xen_rx_fill.specs.Transmit.{after_targets, fill_from, found, read_targets, requested, rx_respond, targeted};
 ghost use Rattle.xen_rx_fill.specs.declared.target.Grants.TheVariants.{Passed, Refused};
+ghost use Rattle.xen_host.specs.Early.{is_late};
 ghost use Rattle.xen_host.specs.Fits.{FillFits};
 ghost use Rattle.xen_host.specs.HostLed.{FillGoesOn, FillLeads};
 ghost use Rattle.xen_host.specs.Led.{beside};
@@ -46,8 +47,10 @@ impl Engine {
         requires fits { FillFits fill (work_at (R.held packet.old) self.old.work) }
         requires fresh { H.is_fresh host.old }
         requires free { H.is_free host.old }
-        ensures led { FillGoesOn H.was_asked H.is_full H.has_given fill purpose (engine_at (W.wiring wires.now) (R.held packet.old) self.old)
+        ensures led { FillGoesOn H.was_asked H.is_full H.has_given fill purpose (engine_at (W.wiring wires.now) (R.held packet.old)
+            self.old)
             (engine_at (W.wiring wires.now) (R.held packet.new) self.new) host.old host.new }
+        ensures late { is_late self.new.stage ≡ true }
     {
         match fill {
             Fill::Producer => {
@@ -91,6 +94,7 @@ impl Engine {
             (W.wiring wires.now).vif self.old.state.rx_index (rx_offload purpose self.old.work.offload) (R.held packet.old) (available self.old.state.rx_index
             producer)) (engine_at
             (W.wiring wires.now) (R.held packet.new) self.new) host.old host.new }
+        ensures late { is_late self.new.stage ≡ true }
     {
         match requests_shown(self.state.rx_index, producer) {
             None => self.filled(purpose, TransmitOutcome::Overflow, wires, packet, host),
@@ -121,6 +125,7 @@ impl Engine {
         ensures led { FillLeads H.was_asked H.is_full purpose (beside (engine_at (W.wiring wires.now) (R.held packet.now) self.old))
             (rx_respond (W.wiring wires.now).vif self.old.state.rx_index (rx_offload purpose self.old.work.offload) (R.held packet.now) Passed
             self.old.work.targets) (engine_at (W.wiring wires.now) (R.held packet.now) self.new) host.old host.new }
+        ensures late { is_late self.new.stage ≡ true }
     {
         self.reply_from(purpose, Grants::Passed, 0, wires, packet, host)
     }
@@ -134,6 +139,7 @@ impl Engine {
             self.old)) (bind (read_targets (W.wiring wires.now).vif self.old.state.rx_index (rx_offload purpose self.old.work.offload) (suc left)
             self.old.work.targets) (after_targets (W.wiring wires.now).vif self.old.state.rx_index (rx_offload purpose self.old.work.offload) packet)) (engine_at (W.wiring wires.now) packet
             self.new) host.old host.new }
+        ensures late { is_late self.new.stage ≡ true }
     {
         self.stage = Stage::Fill {
             fill: Fill::Slot { left },
@@ -170,6 +176,7 @@ impl Engine {
             (read_targets (W.wiring wires.now).vif self.old.state.rx_index (rx_offload purpose self.old.work.offload) left) (rx_req_of slot)) (after_targets
             (W.wiring wires.now).vif self.old.state.rx_index (rx_offload purpose self.old.work.offload) (R.held packet.now))) (engine_at (W.wiring wires.now)
             (R.held packet.now) self.new) host.old host.new }
+        ensures late { is_late self.new.stage ≡ true }
     {
         let request = RxReq::of_words(slot);
         if self.takes_extra(purpose, self.work.targets.len()) {
@@ -199,6 +206,7 @@ impl Engine {
               frame = None;
             } ∷ [])) (after_targets (W.wiring wires.now).vif self.old.state.rx_index (rx_offload purpose self.old.work.offload) (R.held packet.now))) (engine_at
             (W.wiring wires.now) (R.held packet.now) self.new) host.old host.new }
+        ensures late { is_late self.new.stage ≡ true }
     {
         self.passed(
             purpose,
@@ -227,6 +235,7 @@ impl Engine {
             (requested (W.wiring wires.now).vif false self.old.work.targets (read_targets (W.wiring wires.now).vif
             self.old.state.rx_index (rx_offload purpose self.old.work.offload) left) request) (after_targets (W.wiring wires.now).vif self.old.state.rx_index
             (rx_offload purpose self.old.work.offload) (R.held packet.now))) (engine_at (W.wiring wires.now) (R.held packet.now) self.new) host.old host.new }
+        ensures late { is_late self.new.stage ≡ true }
     {
         let RxReq { id, gref } = request;
         match wires.place(gref) {
@@ -259,6 +268,7 @@ impl Engine {
                   id;
               frame = None;
             } ∷ [])) (engine_at (W.wiring wires.now) (R.held packet.now) self.new) host.old host.new }
+        ensures late { is_late self.new.stage ≡ true }
     {
         self.work.targets.push(Target { id, frame: None });
         self.reply_from(purpose, Grants::Refused, 0, wires, packet, host)
@@ -284,6 +294,7 @@ impl Engine {
             (W.wiring wires.now).vif.owners.now (W.wiring wires.now).vif.granter (W.wiring wires.now).vif.user (entry_of
             (slice_index words 0) (slice_index words 1)) ReadWrite)) (after_targets (W.wiring wires.now).vif self.old.state.rx_index
             (rx_offload purpose self.old.work.offload) (R.held packet.now))) (engine_at (W.wiring wires.now) (R.held packet.now) self.new) host.old host.new }
+        ensures late { is_late self.new.stage ≡ true }
     {
         let entry = Entry::of_words(words[0], words[1]);
         match wires.granted(entry, Rights::ReadWrite) {
@@ -316,6 +327,7 @@ impl Engine {
             (read_targets (W.wiring wires.now).vif self.old.state.rx_index (rx_offload purpose self.old.work.offload) left (self.old.work.targets ++ target ∷ []))
             (after_targets (W.wiring wires.now).vif self.old.state.rx_index (rx_offload purpose self.old.work.offload) (R.held packet.now))) (engine_at (W.wiring
             wires.now) (R.held packet.now) self.new) host.old host.new }
+        ensures late { is_late self.new.stage ≡ true }
     {
         self.work.targets.push(target);
         if left == 0 {
@@ -342,6 +354,7 @@ impl Engine {
             (fill_from (W.wiring wires.now).vif self.old.state.rx_index (rx_offload purpose self.old.work.offload) (R.held packet.now) self.old.work.targets (1024
             * i)) (engine_at
             (W.wiring wires.now) (R.held packet.now) self.new) host.old host.new }
+        ensures late { is_late self.new.stage ≡ true }
     {
         let all = words_of(packet.bytes());
         let from = 1024 * i;

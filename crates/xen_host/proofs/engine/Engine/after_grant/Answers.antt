@@ -12,8 +12,8 @@ use Rattle.xen_host.specs.EngineAt.{engine_at}
 use Rattle.xen_host.specs.Rest.{rx_offload}
 use Rattle.xen_host.proofs.engine.Engine.after_grant.Goals as goal
 
-pub returns-in-Err : goal.returns-in-Err
-returns-in-Err g c =
+pub returns-in-Err-clause-led : goal.returns-in-Err-clause-led
+returns-in-Err-clause-led g c =
     let q = engine_at (g.W.Wires.wiring c.args.wires.now) (g.R.Room.held c.args.packet.now) c.args.self.now in
     let w = q.wires.vif in
     let x = q.state.rx_index in
@@ -22,10 +22,10 @@ returns-in-Err g c =
     let after = after_targets w x o q.work.packet in
     let is = ap (λ (e : Entry). checked q.wires.vif.owners.now q.wires.vif.granter q.wires.vif.user e ReadWrite) (sym c.of_words-entry.ensures.entry) ∙ sym c.granted.ensures ∙ c.in-Err.is in
     let same = ap (λ (r : Result ℕ GrantFault). bind (targeted ts (read_targets w x o c.args.left) c.args.id r) after) is in
-    record { led = fill_same _ _ c.args.purpose (beside q) _ _ _ _ _ (sym same) c.refuse_post.ensures.led }
+    fill_same _ _ c.args.purpose (beside q) _ _ _ _ _ (sym same) c.refuse_post.ensures.led
 
-pub returns-in-Ok : goal.returns-in-Ok
-returns-in-Ok g c =
+pub returns-in-Ok-clause-led : goal.returns-in-Ok-clause-led
+returns-in-Ok-clause-led g c =
     let q = engine_at (g.W.Wires.wiring c.args.wires.now) (g.R.Room.held c.args.packet.now) c.args.self.now in
     let w = q.wires.vif in
     let x = q.state.rx_index in
@@ -34,4 +34,4 @@ returns-in-Ok g c =
     let after = after_targets w x o q.work.packet in
     let is = ap (λ (e : Entry). checked q.wires.vif.owners.now q.wires.vif.granter q.wires.vif.user e ReadWrite) (sym c.of_words-entry.ensures.entry) ∙ sym c.granted.ensures ∙ c.in-Ok.is in
     let same = ap (λ (r : Result ℕ GrantFault). bind (targeted ts (read_targets w x o c.args.left) c.args.id r) after) is in
-    record { led = fill_same _ _ c.args.purpose (beside q) _ _ _ _ _ (sym same) c.passed.ensures.led }
+    fill_same _ _ c.args.purpose (beside q) _ _ _ _ _ (sym same) c.passed.ensures.led

@@ -1,4 +1,4 @@
-use Rattle.std.proofs.Common.{Bool, true, false, ℕ, ◌≡◌, ◌<◌, ◌≤◌, List, [], ◌∷◌, length, drop, refl, sym, ap, arith, ◌∙◌, subst}
+use Rattle.std.proofs.Common.{Bool, true, false, ℕ, ◌≡◌, ◌<◌, ◌≤◌, List, [], ◌∷◌, length, sym, ap, arith, ◌∙◌, subst}
 use Rattle.std.specs.Prelude.{IsTrue, Ok, Result, ◌&&◌}
 use Rattle.std.specs.List.{list_all}
 use Rattle.xen_netif.specs.Fragments.{is_in_page}
@@ -21,6 +21,8 @@ use Rattle.xen_host.specs.HostLed.{TurnLeads}
 use Rattle.xen_host.specs.Offload.{Offload}
 use Rattle.xen_host.proofs.HostLedLemmas.{asked_from}
 use Rattle.xen_host.proofs.OffloadLemmas.{alone_behind}
+use Rattle.xen_host.proofs.EarlyLemmas.{early_as, late_early}
+use Rattle.xen_turns.specs.declared.state.State.{State}
 use Rattle.xen_host.proofs.engine.Engine.after_only_slot.Goals as goal
 
 -- a fragment that is all
@@ -35,8 +37,8 @@ room_alone : (b : WorkAt) (f : Fragment) → b.fragments ≡ f ∷ [] → b.pack
 room_alone b f one none inside short =
     record { within = omega arith; in_page = rw one (in_page_alone f inside); room = rw none (rw one (omega (arith, short))) }
 
-pub returns-in-Err : goal.returns-in-Err
-returns-in-Err g c =
+pub returns-in-Err-clause-led : goal.returns-in-Err-clause-led
+returns-in-Err-clause-led g c =
     let q = engine_at (g.W.Wires.wiring c.args.wires.now) (g.R.Room.held c.args.packet.now) c.args.self.now in
     let w = q.wires in
     let chain = c.args.slot ∷ [] in
@@ -45,13 +47,11 @@ returns-in-Err g c =
     let refused = plain_offered w.offers c.args.slot [] c.requires.plain ∙ c.in-Err.ensures.answer in
     let kept = ap (λ (l : List Slot). respond w q.state l Error (Refused (refusal.Size c.in-Err.fault) 0 (length l))) c.hold.ensures in
     let same = kept ∙ sym (ap (λ (r : Result (List Fragment) SizeFault). after_chain w q.state chain r) refused) in
-    record {
-      led = subst (λ (f : Offload). TurnLeads g.H.Host.was_asked g.H.Host.is_full f (after_chain w q.state chain (offered_fragments w.offers chain)) (engine_at w (g.R.Room.held c.args.packet.now) c.refuse.new.self) c.args.host.now c.refuse.new.host) offload
-          (asked_from _ _ _ _ _ _ _ _ _ same (c.refuse.ensures.led q.work.packet));
-    }
+    subst (λ (f : Offload). TurnLeads g.H.Host.was_asked g.H.Host.is_full f (after_chain w q.state chain (offered_fragments w.offers chain)) (engine_at w (g.R.Room.held c.args.packet.now) c.refuse.new.self) c.args.host.now c.refuse.new.host) offload
+    (asked_from _ _ _ _ _ _ _ _ _ same (c.refuse.ensures.led q.work.packet))
 
-pub returns-in-Ok : goal.returns-in-Ok
-returns-in-Ok g c =
+pub returns-in-Ok-clause-led : goal.returns-in-Ok-clause-led
+returns-in-Ok-clause-led g c =
     let q = engine_at (g.W.Wires.wiring c.args.wires.now) (g.R.Room.held c.args.packet.now) c.args.self.now in
     let w = q.wires in
     let chain = c.args.slot ∷ [] in
@@ -67,7 +67,23 @@ returns-in-Ok g c =
     let none = ap (λ (l : List ℕ). bind (copy w fs l) (after_copy w q.state held)) c.clear.ensures in
     let kept = ap (λ (l : List Slot). bind (copy w fs []) (after_copy w q.state l)) c.hold.ensures in
     let same = first ∙ none ∙ kept ∙ sym (ap (λ (r : Result (List Fragment) SizeFault). after_chain w q.state chain r) taken) in
-    record {
-      led = subst (λ (f : Offload). TurnLeads g.H.Host.was_asked g.H.Host.is_full f (after_chain w q.state chain (offered_fragments w.offers chain)) (engine_at w p c.read_entry_of.new.self) c.args.host.now c.read_entry_of.new.host) offload
-          (asked_from _ _ _ _ _ _ _ _ _ same (c.read_entry_of.ensures.led p (room_alone _ f c.put_alone.ensures c.clear.ensures c.in-Ok.ensures.in_page c.in-Ok.ensures.short)));
-    }
+    subst (λ (f : Offload). TurnLeads g.H.Host.was_asked g.H.Host.is_full f (after_chain w q.state chain (offered_fragments w.offers chain)) (engine_at w p c.read_entry_of.new.self) c.args.host.now c.read_entry_of.new.host) offload
+    (asked_from _ _ _ _ _ _ _ _ _ same (c.read_entry_of.ensures.led p (room_alone _ f c.put_alone.ensures c.clear.ensures c.in-Ok.ensures.in_page c.in-Ok.ensures.short)))
+
+pub returns-in-Err-clause-early : goal.returns-in-Err-clause-early
+returns-in-Err-clause-early g c = late_early _ _ _ c.refuse.ensures.late
+
+pub returns-in-Ok-clause-early : goal.returns-in-Ok-clause-early
+returns-in-Ok-clause-early g c =
+    let q = engine_at (g.W.Wires.wiring c.args.wires.now) (g.R.Room.held c.args.packet.now) c.args.self.now in
+    let w = q.wires in
+    let chain = c.args.slot ∷ [] in
+    let fs = c.put_alone.new.room.items in
+    let held = c.hold.new.self in
+    let p = g.R.Room.held c.clear.new.self in
+    let taken = plain_offered w.offers c.args.slot [] c.requires.plain ∙ (c.in-Ok.ensures.answer ∙ ap (λ (l : List Fragment). Ok l) (sym c.put_alone.ensures)) in
+    let some : 0 < length fs = rw c.put_alone.ensures (omega arith) in
+    early_as _ _ _ _
+    (λ (t : State). sym (ap (λ z. bind z (after_copy w t held)) (copy_at w fs 0 p some)) ∙ ap (λ (l : List ℕ). bind (copy w fs l) (after_copy w t held)) c.clear.ensures
+    ∙ ap (λ (l : List Slot). bind (copy w fs []) (after_copy w t l)) c.hold.ensures ∙ sym (ap (λ (r : Result (List Fragment) SizeFault). after_chain w t chain r) taken))
+    (c.read_entry_of.ensures.early p)

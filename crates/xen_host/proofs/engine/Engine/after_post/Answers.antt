@@ -10,8 +10,8 @@ use Rattle.xen_host.specs.Rest.{rx_offload}
 use Rattle.xen_host.proofs.FillLemmas.{fill_same}
 use Rattle.xen_host.proofs.engine.Engine.after_post.Goals as goal
 
-pub returns-then-takes_extra : goal.returns-then-takes_extra
-returns-then-takes_extra g c =
+pub returns-then-takes_extra-clause-led : goal.returns-then-takes_extra-clause-led
+returns-then-takes_extra-clause-led g c =
     let q = engine_at (g.W.Wires.wiring c.args.wires.now) (g.R.Room.held c.args.packet.now) c.args.self.now in
     let w = q.wires.vif in
     let x = q.state.rx_index in
@@ -22,10 +22,10 @@ returns-then-takes_extra g c =
     let told = c.takes_extra.ensures ∙ ap (λ k. takes_extra o k) c.len.ensures.value in
     let some : takes_extra o (length ts) ≡ true = sym told ∙ c.if-takes_extra.true in
     let same = ap (λ (b : Bool). bind (requested w b ts go (rx_req_of c.args.slot)) after) some ∙ ap (λ (y : RxReq). bind (requested w true ts go y) after) (sym c.of_words-request.ensures.fields) in
-    record { led = fill_same _ _ c.args.purpose (beside q) _ _ _ _ _ (sym same) c.take_extra.ensures.led }
+    fill_same _ _ c.args.purpose (beside q) _ _ _ _ _ (sym same) c.take_extra.ensures.led
 
-pub returns : goal.returns
-returns g c =
+pub returns-clause-led : goal.returns-clause-led
+returns-clause-led g c =
     let q = engine_at (g.W.Wires.wiring c.args.wires.now) (g.R.Room.held c.args.packet.now) c.args.self.now in
     let w = q.wires.vif in
     let x = q.state.rx_index in
@@ -36,4 +36,4 @@ returns g c =
     let told = c.takes_extra.ensures ∙ ap (λ k. takes_extra o k) c.len.ensures.value in
     let none : takes_extra o (length ts) ≡ false = sym told ∙ c.if-takes_extra.false in
     let same = ap (λ (b : Bool). bind (requested w b ts go (rx_req_of c.args.slot)) after) none ∙ ap (λ (y : RxReq). bind (requested w false ts go y) after) (sym c.of_words-request.ensures.fields) in
-    record { led = fill_same _ _ c.args.purpose (beside q) _ _ _ _ _ (sym same) c.read_grant.ensures.led }
+    fill_same _ _ c.args.purpose (beside q) _ _ _ _ _ (sym same) c.read_grant.ensures.led

@@ -30,27 +30,23 @@ other_run w s slots n packet ops h = by (n == 3) refl
     by true e = let is : n ≡ 3 = grind (arith, nat_tests) in absurd (h is)
     by false e = refl
 
-pub returns-then-number-eq-XDP_TX : goal.returns-then-number-eq-XDP_TX
-returns-then-number-eq-XDP_TX g c =
-    record {
-      led = λ packet.
-          let q = engine_at (g.W.Wires.wiring c.args.wires.now) packet c.args.self.now in
-          let w = q.wires in
-          let r = c.args.ran in
-          let left = send w q.state q.work.chain q.work.packet r.ops in
-          asked_from _ _ _ _ _ _ _ _ _ (sym (tx_run w q.state q.work.chain r.number q.work.packet r.ops c.if-number-eq-XDP_TX.true))
-          (asks_one _ _ _ _ left left _ _ _ (ask.Read (rx_word w.vif 0) 1) _ c.read.ensures (ap (λ (p : Place). ask.Read p 1) (c.header.ensures ∙ ap (λ k. page_word k 0) c.rx.ensures)) refl (omega arith, omega arith) refl
-          (record { is_rest = refl; waits = (refl, (refl, λ a. tt)); is_here = refl; told = tt }) refl tt);
-    }
+pub returns-then-number-eq-XDP_TX-clause-led : goal.returns-then-number-eq-XDP_TX-clause-led
+returns-then-number-eq-XDP_TX-clause-led g c =
+    λ packet.
+    let q = engine_at (g.W.Wires.wiring c.args.wires.now) packet c.args.self.now in
+    let w = q.wires in
+    let r = c.args.ran in
+    let left = send w q.state q.work.chain q.work.packet r.ops in
+    asked_from _ _ _ _ _ _ _ _ _ (sym (tx_run w q.state q.work.chain r.number q.work.packet r.ops c.if-number-eq-XDP_TX.true))
+    (asks_one _ _ _ _ left left _ _ _ (ask.Read (rx_word w.vif 0) 1) _ c.read.ensures (ap (λ (p : Place). ask.Read p 1) (c.header.ensures ∙ ap (λ k. page_word k 0) c.rx.ensures)) refl (omega arith, omega arith) refl
+    (record { is_rest = refl; waits = (refl, (refl, λ a. tt)); is_here = refl; told = tt }) refl tt)
 
-pub returns : goal.returns
-returns g c =
-    record {
-      led = λ packet.
-          let q = engine_at (g.W.Wires.wiring c.args.wires.now) packet c.args.self.now in
-          let w = q.wires in
-          let r = c.args.ran in
-          let same = ap (λ (x : Status). respond w q.state q.work.chain x (Ran r.number q.work.packet r.ops c.len-slots.result)) c.status.ensures
-          ∙ ap (λ k. respond w q.state q.work.chain (status_of r.number) (Ran r.number q.work.packet r.ops k)) c.len-slots.ensures.len in
-          asked_from _ _ _ _ _ _ _ _ _ (same ∙ sym (other_run w q.state q.work.chain r.number q.work.packet r.ops c.if-number-eq-XDP_TX.false)) (c.respond.ensures.led q.work.packet);
-    }
+pub returns-clause-led : goal.returns-clause-led
+returns-clause-led g c =
+    λ packet.
+    let q = engine_at (g.W.Wires.wiring c.args.wires.now) packet c.args.self.now in
+    let w = q.wires in
+    let r = c.args.ran in
+    let same = ap (λ (x : Status). respond w q.state q.work.chain x (Ran r.number q.work.packet r.ops c.len-slots.result)) c.status.ensures
+    ∙ ap (λ k. respond w q.state q.work.chain (status_of r.number) (Ran r.number q.work.packet r.ops k)) c.len-slots.ensures.len in
+    asked_from _ _ _ _ _ _ _ _ _ (same ∙ sym (other_run w q.state q.work.chain r.number q.work.packet r.ops c.if-number-eq-XDP_TX.false)) (c.respond.ensures.led q.work.packet)

@@ -18,5 +18,5 @@ returns g c =
           let left = bind (check_again w q.state.tx_index) (after_look w q.state) in
           let v = add32 q.state.tx_index 1 in
           asks_one _ _ _ _ _ left _ _ _ (ask.Push (tx_word w.vif 1) v 0) _ c.push.ensures (ap (λ (p : Place). ask.Push p v 0) (c.header.ensures ∙ ap (λ k. page_word k 1) c.tx.ensures)) refl tt
-          (left, (0, (refl, refl), refl), refl) (record { is_rest = refl; waits = (refl, (refl, λ a. tt)); is_here = refl; told = tt }) refl tt;
+          (left, (0, (refl, refl), refl), refl) (record { is_rest = refl; waits = (refl, (refl, λ a. tt)); is_here = refl; told = refl }) refl tt;
     }

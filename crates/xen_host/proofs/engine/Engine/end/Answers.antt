@@ -23,14 +23,12 @@ none_after (kind.Ran ops number slots) packet h = cc h
 none_after (kind.Refused cause ops slots) packet h = refl
 none_after (kind.Halted cause) packet h = refl
 
-pub returns : goal.returns
-returns g c =
-    record {
-      led = λ w.
-          let q = engine_at w (g.R.Room.held c.args.packet.now) c.args.self.now in
-          let k = c.args.kind in
-          let p : (g.R.Room.held c.keep_packet.new.packet) ≡ packet_after k q.work.packet = c.keep_packet.ensures in
-          let over = ap (λ (u : Turned). done (q.state, u)) (turned_after k q.work.packet ∙ ap (λ l. turned k l) (sym p)) in
-          asks_one _ _ _ _ _ _ _ _ _ (ask.TurnOver k) _ c.done.ensures refl refl tt refl
-          (record { over = over; ready = refl; packet = λ h. p ∙ none_after k q.work.packet h }) refl tt;
-    }
+pub returns-clause-led : goal.returns-clause-led
+returns-clause-led g c =
+    λ w.
+    let q = engine_at w (g.R.Room.held c.args.packet.now) c.args.self.now in
+    let k = c.args.kind in
+    let p : (g.R.Room.held c.keep_packet.new.packet) ≡ packet_after k q.work.packet = c.keep_packet.ensures in
+    let over = ap (λ (u : Turned). done (q.state, u)) (turned_after k q.work.packet ∙ ap (λ l. turned k l) (sym p)) in
+    asks_one _ _ _ _ _ _ _ _ _ (ask.TurnOver k) _ c.done.ensures refl refl tt refl
+    (record { over = over; ready = refl; packet = λ h. p ∙ none_after k q.work.packet h }) refl tt

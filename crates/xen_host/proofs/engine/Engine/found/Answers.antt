@@ -12,8 +12,8 @@ use Rattle.xen_host.specs.EngineAt.{engine_at}
 use Rattle.xen_host.specs.Rest.{rx_offload}
 use Rattle.xen_host.proofs.engine.Engine.found.Goals as goal
 
-pub returns-else-wanted-eq0 : goal.returns-else-wanted-eq0
-returns-else-wanted-eq0 g c =
+pub returns-else-wanted-eq0-clause-led : goal.returns-else-wanted-eq0-clause-led
+returns-else-wanted-eq0-clause-led g c =
     let q = engine_at (g.W.Wires.wiring c.args.wires.now) (g.R.Room.held c.args.packet.now) c.args.self.now in
     let w = q.wires.vif in
     let x = q.state.rx_index in
@@ -25,4 +25,4 @@ returns-else-wanted-eq0 g c =
     let enough = found_enough w x o p c.in-Some.shown (omega (arith, count, c.if-shown-wanted.false)) in
     let one : slots o p ≡ suc (c.slots-wanted.result - 1) = omega (arith, count, c.if-wanted-eq0.false) in
     let all = ap (λ n. bind (read_targets w x o n []) after) one ∙ ap (λ (ts : List Target). bind (read_targets w x o (suc (c.slots-wanted.result - 1)) ts) after) (sym c.new-self.ensures) in
-    record { led = fill_same _ _ c.args.purpose (beside q) _ _ _ _ _ (sym (shown ∙ enough ∙ all)) (c.read_post.ensures.led q.work.packet) }
+    fill_same _ _ c.args.purpose (beside q) _ _ _ _ _ (sym (shown ∙ enough ∙ all)) (c.read_post.ensures.led q.work.packet)

@@ -8,8 +8,8 @@ use Rattle.xen_host.specs.Rest.{rx_offload}
 use Rattle.xen_host.proofs.FillLemmas.{fill_same}
 use Rattle.xen_host.proofs.engine.Engine.passed.Goals as goal
 
-pub returns-else-left-eq0 : goal.returns-else-left-eq0
-returns-else-left-eq0 g c =
+pub returns-else-left-eq0-clause-led : goal.returns-else-left-eq0-clause-led
+returns-else-left-eq0-clause-led g c =
     let q = engine_at (g.W.Wires.wiring c.args.wires.now) (g.R.Room.held c.args.packet.now) c.args.self.now in
     let w = q.wires.vif in
     let x = q.state.rx_index in
@@ -19,4 +19,4 @@ returns-else-left-eq0 g c =
     let one : n ≡ suc (n - 1) = omega (arith, c.if-left-eq0.false) in
     let ts = q.work.targets ++ c.args.target ∷ [] in
     let more = ap (λ k. bind (read_targets w x o k ts) after) one ∙ ap (λ (l : List Target). bind (read_targets w x o (suc (n - 1)) l) after) (sym c.push.ensures) in
-    record { led = fill_same _ _ c.args.purpose (beside q) _ _ _ _ _ (sym more) (c.read_post.ensures.led q.work.packet) }
+    fill_same _ _ c.args.purpose (beside q) _ _ _ _ _ (sym more) (c.read_post.ensures.led q.work.packet)

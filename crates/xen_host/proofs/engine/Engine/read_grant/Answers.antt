@@ -14,8 +14,8 @@ use Rattle.xen_host.specs.EngineAt.{engine_at}
 use Rattle.xen_host.specs.Rest.{rx_offload}
 use Rattle.xen_host.proofs.engine.Engine.read_grant.Goals as goal
 
-pub returns-in-None : goal.returns-in-None
-returns-in-None g c =
+pub returns-in-None-clause-led : goal.returns-in-None-clause-led
+returns-in-None-clause-led g c =
     let q = engine_at (g.W.Wires.wiring c.args.wires.now) (g.R.Room.held c.args.packet.now) c.args.self.now in
     let w = q.wires.vif in
     let x = q.state.rx_index in
@@ -25,10 +25,10 @@ returns-in-None g c =
     let go = targeted ts (read_targets w x o c.args.left) in
     let after = after_targets w x o q.work.packet in
     let there = ap (λ (m : Option Place). bind (bind (entry_at w ReadWrite m) (go r.id)) after) (sym c.place.ensures ∙ c.in-None.is) in
-    record { led = fill_same _ _ c.args.purpose (beside q) _ _ _ _ _ (sym there) c.refuse_post.ensures.led }
+    fill_same _ _ c.args.purpose (beside q) _ _ _ _ _ (sym there) c.refuse_post.ensures.led
 
-pub returns-in-Some : goal.returns-in-Some
-returns-in-Some g c =
+pub returns-in-Some-clause-led : goal.returns-in-Some-clause-led
+returns-in-Some-clause-led g c =
     let q = engine_at (g.W.Wires.wiring c.args.wires.now) (g.R.Room.held c.args.packet.now) c.args.self.now in
     let w = q.wires.vif in
     let x = q.state.rx_index in
@@ -41,7 +41,5 @@ returns-in-Some g c =
     let there = ap (λ (m : Option Place). bind (bind (entry_at w ReadWrite m) (go r.id)) after) (sym c.place.ensures ∙ c.in-Some.is) in
     let left = bind (bind (entry_at w ReadWrite (Some at)) (go r.id)) after in
     let f = fill.Grant c.args.left r.id at in
-    record {
-      led = lift_fill _ _ c.args.purpose q ts f _ _ _
-          (asks_one _ _ (IsFillOn q ts o f) _ _ left _ _ _ (ask.Entry at r.gref ReadWrite) _ c.read_entry.ensures refl refl tt there (refl, (sym c.place.ensures ∙ c.in-Some.is, refl), (refl, (refl, λ a. (refl, λ b. tt)))) refl c.requires.few);
-    }
+    lift_fill _ _ c.args.purpose q ts f _ _ _
+    (asks_one _ _ (IsFillOn q ts o f) _ _ left _ _ _ (ask.Entry at r.gref ReadWrite) _ c.read_entry.ensures refl refl tt there (refl, (sym c.place.ensures ∙ c.in-Some.is, refl), (refl, (refl, λ a. (refl, λ b. tt)))) refl c.requires.few)

@@ -14,20 +14,18 @@ use Rattle.xen_host.specs.EngineAt.{engine_at}
 use Rattle.xen_host.specs.Rest.{rx_offload}
 use Rattle.xen_host.proofs.engine.Engine.read_post.Goals as goal
 
-pub returns : goal.returns
-returns g c =
-    record {
-      led = λ packet.
-          let q = engine_at (g.W.Wires.wiring c.args.wires.now) packet c.args.self.now in
-          let w = q.wires.vif in
-          let x = q.state.rx_index in
-          let ts = q.work.targets in
-          let i = add32 x (length ts) in
-          let o = rx_offload c.args.purpose q.work.offload in
-          let f = fill.Slot c.args.left in
-          let rest = requested w (takes_extra o (length ts)) ts (read_targets w x o c.args.left) in
-          let left = bind (posted w i rest) (after_targets w x o q.work.packet) in
-          lift_fill _ _ c.args.purpose q ts f left _ _
-          (asks_one _ _ (IsFillOn q ts o f) _ _ left _ _ _ (ask.Read (rx_slot w i 0) 2) _ c.read.ensures (ap (λ (p : Place). ask.Read p 2) c.post_place.ensures) refl (omega arith, omega arith) refl
-          (refl, tt, (refl, asks_post w i rest (after_targets w x o q.work.packet))) refl c.requires.few);
-    }
+pub returns-clause-led : goal.returns-clause-led
+returns-clause-led g c =
+    λ packet.
+    let q = engine_at (g.W.Wires.wiring c.args.wires.now) packet c.args.self.now in
+    let w = q.wires.vif in
+    let x = q.state.rx_index in
+    let ts = q.work.targets in
+    let i = add32 x (length ts) in
+    let o = rx_offload c.args.purpose q.work.offload in
+    let f = fill.Slot c.args.left in
+    let rest = requested w (takes_extra o (length ts)) ts (read_targets w x o c.args.left) in
+    let left = bind (posted w i rest) (after_targets w x o q.work.packet) in
+    lift_fill _ _ c.args.purpose q ts f left _ _
+    (asks_one _ _ (IsFillOn q ts o f) _ _ left _ _ _ (ask.Read (rx_slot w i 0) 2) _ c.read.ensures (ap (λ (p : Place). ask.Read p 2) c.post_place.ensures) refl (omega arith, omega arith) refl
+    (refl, tt, (refl, asks_post w i rest (after_targets w x o q.work.packet))) refl c.requires.few)

@@ -6,11 +6,9 @@ use Rattle.xen_turns.specs.Turned.{Refused}
 use Rattle.xen_host.specs.EngineAt.{engine_at}
 use Rattle.xen_host.proofs.engine.Engine.refuse.Goals as goal
 
-pub returns : goal.returns
-returns g c =
-    record {
-      led = λ packet.
-          let q = engine_at (g.W.Wires.wiring c.args.wires.now) packet c.args.self.now in
-          let w = q.wires in
-          asked_from _ _ _ _ _ _ _ _ _ (ap (λ k. respond w q.state q.work.chain Error (Refused c.args.cause 0 k)) c.len-slots.ensures.len) (c.respond.ensures.led q.work.packet);
-    }
+pub returns-clause-led : goal.returns-clause-led
+returns-clause-led g c =
+    λ packet.
+    let q = engine_at (g.W.Wires.wiring c.args.wires.now) packet c.args.self.now in
+    let w = q.wires in
+    asked_from _ _ _ _ _ _ _ _ _ (ap (λ k. respond w q.state q.work.chain Error (Refused c.args.cause 0 k)) c.len-slots.ensures.len) (c.respond.ensures.led q.work.packet)

@@ -15,8 +15,8 @@ use Rattle.xen_host.specs.EngineAt.{engine_at}
 use Rattle.xen_host.specs.Rest.{rx_offload}
 use Rattle.xen_host.proofs.engine.Engine.reply_from.Goals as goal
 
-pub returns-in-Some : goal.returns-in-Some
-returns-in-Some g c =
+pub returns-in-Some-clause-led : goal.returns-in-Some-clause-led
+returns-in-Some-clause-led g c =
     let q = engine_at (g.W.Wires.wiring c.args.wires.now) (g.R.Room.held c.args.packet.now) c.args.self.now in
     let w = q.wires.vif in
     let x = q.state.rx_index in
@@ -33,14 +33,12 @@ returns-in-Some g c =
     let left = rx_answer w x o p grants (length ts) i (drop i ts) in
     let inside : from + suc n ≤ length ts = omega (arith, s.1, s.2) in
     let gone = subst (λ k. LedBy (rx_answer w x o p grants (length ts) from (drop from ts)) (did_all (replies w x o p grants ts from (suc n)) []) (rx_answer w x o p grants (length ts) k (drop k ts))) s.1 (replies_gone w x o p grants ts from (suc n) [] inside) in
-    record {
-      led = lift_fill _ _ c.args.purpose q ts f _ _ _
-          (asks_full _ _ (IsFillOn q ts o f) _ _ left _ (reply w x o p grants ts from) (replies w x o p grants ts (from + 1) n) _ _ s.3 (replies_chained w x o p grants ts from (suc n)) s.4 gone
-          (λ a h. (refl, other_none a h, waits_none a left h)) refl s.2);
-    }
+    lift_fill _ _ c.args.purpose q ts f _ _ _
+    (asks_full _ _ (IsFillOn q ts o f) _ _ left _ (reply w x o p grants ts from) (replies w x o p grants ts (from + 1) n) _ _ s.3 (replies_chained w x o p grants ts from (suc n)) s.4 gone
+    (λ a h. (refl, other_none a h, waits_none a left h)) refl s.2)
 
-pub returns-in-None : goal.returns-in-None
-returns-in-None g c =
+pub returns-in-None-clause-led : goal.returns-in-None-clause-led
+returns-in-None-clause-led g c =
     let q = engine_at (g.W.Wires.wiring c.args.wires.now) (g.R.Room.held c.args.packet.now) c.args.self.now in
     let w = q.wires.vif in
     let x = q.state.rx_index in
@@ -56,7 +54,5 @@ returns-in-None g c =
     let inside : from + n ≤ length ts = omega (arith, s.1) in
     let end : drop (from + n) ts ≡ [] = drop_all (from + n) ts (omega (arith, s.1)) in
     let same : rx_answer w x o p grants m (from + n) (drop (from + n) ts) ≡ rx_publish w x grants m = ap (λ l. rx_answer w x o p grants m (from + n) l) end in
-    record {
-      led = fill_all _ _ c.args.purpose (beside q) _ _ _ (replies w x o p grants ts from n) _ _ _ s.2 (replies_chained w x o p grants ts from n) (replies_gone w x o p grants ts from n [] inside)
-          (fill_same _ _ c.args.purpose (beside q) _ _ _ _ _ (sym same) (c.push_replies.ensures.led q.work.packet));
-    }
+    fill_all _ _ c.args.purpose (beside q) _ _ _ (replies w x o p grants ts from n) _ _ _ s.2 (replies_chained w x o p grants ts from n) (replies_gone w x o p grants ts from n [] inside)
+    (fill_same _ _ c.args.purpose (beside q) _ _ _ _ _ (sym same) (c.push_replies.ensures.led q.work.packet))

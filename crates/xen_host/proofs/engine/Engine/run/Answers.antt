@@ -9,8 +9,8 @@ use Rattle.xen_host.proofs.RunLemmas.{program_gone}
 use Rattle.xen_host.specs.EngineAt.{engine_at}
 use Rattle.xen_host.proofs.engine.Engine.run.Goals as goal
 
-pub returns : goal.returns
-returns g c =
+pub returns-clause-led : goal.returns-clause-led
+returns-clause-led g c =
     let q = engine_at (g.W.Wires.wiring c.args.wires.now) (g.R.Room.held c.args.packet.now) c.args.self.now in
     let w = q.wires in
     let r = c.run-ran in
@@ -25,9 +25,7 @@ returns g c =
     let seen = subst (λ k. RanFrom w.program.now w.lists.now packet k c.queue.result (Went (g.T.Tallies.did w.program.now.shapes) before after) number left ops) c.ifindex.ensures listed in
     let ran = subst (λ k. RanFrom w.program.now w.lists.now packet w.ifindex k (Went (g.T.Tallies.did w.program.now.shapes) before after) number left ops) c.queue.ensures seen in
     record {
-      led = record {
-        between = after_run w q.state q.work.chain (record { number = r.result.number; packet = left; ops = r.result.ops });
-        ran = program_gone w q.work.packet (Went (g.T.Tallies.did q.wires.program.now.shapes) c.args.counters.now r.new.counters) r.result.number left r.result.ops (after_run w q.state q.work.chain) ran;
-        led = c.after_run.ensures.led left;
-      };
+      between = after_run w q.state q.work.chain (record { number = r.result.number; packet = left; ops = r.result.ops });
+      ran = program_gone w q.work.packet (Went (g.T.Tallies.did q.wires.program.now.shapes) c.args.counters.now r.new.counters) r.result.number left r.result.ops (after_run w q.state q.work.chain) ran;
+      led = c.after_run.ensures.led left;
     }

@@ -1,7 +1,7 @@
 use Rattle.std.proofs.Common.{◌≡◌, refl, sym}
 use Rattle.xdp_program.specs.Tallies.{Went}
 use Rattle.xen_host.specs.EngineAt.{engine_at}
-use Rattle.xen_host.proofs.EngineLemmas.{not_ready_at, step_stands, stepped_at}
+use Rattle.xen_host.proofs.EngineLemmas.{step_stands, stepped_at}
 use Rattle.xen_host.proofs.engine.Engine.step_by.Goals as goal
 
 pub returns : goal.returns
@@ -13,5 +13,5 @@ returns g c =
     let went = Went (g.T.Tallies.did w.program.now.shapes) c.args.counters.now c.step.new.counters in
     record {
       stands = step_stands g.H.Host.was_asked g.H.Host.is_full g.H.Host.has_given _ _ old st new went refl c.step.ensures.led;
-      stepped = stepped_at old new st went (c.step.new.counters ≡ c.args.counters.now) (λ e. sym e) refl c.step.ensures.led (not_ready_at old c.requires.busy);
+      stepped = stepped_at old new st went (c.step.new.counters ≡ c.args.counters.now) (λ e. sym e) refl c.step.ensures.led c.requires.busy;
     }

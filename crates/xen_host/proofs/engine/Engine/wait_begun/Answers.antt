@@ -28,5 +28,5 @@ returns g c =
           let left = last_read rx q.state c.args.pages in
           let live = ap (λ (o : Option Halt). check_unless rx q.state c.args.pages o) c.in_default.is in
           asked_from _ _ _ _ _ _ _ _ _ (sym live) (asks_one _ _ _ _ _ left _ _ _ (ask.Push (page_word rx 1) v 0) _ c.push.ensures (ap (λ (p : Place). ask.Push p v 0) (c.header.ensures ∙ ap (λ k. page_word k 1) c.rx.ensures)) refl tt
-          (left, (0, (refl, refl), refl), refl) (record { is_rest = refl; waits = (refl, (refl, λ a. tt)); is_here = refl; told = tt }, refl) refl tt);
+          (left, (0, (refl, refl), refl), refl) (record { is_rest = refl; waits = (refl, (refl, λ a. tt)); is_here = refl; told = refl }, refl) refl tt);
     }

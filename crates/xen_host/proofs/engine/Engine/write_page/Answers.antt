@@ -20,8 +20,8 @@ use Rattle.xen_host.specs.EngineAt.{engine_at}
 use Rattle.xen_host.specs.Rest.{rx_offload}
 use Rattle.xen_host.proofs.engine.Engine.write_page.Goals as goal
 
-pub returns-then-to-all : goal.returns-then-to-all
-returns-then-to-all g c =
+pub returns-then-to-all-clause-led : goal.returns-then-to-all-clause-led
+returns-then-to-all-clause-led g c =
     let q = engine_at (g.W.Wires.wiring c.args.wires.now) (g.R.Room.held c.args.packet.now) c.args.self.now in
     let w = q.wires.vif in
     let x = q.state.rx_index in
@@ -44,13 +44,11 @@ returns-then-to-all g c =
     let left = fill_from w x o p ts (1024 * (i + 1)) in
     let gone = subst (λ (l : List ℕ). LedBy from (writes_at at l) left) (sym (taken_words p (1024 * i) n)) (page_gone w x o p ts i to some most) in
     let f = fill.Words (i + 1) in
-    record {
-      led = lift_fill _ _ c.args.purpose q ts f from _ _
-          (asks_last _ _ (IsFillOn q ts o f) _ from left _ _ _ (ask.Write at n) put asked (inr refl) sized gone (refl, tt, refl) refl (omega (arith, some, all, c.words_of-all.ensures.few)));
-    }
+    lift_fill _ _ c.args.purpose q ts f from _ _
+    (asks_last _ _ (IsFillOn q ts o f) _ from left _ _ _ (ask.Write at n) put asked (inr refl) sized gone (refl, tt, refl) refl (omega (arith, some, all, c.words_of-all.ensures.few)))
 
-pub returns : goal.returns
-returns g c =
+pub returns-clause-led : goal.returns-clause-led
+returns-clause-led g c =
     let q = engine_at (g.W.Wires.wiring c.args.wires.now) (g.R.Room.held c.args.packet.now) c.args.self.now in
     let w = q.wires.vif in
     let x = q.state.rx_index in
@@ -74,4 +72,4 @@ returns g c =
     let left = rx_respond w x o p Passed ts in
     let gone = subst (λ (l : List ℕ). LedBy from (writes_at at l) left) (sym (taken_words p (1024 * i) n))
     (subst (λ (s : Steps TransmitOutcome). LedBy from (writes_at at put) s) (fill_over w x o p ts (1024 * (i + 1)) last) (page_gone w x o p ts i to some most)) in
-    record { led = fill_before _ _ c.args.purpose (beside q) from left _ _ _ _ (ask.Write at n) put asked refl sized gone c.reply_from-2.ensures.led }
+    fill_before _ _ c.args.purpose (beside q) from left _ _ _ _ (ask.Write at n) put asked refl sized gone c.reply_from-2.ensures.led

@@ -15,4 +15,4 @@ invariant_of-self c =
     let taken : is_taken q.wires.accepts (length c.args.packet.now) c.args.offload ≡ true = sym c.is_taken.ensures ∙ c.if-not-is_taken.false in
     let d = subst (λ (l : List ℕ). IsDeliverable q.wires.accepts c.args.offload l) (sym is) (sym c.can_be_delivered.ensures ∙ c.if-not-can_be_delivered.false, taken) in
     let s = delivery_stands (seen q) (stands q) c.args.producer b (omega (arith, c.ranges.producer.fits)) d in
-    record { fits = s.fits; wired = s.wired; turns = s.turns; seated = c.args.self.now.seated; left = s.left }
+    record { fits = s.fits; wired = s.wired; turns = s.turns; seated = c.args.self.now.seated; apart = c.args.self.now.apart; side = c.args.self.now.side; left = s.left }

@@ -31,7 +31,7 @@ deliver_held-requires-clause-stands g c =
 pub invariant_of-self : goal.invariant_of-self
 invariant_of-self g c =
     let s = c.deliver_held.ensures.stands in
-    record { fits = s.fits; wired = s.wired; turns = s.turns; seated = c.args.self.now.seated; left = s.left }
+    record { fits = s.fits; wired = s.wired; turns = s.turns; seated = c.args.self.now.seated; apart = c.args.self.now.apart; side = c.args.self.now.side; left = s.left }
 
 pub returns-clause-delivered : goal.returns-clause-delivered
 returns-clause-delivered g c =

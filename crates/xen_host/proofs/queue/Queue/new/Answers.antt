@@ -10,8 +10,8 @@ pub invariant_of-result : goal.invariant_of-result
 invariant_of-result c =
     let w = wiring_of c.args.wires in
     let e = engine_at w c.args.packet c.new.result in
-    let s = rest_stands e (subst IsSome (sym (c.new.ensures.rests w c.args.packet)) refl) c.requires c.turns_end.ensures in
-    record { fits = s.fits; wired = s.wired; turns = s.turns; seated = tt; left = s.left }
+    let s = rest_stands e (subst IsSome (sym (c.new.ensures.rests w c.args.packet)) refl) c.requires.wired c.turns_end.ensures in
+    record { fits = s.fits; wired = s.wired; turns = s.turns; seated = tt; apart = c.requires.apart; side = c.requires.side; left = s.left }
 
 pub returns-clause-state : goal.returns-clause-state
 returns-clause-state c = c.new.ensures.rests (wiring_of c.args.wires) c.args.packet

@@ -1,4 +1,4 @@
-use Rattle.std.proofs.Common.{ap, refl, subst, sym}
+use Rattle.std.proofs.Common.{◌≢◌, ap, refl, subst, sym}
 use Rattle.std.specs.Prelude.{IsSome}
 use Rattle.xen_rx_fill.specs.Wired.{IsWired}
 use Rattle.xen_host.specs.Completing.{TaskCompletes}
@@ -24,6 +24,8 @@ invariant_of-self c =
       wired = subst (λ (w : OwnedWiring). IsWired (wiring_of w).vif) (sym s.ensures.offers) q.wired;
       turns = s.ensures.turns;
       seated = passed q.wires s.new.self q.share (ap (λ (w : OwnedWiring). w.program.shapes) s.ensures.offers) q.seated;
+      apart = subst (λ (w : OwnedWiring). w.tx ≢ w.rx) (sym s.ensures.offers) q.apart;
+      side = q.side;
       left = subst (λ (g : Stage). TaskCompletes (wiring_of s.new.self) e.state g (work_at q.packet e.work)) (sym c.in-Ready.is) tt;
     }
 

@@ -16,5 +16,5 @@ returns-clause-shared c =
       share = c.in_ok-share.field-0;
       given = c.in_ok-share.ensures.given;
       shares = refl;
-      rest = record { engine = refl; wires = refl; packet = refl };
+      rest = record { engine = refl; wires = refl; packet = refl; several = refl };
     }

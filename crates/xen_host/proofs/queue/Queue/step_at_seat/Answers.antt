@@ -3,13 +3,13 @@ use Rattle.std.proofs.lemmas.Bool.Decides.{nat_tests}
 use Rattle.bpf_maps.specs.Seats.{SeatView}
 use Rattle.bpf_note.specs.declared.op.Op.{Op}
 use Rattle.xen_host.specs.LentWords.{lent_words}
-use Rattle.xen_host.proofs.EngineLemmas.{busy_at}
+use Rattle.xen_host.proofs.EngineLemmas.{stepping_at}
 use Rattle.xen_host.proofs.LentWordLemmas.{lent_length}
 use Rattle.xen_host.proofs.QueueLemmas.{not_few_at_seat}
 use Rattle.xen_host.proofs.queue.Queue.step_at_seat.Goals as goal
 
 pub say_next_at_seat-requires-clause-busy : goal.say_next_at_seat-requires-clause-busy
-say_next_at_seat-requires-clause-busy c = busy_at c.args.self.now.engine.state c.args.self.now.engine.stage c.in_default.not-Ready
+say_next_at_seat-requires-clause-busy c = stepping_at c.args.self.now.engine.stage c.in_default.not-Ready c.in_default.not-Several
 
 pub returns-in_default : goal.returns-in_default
 returns-in_default c =
@@ -23,7 +23,7 @@ returns-in_default c =
     record {
       words = r.ensures.words;
       stepped = λ enough. r.ensures.stepped;
-      few = λ few. absurd (not_few_at_seat q lent c.args.ops.now long some (busy_at q.engine.state q.engine.stage c.in_default.not-Ready) few);
+      few = λ few. absurd (not_few_at_seat q lent c.args.ops.now long some (stepping_at q.engine.stage c.in_default.not-Ready c.in_default.not-Several) few);
       wires = r.ensures.stepped.wires;
       share = r.ensures.share;
       same = grown ∙ ap (λ (l : List Op). record before { ops = l }) (sym (ap (λ (s : SeatView). s.ops) grown));

@@ -29,5 +29,5 @@ returns-clause-steps c =
             delivery = s.delivery;
             wait = s.wait;
           };
-      few = λ few. let n = r.ensures.few few in (n.none, n.words, n.ops_are, record { engine = ap (λ (q : Queue). q.engine) n.kept; wires = ap (λ (q : Queue). wired_to q) n.kept; packet = ap (λ (q : Queue). q.packet) n.kept }, n.seat);
+      few = λ few. let n = r.ensures.few few in (n.none, n.words, n.ops_are, record { engine = ap (λ (q : Queue). q.engine) n.kept; wires = ap (λ (q : Queue). wired_to q) n.kept; packet = ap (λ (q : Queue). q.packet) n.kept; several = ap (λ (q : Queue). q.several) n.kept }, n.seat);
     }
