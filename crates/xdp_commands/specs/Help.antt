@@ -40,4 +40,4 @@ help_lines topic.Version = codes "xdpbox version\n"
 
 -- the line of `version`: the release of these sources
 abbrev pub version_line : List ℕ
-version_line = codes "xdpbox 3.0.0\n"
+version_line = codes "xdpbox 4.0.0\n"

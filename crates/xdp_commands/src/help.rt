@@ -87,7 +87,7 @@ fn help_lines(topic: Topic) -> &'static str
 }
 
 /// The line of `version`.
-const VERSION: &str = "xdpbox 3.0.0\n";
+const VERSION: &str = "xdpbox 4.0.0\n";
 
 /// Returns the text of `help`.
 pub fn help_text(alloc: Global, topic: Topic) -> Result<String, AllocError>

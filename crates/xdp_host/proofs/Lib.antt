@@ -6,3 +6,4 @@ pub mod AsQueueBox
 mod MadeLemmas
 pub mod AsCountersBox
 mod SharedLemmas
+mod TurnsLemmas

@@ -1,10 +1,8 @@
 -- Stated: claims rest on this file.
--- What C is answered when it has a queue make offers, and when it asks how a packet is to be segmented.
+-- What C is answered when it has a queue make offers.
 use Rattle.std.specs.Prelude.{ℕ, ◌≡◌, nat_lt, Option, None, Some, if◌then◌else◌}
-use Rattle.xen_netif.specs.Segments.{gso_type_number}
 use Rattle.xen_netif.specs.Words.{is_set}
 use Rattle.xen_netif.specs.declared.segments.Offers.{Offers}
-use Rattle.xen_netif.specs.declared.segments.Segments.{Segments}
 use Rattle.xen_host.specs.Offered.{IsOffering}
 use Rattle.xen_host.specs.declared.offering.Offering.{Offering}
 use Rattle.xen_host.specs.declared.offering.Offering.TheVariants.{Offered, Busy}
@@ -29,12 +27,3 @@ pub record OfferAnswers (old new : Queue) (bits told : ℕ) : Type 0 where
   pub given : (offers : Offers) → offers_of bits ≡ Some offers →
       (answer : Offering) × (told ≡ offering_number answer) × IsOffering old new offers answer
   pub refused : offers_of bits ≡ None → (told ≡ unknown_offer) × (new ≡ old)
-
--- netif.h, XEN_NETIF_GSO_TYPE_*, of which 0 is none
-abbrev pub segment_type : Option Segments → ℕ
-segment_type None = 0
-segment_type (Some s) = gso_type_number s.kind
-
-abbrev pub segment_size : Option Segments → ℕ
-segment_size None = 0
-segment_size (Some s) = s.size

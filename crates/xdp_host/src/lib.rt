@@ -7,7 +7,7 @@
 //! - `object_calls`, `object_fault`: a program of an object
 //! - `runs`, `batch`, `maps`: runs on one packet and on many in one call, and what C asks of counters and of maps
 //! - `queue_handle`, `queue_extents`, `queue_fault`: a queue that C holds, for a guest of one range of frames or of several
-//! - `queue_calls`, `queue_waits`: a queue's calls; `segment_calls`: what it offers, and how a packet is to be segmented; `offload_calls`: what
+//! - `queue_calls`, `queue_waits`: a queue's calls; `turns_calls`: its turns of several packets; `segment_calls`: what it offers, and how a packet is to be segmented; `offload_calls`: what
 //!   its guest takes, and packets that leave something to it
 //! - `relisting`: lists of maps that become others
 //! - `counters_handle`, `shared_fault`, `shared_calls`: counters that queues share, as C holds them
@@ -54,6 +54,7 @@ mod runs;
 mod segment_calls;
 mod shared_calls;
 mod shared_fault;
+mod turns_calls;
 
 pub use abi::{XdpMap, XdpRun, XdpVerdict};
 pub use advice::laxonje_advice;
@@ -86,7 +87,7 @@ use std::alloc::Global;
 use xen_host::{FrameOwners, HostOp, LentWord, RxOffload};
 
 /// The version of `include/laxonje.h`.
-const VERSION: u32 = 3;
+const VERSION: u32 = 4;
 
 /// Returns whether a program is accepted with its maps.
 #[unsafe(no_mangle)]
@@ -304,7 +305,7 @@ pub extern "C" fn laxonje_queue_free(alloc: Global, queue: &mut XdpQueue)
 /// The version of the header that fits this library.
 #[unsafe(no_mangle)]
 pub extern "C" fn laxonje_version() -> u32
-    ensures { result ≡ 3 }
+    ensures { result ≡ 4 }
 {
     VERSION
 }

@@ -2,11 +2,12 @@
 ghost use Rattle.std.specs.Prelude.{◌≡◌, ◌<◌, None, IfNone, IfSome, IsSome, MatchOption};
 ghost use Rattle.xen_netif.specs.Words.{is_set};
 ghost use Rattle.xdp_host.specs.Begins.{no_queue};
-ghost use Rattle.xdp_host.specs.Offers.{OfferAnswers, offering_number, offers_of, segment_size, segment_type, types_of};
+ghost use Rattle.xdp_host.specs.Offers.{OfferAnswers, offering_number, offers_of, types_of};
+ghost use Rattle.xen_host.specs.Offload.{segment_size, segment_type};
 
 use crate::queue_abi::NO_QUEUE;
 use crate::queue_handle::XdpQueue;
-use xen_host::{Offering, Offers, Queue, Segments};
+use xen_host::{Offering, Offers, Queue};
 
 /// The answer if a bit has no name.
 pub const UNKNOWN_OFFER: u32 = 3;
@@ -70,26 +71,6 @@ pub extern "C" fn laxonje_queue_offer(queue: &mut XdpQueue, offers: u32) -> u32
     }
 }
 
-/// The number of a type of segments, and 0 for none.
-fn type_number(segments: Option<Segments>) -> u32
-    ensures { result ≡ segment_type segments }
-{
-    match segments {
-        Some(segments) => u32::from(segments.kind.number()),
-        None => 0,
-    }
-}
-
-/// The most bytes of payload in a segment, and 0 for none.
-fn size_number(segments: Option<Segments>) -> u32
-    ensures { result ≡ segment_size segments }
-{
-    match segments {
-        Some(segments) => u32::from(segments.size),
-        None => 0,
-    }
-}
-
 /// Returns what kind of segments the packet of the turn that is under way or over is to make. 0 with no queue, before its chain is
 /// whole, and of a packet that isn't to be segmented.
 #[unsafe(no_mangle)]
@@ -98,7 +79,7 @@ pub extern "C" fn laxonje_queue_segment_type(queue: &mut XdpQueue) -> u32
     ensures number { MatchOption queue.old.slot.held (result ≡ 0) (λ q. result ≡ segment_type q.engine.offload.segments) }
 {
     match queue.held_mut() {
-        Some(held) => type_number(held.segments()),
+        Some(held) => u32::from(held.segment_type()),
         None => 0,
     }
 }
@@ -110,7 +91,7 @@ pub extern "C" fn laxonje_queue_segment_size(queue: &mut XdpQueue) -> u32
     ensures size { MatchOption queue.old.slot.held (result ≡ 0) (λ q. result ≡ segment_size q.engine.offload.segments) }
 {
     match queue.held_mut() {
-        Some(held) => size_number(held.segments()),
+        Some(held) => u32::from(held.segment_size()),
         None => 0,
     }
 }
