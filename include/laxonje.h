@@ -35,11 +35,11 @@ extern "C" {
 #endif
 
 /* The version of this header. laxonje_version says which one the library is made for. An archive of another version isn't linked: what is
- * compiled with this header wants the symbol laxonje_header_3, and a queue's step has a name of its own there, since an op of version 2
- * is shorter. */
-#define LAXONJE_VERSION 3
-extern const char laxonje_header_3;
-#pragma redefine_extname laxonje_queue_step laxonje_queue_step_3
+ * compiled with this header wants the symbol laxonje_header_4. Headers up to version 2 want none, so a queue's step has the version's number in
+ * its name. */
+#define LAXONJE_VERSION 4
+extern const char laxonje_header_4;
+#pragma redefine_extname laxonje_queue_step laxonje_queue_step_4
 
 /* The most maps, entries of a map, counters of an entry, and bytes of a packet and of a program. The first two hold for laxonje_load
  * alone: settings with `wide` have up to 16 maps, of up to 65,536 entries. laxonje_counters says how many words a program's counters are. */
@@ -175,10 +175,17 @@ struct laxonje_program;
 /* ---- Netback's queue, whose accesses of the guest's pages the host makes: docs/HOST.md, "Netback's queue" */
 
 /* How many words are lent to a step: those of a page. Room for a step's ops: a packet of n slots has n + 2 at once at most, and more
- * steps if there is less room. The most frames and frames of a grant table, of laxonje_queue_make and then of
- * laxonje_queue_make_extents. */
+ * steps if there is less room. */
 #define LAXONJE_PAGE_WORDS 1024
 #define LAXONJE_OPS 8
+
+/* The most packets of a turn of several, how many words are lent to each of its steps, and room for a step's ops: at least 18 of it are wanted. Of
+ * the words 48 are for slots, and behind them each packet has those of a page. */
+#define LAXONJE_TURNS 16
+#define LAXONJE_TURNS_WORDS 16432
+#define LAXONJE_TURNS_OPS 34
+
+/* The most frames and frames of a grant table, of laxonje_queue_make and then of laxonje_queue_make_extents. */
 #define LAXONJE_FRAMES 8192
 #define LAXONJE_TABLE_FRAMES 16
 #define LAXONJE_EXTENT_FRAMES 4294967295
@@ -331,7 +338,8 @@ enum laxonje_outcome {
 	LAXONJE_DELIVERY_HALTED,       /* the queue has halted for `cause`, and makes no more accesses */
 	LAXONJE_AWAITED_POSTED = 9,    /* they are there by now, and no notice need come for them: deliver at once */
 	LAXONJE_AWAITED_WAITING,       /* fewer are there. The frontend's push of the last of them owes a notice */
-	LAXONJE_AWAITED_HALTED         /* the queue has halted for `cause`, and makes no more accesses */
+	LAXONJE_AWAITED_HALTED,        /* the queue has halted for `cause`, and makes no more accesses */
+	LAXONJE_TURN_SEVERAL = 13      /* a turn of several packets is over, of `slots` packets */
 };
 
 /* The flags of a tx slot (netif.h, XEN_NETTXF_*). A flag without a name is left out. */
@@ -377,29 +385,52 @@ struct laxonje_queue_standing {
 	uint32_t halt;
 };
 
-/* What a host does next. A field that isn't of its kind is 0.
+/* What a host does next. Fields that share a word are of different kinds, and a word that is not of its kind is 0.
  *
- * For an access, `frame` has an owner, `word + count` and `lent + count` are at most LAXONJE_PAGE_WORDS, and `value[1]` of a PUSH is below it.
- * For the READ of a grant entry, `entry` says what for, and `reference` which grant.
+ * For an access, `frame` has an owner, `word + count` is at most LAXONJE_PAGE_WORDS, and `value[1]` of a PUSH is below it. So much is `lent + count`,
+ * too, and in a turn of several packets at most LAXONJE_TURNS_WORDS. For the READ of a grant entry, `entry` says what for, and `reference` which
+ * grant.
  *
  * For what is over, `number` is what the program returned, `cause` why it was refused or halted, `ops` how many operations on counters the
- * program's run did, and `slots` how many slots the packet took. `index` and `grant` are 0: they are for later versions. */
+ * program's run did, and `slots` how many slots the packet took. */
 struct laxonje_op {
 	uint32_t kind;
-	uint32_t frame;
-	uint32_t word;
-	uint32_t count;
-	uint32_t lent;
-	uint32_t value[2];
+	union {
+		uint32_t frame;
+		uint32_t outcome;
+	};
+	union {
+		uint32_t word;
+		uint32_t number;
+	};
+	union {
+		uint32_t count;
+		uint32_t cause;
+	};
+	union {
+		uint32_t lent;
+		uint32_t ops;
+	};
+	union {
+		uint32_t value[2];
+		uint32_t reference;
+		uint32_t slots;
+	};
 	uint32_t entry;
-	uint32_t reference;
+};
+
+/* What became of a packet of a turn of several, as a LAXONJE_OP_DONE says it of a turn: LAXONJE_TURN_RAN, _REFUSED or _HALTED. If the program ran,
+ * `length` is the packet's, and the others are what laxonje_queue_flags, _segment_type and _segment_size say after a turn. Else these are 0. */
+struct laxonje_turned {
 	uint32_t outcome;
-	uint32_t number;
-	uint32_t cause;
 	uint32_t ops;
+	uint32_t number;
 	uint32_t slots;
-	uint32_t index;
-	int32_t grant;
+	uint32_t cause;
+	uint32_t length;
+	uint32_t flags;
+	uint16_t segment_type;
+	uint16_t segment_size;
 };
 
 LAXONJE_ASSERT(sizeof(void *) == 8 && sizeof(size_t) == 8);
@@ -417,14 +448,10 @@ LAXONJE_ASSERT(offsetof(struct laxonje_queue_desc, queue) == 20 && offsetof(stru
 LAXONJE_ASSERT(offsetof(struct laxonje_queue_desc, rx_index) == 28);
 LAXONJE_ASSERT(sizeof(struct laxonje_queue_standing) == 16 && offsetof(struct laxonje_queue_standing, tx_index) == 4);
 LAXONJE_ASSERT(offsetof(struct laxonje_queue_standing, rx_index) == 8 && offsetof(struct laxonje_queue_standing, halt) == 12);
-LAXONJE_ASSERT(sizeof(struct laxonje_op) == 64 && offsetof(struct laxonje_op, frame) == 4);
-LAXONJE_ASSERT(offsetof(struct laxonje_op, word) == 8 && offsetof(struct laxonje_op, count) == 12);
-LAXONJE_ASSERT(offsetof(struct laxonje_op, lent) == 16 && offsetof(struct laxonje_op, value) == 20);
-LAXONJE_ASSERT(offsetof(struct laxonje_op, entry) == 28 && offsetof(struct laxonje_op, reference) == 32);
-LAXONJE_ASSERT(offsetof(struct laxonje_op, outcome) == 36 && offsetof(struct laxonje_op, number) == 40);
-LAXONJE_ASSERT(offsetof(struct laxonje_op, cause) == 44 && offsetof(struct laxonje_op, ops) == 48);
-LAXONJE_ASSERT(offsetof(struct laxonje_op, slots) == 52 && offsetof(struct laxonje_op, index) == 56);
-LAXONJE_ASSERT(offsetof(struct laxonje_op, grant) == 60);
+LAXONJE_ASSERT(sizeof(struct laxonje_op) == 32 && offsetof(struct laxonje_op, frame) == 4);
+LAXONJE_ASSERT(offsetof(struct laxonje_op, value) == 20 && offsetof(struct laxonje_op, entry) == 28);
+LAXONJE_ASSERT(sizeof(struct laxonje_turned) == 32 && offsetof(struct laxonje_turned, length) == 20);
+LAXONJE_ASSERT(offsetof(struct laxonje_turned, segment_type) == 28 && offsetof(struct laxonje_turned, segment_size) == 30);
 
 /* The version of the header that fits the library: LAXONJE_VERSION, or the two are of different releases. */
 uint32_t laxonje_version(void);
@@ -552,6 +579,27 @@ size_t laxonje_queue_turn(struct laxonje_queue *queue, uint32_t producer, struct
 size_t laxonje_queue_step(struct laxonje_queue *queue, uint32_t *words, size_t word_count,
                           uint64_t *counters, size_t counter_count, struct laxonje_op *ops, size_t op_count);
 
+/* Begins a turn of up to `most` packets, at most LAXONJE_TURNS, between two turns: `producer` is as for laxonje_queue_turn. It says the first
+ * ops, and answers how many. It is a turn of one, as laxonje_queue_turn begins it, if `most` is below 2, if the guest shows fewer than two slots
+ * or more than a ring has, if the queue has halted, or with room for fewer than two ops. */
+size_t laxonje_queue_turns(struct laxonje_queue *queue, uint32_t producer, uint32_t most, struct laxonje_op *ops, size_t op_count);
+
+/* Goes on with what laxonje_queue_turns has begun, as laxonje_queue_step does. READs and WRITEs of several packets come at once, each with its own
+ * `lent`, and the host makes all ops in their order. Each step is lent the same words: what was read for a packet may be taken by a later one.
+ *
+ * The last op of all is of LAXONJE_TURN_SEVERAL: `slots` is how many packets there were, at least 1, and the first of `turned` say what became of
+ * each, in their order. With the last of them the queue may have halted. A turn of one ends with an op of its own, and `turned` stays as it is.
+ *
+ * A turn of several says nothing, and nothing changes, with fewer than LAXONJE_TURNS_WORDS words, 18 ops or LAXONJE_TURNS results, or with fewer
+ * counters than laxonje_queue_step wants. */
+size_t laxonje_queue_turns_step(struct laxonje_queue *queue, uint32_t *words, size_t word_count, uint64_t *counters, size_t counter_count,
+                                struct laxonje_op *ops, size_t op_count, struct laxonje_turned *turned, size_t turned_count);
+
+/* Copies a packet of the turn of several that is over, the one of this number from 0 on, as far as there is room, and answers how long it is.
+ * It is there until the next turn begins. No bytes of one on which the program didn't run, behind the last, inside a turn, a delivery or a
+ * wait, and with no queue. */
+size_t laxonje_queue_turns_packet(struct laxonje_queue *queue, size_t number, uint8_t *out, size_t out_bytes);
+
 /* How many words the counters of the queue's program are: lend as many to each step, also of a delivery or a wait. 0 if the queue shares its
  * counters, and LAXONJE_NOWHERE with no queue. */
 size_t laxonje_queue_counters(struct laxonje_queue *queue);
@@ -652,7 +700,7 @@ static inline void laxonje_counters_delete(struct laxonje_shared **counters);
 
 static inline void *laxonje_handle_(void)
 {
-	return laxonje_version() == LAXONJE_VERSION && laxonje_header_3 ? calloc(1, LAXONJE_HANDLE) : NULL;
+	return laxonje_version() == LAXONJE_VERSION && laxonje_header_4 ? calloc(1, LAXONJE_HANDLE) : NULL;
 }
 
 static inline struct laxonje_program *laxonje_program_new(void)

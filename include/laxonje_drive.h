@@ -1,8 +1,9 @@
 /* The loop of a host of netback's queue: each access of a turn, a delivery or a wait, made once and in order in pages that the host has
  * mapped; and names for its logs. C11 and C++17, for gcc and clang. It is glue over laxonje.h: tested, and not proved.
  *
- * A host fills in a struct laxonje_io and a struct laxonje_drive, and calls laxonje_drive_turn, laxonje_drive_deliver and laxonje_drive_await.
- * docs/HOST.md, "Netback's queue", has a whole host over it. A host with accesses of its own writes its own loop over laxonje.h. */
+ * A host fills in a struct laxonje_io and a struct laxonje_drive, and calls laxonje_drive_turn or laxonje_drive_turns, laxonje_drive_deliver and
+ * laxonje_drive_await. docs/HOST.md, "Netback's queue", has a whole host over it. A host with accesses of its own writes its own loop over
+ * laxonje.h. */
 #ifndef LAXONJE_DRIVE_H
 #define LAXONJE_DRIVE_H
 
@@ -30,6 +31,14 @@ struct laxonje_drive {
 	uint32_t words[LAXONJE_PAGE_WORDS];
 };
 
+/* Room for laxonje_drive_turns: how many packets it took, and what became of each. The rest is the loop's own. */
+struct laxonje_turns {
+	uint32_t count;
+	uint32_t several_;
+	struct laxonje_turned turned[LAXONJE_TURNS];
+	uint32_t words_[LAXONJE_TURNS_WORDS];
+};
+
 /* The outcome if nothing was begun: `cause` says why (enum laxonje_taken). If it is LAXONJE_TAKEN_BUSY, an access is missing, and the queue can
  * only be deleted: `page` answered null, or `page` or `notify` didn't return, as by an exception. */
 #define LAXONJE_NOTHING UINT32_MAX
@@ -42,24 +51,38 @@ struct laxonje_words_ {
 #define LAXONJE_LOAD_4_(words, at)                                                                            \
 	__asm__ __volatile__("movdqu %1, %%xmm0\n\tmovdqu %%xmm0, %0"                                         \
 	                     : "=m"(*(struct laxonje_words_ *)(words)) : "m"(*(const struct laxonje_words_ *)(at)) : "xmm0", "memory")
+struct laxonje_two_ {
+	uint32_t word[2];
+};
+#define LAXONJE_LOAD_2_(words, at)                                                                            \
+	__asm__ __volatile__("movq %1, %%xmm0\n\tmovq %%xmm0, %0"                                             \
+	                     : "=m"(*(struct laxonje_two_ *)(words)) : "m"(*(const struct laxonje_two_ *)(at)) : "xmm0", "memory")
 #endif
 
 /* Words in rising order, each once: by four as far as they go, since any answer is allowed for any word, and four times four in a round. */
 static inline void laxonje_drive_load_(const uint32_t *at, uint32_t count, uint32_t *words)
 {
-	uint32_t i = 0;
+	const uint32_t *const end = at + count;
 #ifdef LAXONJE_LOAD_4_
-	for (; i + 16 <= count; i += 16) {
-		LAXONJE_LOAD_4_(words + i, at + i);
-		LAXONJE_LOAD_4_(words + i + 4, at + i + 4);
-		LAXONJE_LOAD_4_(words + i + 8, at + i + 8);
-		LAXONJE_LOAD_4_(words + i + 12, at + i + 12);
+	if (count == 2) { /* an entry of a grant table */
+		LAXONJE_LOAD_2_(words, at);
+		return;
 	}
-	for (; i + 4 <= count; i += 4)
-		LAXONJE_LOAD_4_(words + i, at + i);
+	for (; end - at >= 16; at += 16, words += 16) {
+		LAXONJE_LOAD_4_(words, at);
+		LAXONJE_LOAD_4_(words + 4, at + 4);
+		LAXONJE_LOAD_4_(words + 8, at + 8);
+		LAXONJE_LOAD_4_(words + 12, at + 12);
+	}
+	for (; end - at >= 4; at += 4, words += 4)
+		LAXONJE_LOAD_4_(words, at);
+	if (end - at >= 2) {
+		LAXONJE_LOAD_2_(words, at);
+		at += 2, words += 2;
+	}
 #endif
-	for (; i < count; i++)
-		words[i] = __atomic_load_n(at + i, __ATOMIC_ACQUIRE);
+	for (; at < end; at++, words++)
+		*words = __atomic_load_n(at, __ATOMIC_ACQUIRE);
 }
 
 /* Words into a page. */
@@ -78,9 +101,9 @@ static inline void laxonje_drive_push_(uint32_t *page, const struct laxonje_op *
 }
 
 /* An op of a page. */
-static inline void laxonje_drive_access_(struct laxonje_drive *drive, uint32_t *page, const struct laxonje_op *op)
+static inline void laxonje_drive_access_(uint32_t *words, uint32_t *page, const struct laxonje_op *op)
 {
-	uint32_t *lent = drive->words + op->lent;
+	uint32_t *lent = words + op->lent;
 	switch (op->kind) {
 	case LAXONJE_OP_READ:
 		laxonje_drive_load_(page + op->word, op->count, lent);
@@ -98,7 +121,7 @@ static inline void laxonje_drive_access_(struct laxonje_drive *drive, uint32_t *
 }
 
 /* An op. Returns 0 if its page can't be had. */
-static inline int laxonje_drive_make_(struct laxonje_drive *drive, const struct laxonje_io *io, const struct laxonje_op *op)
+static inline int laxonje_drive_make_(uint32_t *words, const struct laxonje_io *io, const struct laxonje_op *op)
 {
 	if (op->kind == LAXONJE_OP_NOTIFY) {
 		io->notify(io->host, op->value[0]);
@@ -106,24 +129,26 @@ static inline int laxonje_drive_make_(struct laxonje_drive *drive, const struct 
 		uint32_t *page = io->page(io->host, op);
 		if (!page)
 			return 0;
-		laxonje_drive_access_(drive, page, op);
+		laxonje_drive_access_(words, page, op);
 	}
 	if (io->told)
-		io->told(io->host, op, drive->words);
+		io->told(io->host, op, words);
 	return 1;
 }
 
 /* The producer of a ring, which is word 0 of its frame, into the first lent word. Returns 0 if its page can't be had. */
-static inline int laxonje_drive_producer_(struct laxonje_drive *drive, const struct laxonje_io *io, uint32_t ring)
+static inline int laxonje_drive_producer_(uint32_t *words, const struct laxonje_io *io, uint32_t ring)
 {
-	struct laxonje_op read = { LAXONJE_OP_READ, ring, 0, 1, 0, { 0, 0 }, 0, 0, 0, 0, 0, 0, 0, 0, 0 };
-	return laxonje_drive_make_(drive, io, &read);
+	struct laxonje_op read;
+	read.kind = LAXONJE_OP_READ, read.frame = ring, read.word = 0, read.count = 1, read.lent = 0, read.value[0] = read.value[1] = 0, read.entry = 0;
+	return laxonje_drive_make_(words, io, &read);
 }
 
 /* In place of the op that ends something, if nothing was begun. */
 static inline struct laxonje_op laxonje_drive_nothing_(uint32_t cause)
 {
-	struct laxonje_op op = { 0, 0, 0, 0, 0, { 0, 0 }, 0, 0, LAXONJE_NOTHING, 0, cause, 0, 0, 0, 0 };
+	struct laxonje_op op;
+	op.kind = 0, op.outcome = LAXONJE_NOTHING, op.number = 0, op.cause = cause, op.ops = 0, op.value[0] = op.value[1] = 0, op.entry = 0;
 	return op;
 }
 
@@ -136,18 +161,26 @@ static inline uint32_t laxonje_drive_may_begin_(const struct laxonje_drive *driv
 	return wanted > drive->counter_count ? LAXONJE_TAKEN_COUNTERS : LAXONJE_TAKEN;
 }
 
+/* Ops in their order. Returns the last if it says what something has come to, one that says so if an access is missing, and else null. */
+static inline const struct laxonje_op *laxonje_drive_ops_(uint32_t *words, const struct laxonje_io *io, struct laxonje_op *ops, size_t count)
+{
+	size_t made = 0;
+	while (made < count && laxonje_drive_make_(words, io, &ops[made]))
+		made++;
+	if (made && made == count)
+		return ops[count - 1].kind == LAXONJE_OP_DONE ? &ops[count - 1] : NULL;
+	ops[0] = laxonje_drive_nothing_(LAXONJE_TAKEN_BUSY);
+	return ops;
+}
+
 /* The ops of a call and those of the next ones, to the end of what is under way: the op that says what it came to. */
 static inline struct laxonje_op laxonje_drive_finish_(struct laxonje_drive *drive, const struct laxonje_io *io, struct laxonje_op *ops,
                                                       size_t count)
 {
 	for (;;) {
-		for (size_t i = 0; i < count; i++)
-			if (!laxonje_drive_make_(drive, io, &ops[i]))
-				return laxonje_drive_nothing_(LAXONJE_TAKEN_BUSY);
-		if (!count)
-			return laxonje_drive_nothing_(LAXONJE_TAKEN_BUSY);
-		if (ops[count - 1].kind == LAXONJE_OP_DONE)
-			return ops[count - 1];
+		const struct laxonje_op *over = laxonje_drive_ops_(drive->words, io, ops, count);
+		if (over)
+			return *over;
 		count = laxonje_queue_step(drive->queue, drive->words, LAXONJE_PAGE_WORDS, drive->counters, drive->counter_count, ops, LAXONJE_OPS);
 	}
 }
@@ -167,10 +200,68 @@ static inline struct laxonje_op laxonje_drive_turn(struct laxonje_drive *drive, 
 	uint32_t taken = laxonje_drive_may_begin_(drive);
 	if (taken != LAXONJE_TAKEN)
 		return laxonje_drive_nothing_(taken);
-	if (!laxonje_drive_producer_(drive, io, drive->tx))
+	if (!laxonje_drive_producer_(drive->words, io, drive->tx))
 		return laxonje_drive_nothing_(LAXONJE_TAKEN_BUSY);
 	size_t count = laxonje_queue_turn(drive->queue, drive->words[0], ops, LAXONJE_OPS);
 	return laxonje_drive_finish_(drive, io, ops, count);
+}
+
+/* The result of a turn of one packet, as if it were of several. */
+static inline struct laxonje_turned laxonje_drive_turned_(struct laxonje_queue *queue, const struct laxonje_op *over)
+{
+	const int ran = over->outcome == LAXONJE_TURN_RAN;
+	struct laxonje_turned turned;
+	turned.outcome = over->outcome, turned.ops = over->ops, turned.number = over->number, turned.slots = over->slots, turned.cause = over->cause;
+	turned.length = ran ? (uint32_t)laxonje_queue_packet(queue, NULL, 0) : 0;
+	turned.flags = ran ? laxonje_queue_flags(queue) : 0;
+	turned.segment_type = (uint16_t)(ran ? laxonje_queue_segment_type(queue) : 0);
+	turned.segment_size = (uint16_t)(ran ? laxonje_queue_segment_size(queue) : 0);
+	return turned;
+}
+
+/* The results of what is over. Returns the op that says it: of several packets with which the queue has halted, that it has. */
+static inline struct laxonje_op laxonje_drive_results_(struct laxonje_drive *drive, struct laxonje_turns *turns, struct laxonje_op over)
+{
+	turns->several_ = over.outcome == LAXONJE_TURN_SEVERAL;
+	if (turns->several_) {
+		turns->count = over.slots;
+		if (turns->turned[over.slots - 1].outcome == LAXONJE_TURN_HALTED)
+			over.outcome = LAXONJE_TURN_HALTED, over.cause = turns->turned[over.slots - 1].cause, over.slots = 0;
+	} else if (over.outcome == LAXONJE_TURN_RAN || over.outcome == LAXONJE_TURN_REFUSED) {
+		turns->count = 1;
+		turns->turned[0] = laxonje_drive_turned_(drive->queue, &over);
+	}
+	return over;
+}
+
+/* A turn of up to `most` packets, at most LAXONJE_TURNS: turns->count of them were taken, and the first of turns->turned say what became of each. The
+ * outcome is LAXONJE_TURN_HALTED if the queue has halted, also behind some of them, and LAXONJE_TURN_SEVERAL or that of laxonje_drive_turn else. */
+static inline struct laxonje_op laxonje_drive_turns(struct laxonje_drive *drive, const struct laxonje_io *io, uint32_t most,
+                                                    struct laxonje_turns *turns)
+{
+	struct laxonje_op ops[LAXONJE_TURNS_OPS];
+	const struct laxonje_op *over;
+	uint32_t taken = laxonje_drive_may_begin_(drive);
+	turns->count = 0;
+	if (taken != LAXONJE_TAKEN)
+		return laxonje_drive_nothing_(taken);
+	if (!laxonje_drive_producer_(turns->words_, io, drive->tx))
+		return laxonje_drive_nothing_(LAXONJE_TAKEN_BUSY);
+	size_t count = laxonje_queue_turns(drive->queue, turns->words_[0], most, ops, LAXONJE_TURNS_OPS);
+	while (!(over = laxonje_drive_ops_(turns->words_, io, ops, count)))
+		count = laxonje_queue_turns_step(drive->queue, turns->words_, LAXONJE_TURNS_WORDS, drive->counters, drive->counter_count, ops,
+		                                 LAXONJE_TURNS_OPS, turns->turned, LAXONJE_TURNS);
+	return laxonje_drive_results_(drive, turns, *over);
+}
+
+/* Copies out the packet of that number, from 0, of those that laxonje_drive_turns took last, as far as there is room, and answers how long it is:
+ * 0 if its program didn't run. It is there until the next turn begins; if it was taken alone, also until the next delivery does. */
+static inline size_t laxonje_drive_packet(const struct laxonje_drive *drive, const struct laxonje_turns *turns, uint32_t number, uint8_t *out,
+                                          size_t out_bytes)
+{
+	if (number >= turns->count)
+		return 0;
+	return turns->several_ ? laxonje_queue_turns_packet(drive->queue, number, out, out_bytes) : laxonje_queue_packet(drive->queue, out, out_bytes);
 }
 
 /* A packet of the host's own to the guest, as laxonje_queue_deliver_as has it. If it is taken (enum laxonje_taken), `over` says what became of it;
@@ -179,7 +270,7 @@ static inline uint32_t laxonje_drive_deliver_as(struct laxonje_drive *drive, con
                                                 size_t packet_bytes, uint32_t offload, uint32_t segment_size, struct laxonje_op *over)
 {
 	uint32_t taken = laxonje_drive_may_begin_(drive);
-	if (taken == LAXONJE_TAKEN && !laxonje_drive_producer_(drive, io, drive->rx))
+	if (taken == LAXONJE_TAKEN && !laxonje_drive_producer_(drive->words, io, drive->rx))
 		taken = LAXONJE_TAKEN_BUSY;
 	if (taken == LAXONJE_TAKEN)
 		taken = laxonje_queue_deliver_as(drive->queue, drive->words[0], packet, packet_bytes, offload, segment_size);
@@ -351,6 +442,7 @@ static inline const char *laxonje_name(uint32_t outcome, uint32_t cause)
 	switch (outcome) {
 	case LAXONJE_NOTHING: return laxonje_taken_name(cause);
 	case LAXONJE_TURN_IDLE: return "no request";
+	case LAXONJE_TURN_SEVERAL: return "several packets";
 	case LAXONJE_TURN_RAN: return "the program ran";
 	case LAXONJE_TURN_REFUSED: return laxonje_refusal_name(cause);
 	case LAXONJE_DELIVERY_SENT: return "sent";

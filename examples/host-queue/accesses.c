@@ -1,4 +1,4 @@
-/* The accesses that laxonje_drive.h makes, seen by macros in place of the compiler's atomic operations and of the load of four words: those
+/* The accesses that laxonje_drive.h makes, seen by macros in place of the compiler's atomic operations and of the loads of four words and two: those
  * of the ops that the host is told, each once and in order, after the question for its page and before the op is told. It is C and C++. */
 #include <laxonje.h>
 #include <stdio.h>
@@ -39,7 +39,14 @@ static void loaded_4(uint32_t *words, const uint32_t *at)
 		words[i] = loaded(at + i, __ATOMIC_ACQUIRE);
 }
 
+static void loaded_2(uint32_t *words, const uint32_t *at)
+{
+	for (int i = 0; i < 2; i++)
+		words[i] = loaded(at + i, __ATOMIC_ACQUIRE);
+}
+
 #define LAXONJE_LOAD_4_(words, at) loaded_4(words, at)
+#define LAXONJE_LOAD_2_(words, at) loaded_2(words, at)
 #define __atomic_load_n(at, order) loaded(at, order)
 #define __atomic_store_n(at, value, order) stored(at, value, order)
 #define __atomic_thread_fence(order) note(FENCED, NULL, 0, order)
@@ -74,12 +81,12 @@ static void notify(void *host, uint32_t port) { note(NOTIFIED, NULL, port, 0), (
 /* The steps of an op, and the words that are lent after it. */
 static void makes(const struct laxonje_op *op, const uint32_t *words)
 {
-	const uint32_t *at = memory[op->frame];
-	const uint32_t *from = op->kind == LAXONJE_OP_STORE ? op->value : words + op->lent;
 	if (op->kind == LAXONJE_OP_NOTIFY)
 		follows(NOTIFIED, NULL, op->value[0], 0);
 	if (op->kind == LAXONJE_OP_NOTIFY || op->kind == LAXONJE_OP_DONE)
 		return;
+	const uint32_t *at = memory[op->frame];
+	const uint32_t *from = op->kind == LAXONJE_OP_STORE ? op->value : words + op->lent;
 	follows(ASKED, at, op->kind, 0);
 	for (uint32_t i = 0; op->kind == LAXONJE_OP_READ && i < op->count; i++)
 		follows(LOADED, at + op->word + i, from[i], __ATOMIC_ACQUIRE);
@@ -92,12 +99,15 @@ static void makes(const struct laxonje_op *op, const uint32_t *words)
 	follows(LOADED, at + op->value[1], from[0], __ATOMIC_ACQUIRE);
 }
 
-/* An op, once it is made: its letter and its frame are printed. */
+/* An op, once it is made: its letter is printed, and the frame of an access. */
 static void told(void *host, const struct laxonje_op *op, const uint32_t *words)
 {
 	makes(op, words);
 	is("the steps of an op", (uint32_t)count, (uint32_t)next);
-	printf("%c%u ", "?RWNDSP"[op->kind], op->frame), (void)host;
+	if (op->kind == LAXONJE_OP_NOTIFY || op->kind == LAXONJE_OP_DONE)
+		printf("%c ", "?RWNDSP"[op->kind]), (void)host;
+	else
+		printf("%c%u ", "?RWNDSP"[op->kind], op->frame);
 }
 
 static const struct laxonje_io io = { NULL, page, notify, told };
@@ -108,6 +118,21 @@ static void turns(void)
 {
 	struct laxonje_op over = laxonje_drive_turn(&drive, &io);
 	printf("%s\n", laxonje_name(over.outcome, over.cause));
+}
+
+/* A turn of several packets, one after another, and of one alone. */
+static void takes_several(uint32_t most, uint32_t packets)
+{
+	static struct laxonje_turns room;
+	struct laxonje_op over = laxonje_drive_turns(&drive, &io, most, &room);
+	printf("%s\n", laxonje_name(over.outcome, over.cause));
+	is("packets", room.count, packets);
+	for (uint32_t number = 0; number < packets; number++) {
+		is("a packet's outcome", room.turned[number].outcome, LAXONJE_TURN_RAN);
+		is("a packet's length", room.turned[number].length, BYTES);
+		is("a packet", (uint32_t)laxonje_drive_packet(&drive, &room, number, packet, BYTES), BYTES);
+	}
+	is("no packet", (uint32_t)laxonje_drive_packet(&drive, &room, packets, packet, BYTES), 0);
 }
 
 static void delivers(size_t bytes)
@@ -136,6 +161,13 @@ static void guest_sends(void)
 	memory[TX][1] = memory[TX][3] = memory[RX][3] = memory[TX][0] = 1;
 }
 
+/* So many packets more, each in the same page. */
+static void guest_sends_more(uint32_t packets)
+{
+	for (; packets; packets--)
+		memory[TX][18 + 3 * memory[TX][0]++] = BYTES << 16;
+}
+
 /* Two buffers: twice the page of reference 0. */
 static void guest_posts(void)
 {
@@ -146,7 +178,7 @@ static void guest_posts(void)
 /* Each cause has a name of its own, and so has each outcome that has no cause. */
 static void names(void)
 {
-	static const uint32_t outcomes[] = { LAXONJE_TURN_IDLE, LAXONJE_TURN_RAN, LAXONJE_DELIVERY_SENT, LAXONJE_DELIVERY_FEW_SLOTS,
+	static const uint32_t outcomes[] = { LAXONJE_TURN_IDLE, LAXONJE_TURN_RAN, LAXONJE_TURN_SEVERAL, LAXONJE_DELIVERY_SENT, LAXONJE_DELIVERY_FEW_SLOTS,
 		                             LAXONJE_AWAITED_POSTED, LAXONJE_AWAITED_WAITING };
 	const char *found[32];
 	size_t named = 0;
@@ -182,6 +214,10 @@ int main(void)
 	guest_posts();
 	waits(LONG, 2);
 	delivers(LONG);
+	guest_sends_more(3);
+	takes_several(2, 2);
+	takes_several(2, 1);
+	takes_several(2, 0);
 	names();
 	laxonje_queue_free(drive.queue);
 	turns();

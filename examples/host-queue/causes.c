@@ -2,6 +2,7 @@
  * rings. It is C and C++. */
 #include <laxonje.h>
 #include <stdio.h>
+#include <string.h>
 
 enum { TX, RX, TABLE, DATA, FRAMES, GUEST = 5, PORT = 7, MOST = 10, PERMIT = 1, EXTRA_TYPE = 1, EXTRA_MORE = 0x100 };
 
@@ -85,7 +86,8 @@ int main(void)
 	int wrong = 0;
 	for (size_t i = 0; i < sizeof rows / sizeof rows[0]; i++) {
 		const struct row *row = &rows[i];
-		struct laxonje_op over = { 0, 0, 0, 0, 0, { 0, 0 }, 0, 0, 0, 0, 0, 0, 0, 0, 0 };
+		struct laxonje_op over;
+		memset(&over, 0, sizeof over);
 		if (makes(queue, row->number))
 			over = turn(queue, row);
 		if (over.kind == LAXONJE_OP_DONE && over.outcome == row->outcome && over.cause == row->cause)

@@ -1,6 +1,6 @@
-/* A host of two guests in one thread, with epoll: epoll SETTINGS PACKETS. A guest's event says that its rings have to be looked at, for packets to take
- * and for buffers that were posted. Each packet that passes is delivered back with its addresses exchanged. The guests are those of guest.h, in
- * threads: one that keeps the protocol, and one that posts few buffers. */
+/* A host of two guests in one thread, with epoll: epoll SETTINGS PACKETS. A guest's event says that its rings have to be looked at, for packets to
+ * take and for buffers that were posted. A turn takes up to 16 packets. Each packet that passes is delivered back with its addresses exchanged. The
+ * guests are those of guest.h, in threads: one that keeps the protocol, and one that posts few buffers. */
 #define _GNU_SOURCE
 #include "guest.h"
 #include <laxonje_drive.h>
@@ -10,12 +10,15 @@
 #include <sys/epoll.h>
 #include <sys/eventfd.h>
 
-enum { TX, RX, TABLE, DATA = 16, FRAMES = DATA + GUEST_DATA_FRAMES, GUESTS = 2, FIRST_DOMAIN = 1, AT_ONCE = 32, SECONDS = 20 };
+enum { TX, RX, TABLE, DATA = 16, FRAMES = DATA + GUEST_DATA_FRAMES, GUESTS = 2, FIRST_DOMAIN = 1, AT_ONCE = 4, SECONDS = 20 };
 
-/* What the host has of a guest: one queue, and a packet that waits for buffers. */
+/* What the host has of a guest: one queue, the packets of its last turn, the next of which is to be delivered, and that one, if it waits for
+ * buffers. */
 struct device {
 	uint32_t memory[FRAMES][LAXONJE_PAGE_WORDS];
 	struct laxonje_drive drive;
+	struct laxonje_turns turns;
+	uint32_t next;
 	uint8_t packet[LAXONJE_PACKET];
 	size_t length;
 	int event, notice;
@@ -85,7 +88,7 @@ static void exchange_addresses(uint8_t *packet)
 	}
 }
 
-/* Delivers the packet that waits. Returns whether it is gone: else the guest's event says when to come again. */
+/* Delivers the packet that is copied out. Returns whether it is gone: else the guest's event says when to come again. */
 static bool give_back(struct device *device, const struct laxonje_io *io)
 {
 	struct laxonje_op over;
@@ -101,25 +104,39 @@ static bool give_back(struct device *device, const struct laxonje_io *io)
 	return false;
 }
 
-/* After a guest's event: some turns, while there is room for a packet. What is left is for the next time, so that the other guest isn't kept waiting.
+/* Delivers the packets of the last turn that passed, one after another. Returns whether all are gone. */
+static bool give_all_back(struct device *device, const struct laxonje_io *io)
+{
+	for (; device->next < device->turns.count; device->next++) {
+		const struct laxonje_turned *turned = &device->turns.turned[device->next];
+		if (turned->outcome != LAXONJE_TURN_RAN || turned->number != LAXONJE_PASS)
+			continue;
+		if (!device->length) {
+			device->passed++;
+			device->length = laxonje_drive_packet(&device->drive, &device->turns, device->next, device->packet, sizeof device->packet);
+			exchange_addresses(device->packet);
+		}
+		if (!give_back(device, io))
+			return false;
+	}
+	return true;
+}
+
+/* After a guest's event: some turns, while no packet waits. What is left is for the next time, so that the other guest isn't kept waiting.
  * Returns 0 if the queue is of no use any more. */
 static int serve(struct device *device)
 {
 	const struct laxonje_io io = { device, page, notify, NULL };
 	for (unsigned turns = 0; turns < AT_ONCE; turns++) {
-		if (device->length && !give_back(device, &io))
+		if (!give_all_back(device, &io))
 			return 1;
-		struct laxonje_op over = laxonje_drive_turn(&device->drive, &io);
+		struct laxonje_op over = laxonje_drive_turns(&device->drive, &io, LAXONJE_TURNS, &device->turns);
+		device->next = 0;
 		if (over.outcome == LAXONJE_TURN_IDLE)
 			return 1;
 		if (over.outcome == LAXONJE_TURN_HALTED || over.outcome == LAXONJE_NOTHING) {
 			fprintf(stderr, "%s\n", laxonje_name(over.outcome, over.cause));
 			return 0;
-		}
-		if (over.outcome == LAXONJE_TURN_RAN && over.number == LAXONJE_PASS) {
-			device->passed++;
-			device->length = laxonje_queue_packet(device->drive.queue, device->packet, sizeof device->packet);
-			exchange_addresses(device->packet);
 		}
 	}
 	signal_fd(device->event);

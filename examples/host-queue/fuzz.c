@@ -3,14 +3,14 @@
  *     clang -g -fsanitize=fuzzer,address,undefined -I out/host fuzz.c out/host/liblaxonje.a
  *
  * With -DWITHOUT_FUZZER it has a `main` of its own, for any compiler: fuzz RUNS makes inputs by a generator, and says how often a turn, a
- * delivery or a wait came to each outcome. A host that links the target
- * with its own filter sets `fuzz_program` and `fuzz_program_bytes`. */
+ * delivery or a wait came to each outcome. A host that links the target with its own filter sets `fuzz_program` and `fuzz_program_bytes`. */
 #include <laxonje.h>
 #include <stdbool.h>
 #include <stdio.h>
 #include <stdlib.h>
 
-enum { TX, RX, TABLE, FRAMES = 32, OWN = 24, GUEST = 1, OTHER = 0x7ff4, TASKS = 4, MOST_ACCESSES = 33026, FRAME = 60, PERMIT = 1, PORT = 3000, RSP_PROD = 2, RING = 256 };
+enum { TX, RX, TABLE, FRAMES = 32, OWN = 24, GUEST = 1, OTHER = 0x7ff4, FRAME = 60, PERMIT = 1, PORT = 3000, RSP_PROD = 2, RING = 256 };
+enum { TASKS = 4, MOST_ACCESSES = 33026, LEAST_OPS = 18 };
 
 /* Sends each packet back. */
 static const uint8_t sends[] = { 0xb7, 0, 0, 0, LAXONJE_TX, 0, 0, 0, 0x95, 0, 0, 0, 0, 0, 0, 0 };
@@ -39,22 +39,28 @@ static void is(bool right, const char *what)
 		fprintf(stderr, "%s\n", what), abort();
 }
 
-/* Whether responses were pushed in what is under way: then the packet's pages are the guest's again. */
+/* What is gone on with. */
+enum task { TURN, TURNS, OTHERS };
+
+/* Whether responses were pushed in what is under way: then the pages of its packets are the guest's again. A turn of several sends some back before
+ * it has read the others. */
 static bool answered;
 
-static uint32_t words[LAXONJE_PAGE_WORDS];
-static unsigned long outcomes[LAXONJE_AWAITED_HALTED + 1];
+static uint32_t words[LAXONJE_TURNS_WORDS];
+static struct laxonje_turned turned[LAXONJE_TURNS];
+static unsigned long outcomes[LAXONJE_TURN_SEVERAL + 1];
 
 /* An op: the accesses that it makes, all in the guest's own frames. */
-static size_t make(struct input *input, const struct laxonje_op *op)
+static size_t make(struct input *input, enum task task, const struct laxonje_op *op)
 {
+	const uint32_t lent = task == TURNS ? LAXONJE_TURNS_WORDS : LAXONJE_PAGE_WORDS;
 	if (op->kind == LAXONJE_OP_DONE || op->kind == LAXONJE_OP_NOTIFY)
 		return 0;
 	is(op->frame < OWN, "a frame that isn't the guest's");
 	is(!answered || op->frame == TX || op->frame == RX, "a granted page after the responses");
-	answered = answered || (op->kind == LAXONJE_OP_PUSH && op->word == RSP_PROD);
+	answered = answered || (op->kind == LAXONJE_OP_PUSH && op->word == RSP_PROD && (task != TURNS || op->frame == TX));
 	is(op->count <= LAXONJE_PAGE_WORDS && op->word <= LAXONJE_PAGE_WORDS - op->count, "words past a page");
-	is(op->count <= LAXONJE_PAGE_WORDS && op->lent <= LAXONJE_PAGE_WORDS - op->count, "words past the lent ones");
+	is(op->lent <= lent - op->count, "words past the lent ones");
 	for (uint32_t i = 0; op->kind == LAXONJE_OP_READ && i < op->count; i++)
 		words[op->lent + i] = next(input);
 	if (op->kind == LAXONJE_OP_PUSH)
@@ -62,23 +68,51 @@ static size_t make(struct input *input, const struct laxonje_op *op)
 	return op->count + (op->kind == LAXONJE_OP_PUSH);
 }
 
-/* What is under way, or a turn, to its end. */
-static void finish(struct input *input, struct laxonje_queue *queue, bool turn)
+static size_t begin(struct input *input, struct laxonje_queue *queue, enum task task, struct laxonje_op *ops, size_t room)
 {
-	struct laxonje_op ops[LAXONJE_OPS];
-	size_t accesses = 1, count;
+	if (task == TURNS)
+		return laxonje_queue_turns(queue, next(input), next(input) % (LAXONJE_TURNS + 1), ops, room);
+	if (task == TURN)
+		return laxonje_queue_turn(queue, next(input), ops, room);
+	return laxonje_queue_step(queue, words, LAXONJE_PAGE_WORDS, NULL, 0, ops, room);
+}
+
+static size_t step(struct laxonje_queue *queue, enum task task, struct laxonje_op *ops, size_t room)
+{
+	if (task == TURNS)
+		return laxonje_queue_turns_step(queue, words, LAXONJE_TURNS_WORDS, NULL, 0, ops, room, turned, LAXONJE_TURNS);
+	return laxonje_queue_step(queue, words, LAXONJE_PAGE_WORDS, NULL, 0, ops, room);
+}
+
+/* What became of each packet of a turn of several. Only the last may have halted the queue. */
+static void look_at(uint32_t count)
+{
+	is(count > 0 && count <= LAXONJE_TURNS, "no packet, or too many");
+	for (uint32_t i = 0; i < count; i++) {
+		is(turned[i].outcome >= LAXONJE_TURN_RAN && turned[i].outcome <= LAXONJE_TURN_HALTED, "no outcome of a packet");
+		is(turned[i].outcome != LAXONJE_TURN_HALTED || i == count - 1, "a packet behind one that halts");
+		outcomes[turned[i].outcome]++;
+	}
+}
+
+/* What is under way, or a turn, to its end. */
+static void finish(struct input *input, struct laxonje_queue *queue, enum task task)
+{
+	struct laxonje_op ops[LAXONJE_TURNS_OPS];
+	const size_t least = task == TURNS ? LEAST_OPS : 1, most = task == TURNS ? LAXONJE_TURNS_OPS : LAXONJE_OPS;
+	size_t accesses = 1, count = 0;
 	answered = false;
 	do {
-		size_t room = 1 + next(input) % LAXONJE_OPS;
-		count = turn ? laxonje_queue_turn(queue, next(input), ops, room)
-		             : laxonje_queue_step(queue, words, LAXONJE_PAGE_WORDS, NULL, 0, ops, room);
-		turn = false;
+		size_t room = least + next(input) % (most - least + 1);
+		count = count ? step(queue, task, ops, room) : begin(input, queue, task, ops, room);
 		is(count > 0 && count <= room, "ops past their room, or none");
 		for (size_t i = 0; i < count; i++)
-			accesses += make(input, &ops[i]);
-		is(accesses <= MOST_ACCESSES, "a turn without end");
+			accesses += make(input, task, &ops[i]);
+		is(accesses <= MOST_ACCESSES * (task == TURNS ? LAXONJE_TURNS : 1), "a turn without end");
 	} while (ops[count - 1].kind != LAXONJE_OP_DONE);
-	is(ops[count - 1].outcome <= LAXONJE_AWAITED_HALTED, "no outcome");
+	is(ops[count - 1].outcome <= LAXONJE_TURN_SEVERAL, "no outcome");
+	if (ops[count - 1].outcome == LAXONJE_TURN_SEVERAL)
+		look_at(ops[count - 1].slots);
 	outcomes[ops[count - 1].outcome]++;
 }
 
@@ -98,7 +132,7 @@ static void take(struct input *input, struct laxonje_queue *queue)
 		is(deliver(input, queue, what) == LAXONJE_TAKEN, "a delivery that isn't begun");
 	if (what % 4 == 2)
 		is(laxonje_queue_await(queue, (what >> 2) % (RING + 1)) == LAXONJE_TAKEN, "a wait that isn't begun");
-	finish(input, queue, what % 4 != 1 && what % 4 != 2);
+	finish(input, queue, what % 4 == 1 || what % 4 == 2 ? OTHERS : what % 8 == 7 ? TURNS : TURN);
 }
 
 int LLVMFuzzerTestOneInput(const uint8_t *bytes, size_t size)
@@ -143,7 +177,7 @@ int main(int count, char **arguments)
 	}
 	for (unsigned i = 0; i < sizeof outcomes / sizeof outcomes[0]; i++) {
 		fprintf(stderr, "outcome %u: %lu\n", i, outcomes[i]);
-		missing += !outcomes[i] && i != LAXONJE_DELIVERY_HALTED + 1;
+		missing += !outcomes[i] && i != LAXONJE_DELIVERY_HALTED + 1 && i != LAXONJE_AWAITED_HALTED + 1;
 	}
 	printf("%u runs, %u outcomes that never came\n", runs, missing);
 	return missing != 0;

@@ -124,20 +124,37 @@ static bool guest_send(struct guest_front *front, unsigned n, unsigned size)
 	return echo;
 }
 
-/* A packet that was sent. */
+/* A packet that was sent, and a batch of them. Which is the next to come back, of those that the host answers and of those that the filter sends
+ * back: each kind comes in its order. */
 struct guest_sent { unsigned number, size; bool echo; };
+struct guest_batch { struct guest_sent sent[GUEST_BATCH]; unsigned count, next[2]; };
 
 /* A packet that came back has its addresses swapped, and its ports if the filter sent it. Else it is what was sent. */
-static void guest_receive(struct guest_front *front, const struct guest_sent *sent)
+static bool guest_is(const uint8_t *bytes, const netif_rx_response_t *response, const struct guest_sent *sent)
 {
-	netif_rx_response_t *response = RING_GET_RESPONSE(&front->rx, front->rx.rsp_cons++);
-	uint8_t *bytes = guest_data(front, GUEST_TX_FRAMES + response->id % GUEST_RX_FRAMES), *from = bytes + (sent->echo ? 36 : 34);
+	const uint8_t *from = bytes + (sent->echo ? 36 : 34);
 	bool same = response->status == (int)sent->size && response->offset == 0 && bytes[0] == 7 && bytes[6] == 1;
 	same = same && bytes[sent->echo ? 35 : 37] == (sent->echo ? GUEST_ECHO : GUEST_ECHO + 1);
 	same = same && from[0] == (uint8_t)(sent->number >> 8) && from[1] == (uint8_t)sent->number;
 	for (unsigned i = GUEST_HEADERS; i < sent->size; i++)
 		same = same && bytes[i] == (uint8_t)(sent->number + i);
-	front->wrong += !same;
+	return same;
+}
+
+/* Whether a packet is the next of those that the filter sends back, or of those that the host answers. */
+static bool guest_is_next(const uint8_t *bytes, const netif_rx_response_t *response, struct guest_batch *batch, bool echo)
+{
+	unsigned *next = &batch->next[echo];
+	while (*next < batch->count && batch->sent[*next].echo != echo)
+		++*next;
+	return *next < batch->count && guest_is(bytes, response, &batch->sent[*next]) && ++*next;
+}
+
+static void guest_receive(struct guest_front *front, struct guest_batch *batch)
+{
+	netif_rx_response_t *response = RING_GET_RESPONSE(&front->rx, front->rx.rsp_cons++);
+	const uint8_t *bytes = guest_data(front, GUEST_TX_FRAMES + response->id % GUEST_RX_FRAMES);
+	front->wrong += !guest_is_next(bytes, response, batch, true) && !guest_is_next(bytes, response, batch, false);
 	guest_post(front, response->id);
 }
 
@@ -155,12 +172,13 @@ static void guest_take_answers(struct guest_front *front)
 static void guest_exchange(struct guest_front *front, unsigned first, unsigned count)
 {
 	uint32_t posted = front->tx.req_prod_pvt;
-	struct guest_sent sent[GUEST_BATCH];
+	struct guest_batch batch = { .count = count };
 	unsigned seen = 0;
 	int notify, more, packets;
 	for (unsigned k = 0; k < count; k++) {
-		sent[k].number = first + k, sent[k].size = GUEST_HEADERS + guest_any(front, 1472);
-		sent[k].echo = guest_send(front, first + k, sent[k].size);
+		struct guest_sent *sent = &batch.sent[k];
+		sent->number = first + k, sent->size = GUEST_HEADERS + guest_any(front, 1472);
+		sent->echo = guest_send(front, first + k, sent->size);
 	}
 	RING_PUSH_REQUESTS_AND_CHECK_NOTIFY(&front->tx, notify);
 	if (notify)
@@ -177,7 +195,7 @@ static void guest_exchange(struct guest_front *front, unsigned first, unsigned c
 		guest_take_answers(front);
 		for (; seen < count && RING_HAS_UNCONSUMED_RESPONSES(&front->rx); seen++) {
 			rmb();
-			guest_receive(front, &sent[seen]);
+			guest_receive(front, &batch);
 		}
 	}
 	front->wrong += front->tx.rsp_cons - posted < count || RING_HAS_UNCONSUMED_RESPONSES(&front->rx);

@@ -1,8 +1,9 @@
 /* A host of netback's queue: host SETTINGS honest|few|restart|hostile PACKETS, or SECONDSs, as 3600s
  *
  * The guest's memory is a memfd, its event channels are eventfds, and the guest is a process of its own (front.c). Each access
- * that the queue asks for is made by laxonje_drive.h, and no other. Each packet that passes is answered with one of the host's own: the same with its two addresses exchanged. It prints what
- * became of the packets, and how many accesses it made to pages that aren't the guest's: 0. */
+ * that the queue asks for is made by laxonje_drive.h, and no other. A turn takes as many packets as the guest shows, up to 16. Each packet that
+ * passes is answered with one of the host's own: the same with its two addresses exchanged. It prints what became of the packets, and how many
+ * accesses it made to pages that aren't the guest's: 0. */
 #define _GNU_SOURCE
 #include "front.h"
 
@@ -29,6 +30,7 @@ struct host {
 	struct laxonje_program *program;
 	struct laxonje_queue *queue;
 	struct laxonje_drive drive;
+	struct laxonje_turns turns;
 	uint64_t *counters;
 	uint8_t packet[LAXONJE_PACKET];
 	struct totals totals;
@@ -64,11 +66,11 @@ static struct laxonje_io io_of(struct host *host)
 	return (struct laxonje_io){ host, page_of, notify, NULL };
 }
 
-/* A turn: at most one packet. */
+/* A turn, of the packets that the guest shows. */
 static struct laxonje_op take_turn(struct host *host)
 {
 	const struct laxonje_io io = io_of(host);
-	return laxonje_drive_turn(&host->drive, &io);
+	return laxonje_drive_turns(&host->drive, &io, LAXONJE_TURNS, &host->turns);
 }
 
 static void connect(struct host *host)
@@ -106,14 +108,14 @@ static bool awaits_slots(struct host *host, int guest, size_t length)
 }
 
 /* What a host does with a packet that passes: here it sends it back itself, with the addresses exchanged. Whether the queue goes on. */
-static bool answer(struct host *host, int guest)
+static bool answer(struct host *host, uint32_t number, int guest)
 {
 	const struct laxonje_io io = io_of(host);
-	size_t length = laxonje_queue_packet(host->queue, host->packet, sizeof host->packet);
+	size_t length = laxonje_drive_packet(&host->drive, &host->turns, number, host->packet, sizeof host->packet);
 	uint8_t to[ADDRESS];
 	struct laxonje_op op = { 0 };
 	host->totals.taken++;
-	host->totals.blank += (laxonje_queue_flags(host->queue) & LAXONJE_FLAG_CSUM_BLANK) != 0;
+	host->totals.blank += (host->turns.turned[number].flags & LAXONJE_FLAG_CSUM_BLANK) != 0;
 	memcpy(to, host->packet, ADDRESS);
 	memcpy(host->packet, host->packet + ADDRESS, ADDRESS);
 	memcpy(host->packet + ADDRESS, to, ADDRESS);
@@ -126,15 +128,25 @@ static bool answer(struct host *host, int guest)
 	return op.outcome != LAXONJE_DELIVERY_HALTED;
 }
 
-/* What a turn came to. Whether the queue goes on. */
-static bool count(struct host *host, const struct laxonje_op *op, int guest)
+/* What became of a packet of the turn. Whether the queue goes on. */
+static bool count(struct host *host, uint32_t number, int guest)
 {
-	host->totals.packets += op->outcome != LAXONJE_TURN_HALTED;
-	host->totals.refused += op->outcome == LAXONJE_TURN_REFUSED;
-	host->totals.back += op->outcome == LAXONJE_TURN_RAN && op->number == LAXONJE_TX;
-	if (op->outcome == LAXONJE_TURN_RAN && op->number == LAXONJE_PASS)
-		return answer(host, guest);
-	return op->outcome != LAXONJE_TURN_HALTED;
+	const struct laxonje_turned *turned = &host->turns.turned[number];
+	host->totals.packets += turned->outcome != LAXONJE_TURN_HALTED;
+	host->totals.refused += turned->outcome == LAXONJE_TURN_REFUSED;
+	host->totals.back += turned->outcome == LAXONJE_TURN_RAN && turned->number == LAXONJE_TX;
+	if (turned->outcome == LAXONJE_TURN_RAN && turned->number == LAXONJE_PASS)
+		return answer(host, number, guest);
+	return turned->outcome != LAXONJE_TURN_HALTED;
+}
+
+/* The same of each, in their order. */
+static bool count_all(struct host *host, int guest)
+{
+	for (uint32_t number = 0; number < host->turns.count; number++)
+		if (!count(host, number, guest))
+			return false;
+	return true;
 }
 
 /* Takes turns until the guest ends. A queue that halts is made anew, as for a guest that connects again. */
@@ -142,7 +154,7 @@ static void serve(struct host *host, int guest)
 {
 	while (awaits(host, guest)) {
 		for (struct laxonje_op op = take_turn(host); op.outcome != LAXONJE_TURN_IDLE; op = take_turn(host)) {
-			if (!count(host, &op, guest)) {
+			if (!count_all(host, guest) || op.outcome == LAXONJE_TURN_HALTED) {
 				host->totals.halted++;
 				connect(host);
 				break;

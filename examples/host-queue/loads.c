@@ -1,5 +1,5 @@
-/* That laxonje_drive.h reads each word of a page once, in rising order, and none beside those of the op, by loads of 16 bytes too: the page
- * can't be reached, so each load ends in a signal, is noted, and is made alone by the processor's step flag. For x86-64 and Linux. */
+/* That laxonje_drive.h reads each word of a page once, in rising order, and none beside those of the op, by loads of 16 bytes and of 8 too: the
+ * page can't be reached, so each load ends in a signal, is noted, and is made alone by the processor's step flag. For x86-64 and Linux. */
 #define _GNU_SOURCE
 #include <laxonje_drive.h>
 #include <signal.h>
@@ -8,7 +8,7 @@
 #include <sys/mman.h>
 #include <ucontext.h>
 
-enum { PAGE = 4096, STEP_FLAG = 0x100, MOST = LAXONJE_PAGE_WORDS, WIDE = 16 };
+enum { PAGE = 4096, STEP_FLAG = 0x100, MOST = LAXONJE_PAGE_WORDS };
 
 static uint8_t *guarded;
 static uintptr_t loads[MOST];
@@ -45,13 +45,13 @@ static void on_step(int number, siginfo_t *information, void *context)
 static void reads(uint32_t word, uint32_t words)
 {
 	static uint32_t lent[LAXONJE_PAGE_WORDS + 1];
-	uint32_t wide = words / 4;
+	uint32_t at = word, end = word + words, seen = 0;
 	memset(lent, 0xee, sizeof lent);
 	count = 0;
 	laxonje_drive_load_((const uint32_t *)(const void *)guarded + word, words, lent);
-	is("loads", count, wide + words % 4);
-	for (uint32_t i = 0; i < wide + words % 4; i++)
-		is("a load's place", loads[i], 4 * word + (i < wide ? i * WIDE : wide * WIDE + (i - wide) * 4));
+	for (; at < end; at += end - at >= 4 ? 4 : end - at >= 2 ? 2 : 1, seen++)
+		is("a load's place", loads[seen], 4 * at);
+	is("loads", count, seen);
 	for (uint32_t i = 0; i < words; i++)
 		is("a word", lent[i], 0x01010101 * (word + i));
 	is("the word after them", lent[words], 0xeeeeeeee);

@@ -61,7 +61,7 @@ static int takes(struct laxonje_queue *queue, const char *what, struct laxonje_o
 
 int main(void)
 {
-	const struct laxonje_op none = { 0, 0, 0, 0, 0, { 0, 0 }, 0, 0, 0, 0, 0, 0, 0, 0, 0 };
+	static struct laxonje_op none;
 	struct laxonje_queue *queue = laxonje_queue_new();
 	struct laxonje_op first = none;
 	int right = 1;

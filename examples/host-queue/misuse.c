@@ -41,6 +41,7 @@ static void notify(void *host, uint32_t port) { (void)host, (void)port; }
 
 static const struct laxonje_io io = { NULL, page, notify, NULL };
 static struct laxonje_drive drive;
+static struct laxonje_turns turns;
 
 /* Each call with null in place of a handle. */
 static void null_programs(struct laxonje_program *program)
@@ -79,6 +80,11 @@ static void null_queues(struct laxonje_program *program, struct laxonje_queue *q
 	is("make of extents into null", laxonje_queue_make_extents(program, extents, 1, table, 1, &desc, NULL), LAXONJE_MADE_NULL);
 	is("turn", laxonje_queue_turn(NULL, 0, ops, LAXONJE_OPS), 0);
 	is("step", laxonje_queue_step(NULL, words, LAXONJE_PAGE_WORDS, counters, MOST, ops, LAXONJE_OPS), 0);
+	is("turns", laxonje_queue_turns(NULL, 0, LAXONJE_TURNS, ops, LAXONJE_OPS), 0);
+	is("turns of no queue", laxonje_queue_turns(queue, 0, LAXONJE_TURNS, ops, LAXONJE_OPS), 0);
+	is("a step of turns", laxonje_queue_turns_step(NULL, words, LAXONJE_PAGE_WORDS, counters, MOST, ops, LAXONJE_OPS, turns.turned, LAXONJE_TURNS), 0);
+	is("a packet of turns", laxonje_queue_turns_packet(NULL, 0, packet, sizeof packet), 0);
+	is("a packet of turns of no queue", laxonje_queue_turns_packet(queue, 0, packet, sizeof packet), 0);
 	is("queue counters", laxonje_queue_counters(NULL), LAXONJE_NOWHERE);
 	is("counters of no queue", laxonje_queue_counters(queue), LAXONJE_NOWHERE);
 	is("deliver", laxonje_queue_deliver(NULL, 0, packet, BYTES), LAXONJE_TAKEN_NOT);
@@ -107,6 +113,10 @@ static void nothing_begins(const char *what, uint32_t cause)
 	struct laxonje_op over = laxonje_drive_turn(&drive, &io);
 	is(what, over.outcome, LAXONJE_NOTHING);
 	is(what, over.cause, cause);
+	over = laxonje_drive_turns(&drive, &io, LAXONJE_TURNS, &turns);
+	is(what, over.outcome, LAXONJE_NOTHING);
+	is(what, over.cause, cause);
+	is(what, turns.count + laxonje_drive_packet(&drive, &turns, 0, packet, sizeof packet), 0);
 	is(what, laxonje_drive_deliver(&drive, &io, packet, BYTES, &over), cause);
 	is(what, over.outcome, LAXONJE_NOTHING);
 	is(what, over.cause, cause);
@@ -186,22 +196,28 @@ static void left_out(struct laxonje_program *program)
 	is("its packet", laxonje_queue_packet(drive.queue, packet, sizeof packet), 0);
 }
 
-/* A page that can't be had, for each access of a turn: none is made after it. If it was the first, nothing was begun. */
-static void null_pages(struct laxonje_program *program)
+/* A turn of these packets: of one by the call for one. */
+static uint32_t takes(uint32_t packets)
 {
-	const int accesses = 6;
+	return packets == 1 ? laxonje_drive_turn(&drive, &io).outcome : laxonje_drive_turns(&drive, &io, packets, &turns).outcome;
+}
+
+/* A page that can't be had, for each access of a turn: none is made after it. If it was the first, nothing was begun. */
+static void null_pages(struct laxonje_program *program, uint32_t packets, int accesses, uint32_t outcome)
+{
 	for (refuses = 1; refuses <= accesses; refuses++) {
 		struct laxonje_queue_desc next = desc;
 		next.tx_index = memory[TX][0];
 		is("a queue for a null page", laxonje_queue_make_extents(program, extents, 1, table, 1, &next, drive.queue), LAXONJE_MADE);
-		guest_sends();
+		for (uint32_t packet = 0; packet < packets; packet++)
+			guest_sends();
 		asked = 0;
-		is("a turn with a null page", laxonje_drive_turn(&drive, &io).outcome, LAXONJE_NOTHING);
+		is("a turn with a null page", takes(packets), LAXONJE_NOTHING);
 		is("what was asked for until then", (size_t)asked, (size_t)refuses);
 		if (refuses > 1)
 			nothing_begins("after a null page", LAXONJE_TAKEN_BUSY);
 		else
-			is("a turn after a null page", laxonje_drive_turn(&drive, &io).outcome, LAXONJE_TURN_RAN);
+			is("a turn after a null page", takes(packets), outcome);
 		laxonje_queue_free(drive.queue);
 	}
 	refuses = asked + 1;
@@ -222,7 +238,8 @@ int main(void)
 	waits();
 	laxonje_load_settings((const uint8_t *)counts, strlen(counts), program);
 	left_out(program);
-	null_pages(program);
+	null_pages(program, 1, 6, LAXONJE_TURN_RAN);
+	null_pages(program, 2, 9, LAXONJE_TURN_SEVERAL);
 	laxonje_queue_delete(&drive.queue);
 	laxonje_program_delete(&program);
 	nothing_begins("a null queue", LAXONJE_TAKEN_NOT);

@@ -1,4 +1,4 @@
-/* The host of docs/HOST.md, with a guest that sends one packet, and then an index that no guest can have. */
+/* The host of docs/HOST.md, with a guest that sends two packets, and then an index that no guest can have. */
 #include <laxonje_drive.h>
 #include <stdio.h>
 
@@ -22,6 +22,7 @@ static void serve(void *host, struct laxonje_program *program, uint64_t *counter
 {
 	const struct laxonje_io io = { host, page, notify, NULL }; /* NULL: or a function that gets each op, a trace */
 	struct laxonje_drive drive = { laxonje_queue_new(), desc.tx, desc.rx, counters, counter_count, { 0 } };
+	static struct laxonje_turns turns;
 	struct laxonje_op over;
 	uint32_t made = LAXONJE_MADE_MEMORY;
 
@@ -30,14 +31,15 @@ static void serve(void *host, struct laxonje_program *program, uint64_t *counter
 	if (made != LAXONJE_MADE)
 		fprintf(stderr, "%s\n", laxonje_made_name(made));
 	while (made == LAXONJE_MADE) {
-		over = laxonje_drive_turn(&drive, &io);
+		over = laxonje_drive_turns(&drive, &io, LAXONJE_TURNS, &turns);
+		for (uint32_t n = 0; n < turns.count; n++)
+			if (turns.turned[n].outcome == LAXONJE_TURN_RAN && turns.turned[n].number == LAXONJE_PASS)
+				forward(host, packet, laxonje_drive_packet(&drive, &turns, n, packet, sizeof packet));
 		if (over.outcome == LAXONJE_TURN_IDLE) {
 			wait_for_the_guests_event(host);
 		} else if (over.outcome == LAXONJE_TURN_HALTED || over.outcome == LAXONJE_NOTHING) {
 			fprintf(stderr, "%s\n", laxonje_name(over.outcome, over.cause));
 			break;
-		} else if (over.outcome == LAXONJE_TURN_RAN && over.number == LAXONJE_PASS) {
-			forward(host, packet, laxonje_queue_packet(drive.queue, packet, sizeof packet));
 		}
 	}
 	laxonje_queue_delete(&drive.queue);
@@ -50,8 +52,8 @@ int main(void)
 
 	laxonje_load(pass, sizeof pass, NULL, 0, program);
 	memory[TABLE][0] = PERMIT, memory[TABLE][1] = DATA;
-	memory[TX][16] = 0, memory[TX][17] = 0, memory[TX][18] = 7 | BYTES << 16;
-	memory[TX][1] = memory[TX][3] = memory[RX][1] = memory[RX][3] = memory[TX][0] = 1;
+	memory[TX][18] = 7 | BYTES << 16, memory[TX][21] = 8 | (BYTES + 1) << 16;
+	memory[TX][0] = 2, memory[TX][3] = memory[RX][3] = 1;
 	serve(NULL, program, NULL, 0);
 	laxonje_program_delete(&program);
 	return 0;

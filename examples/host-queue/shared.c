@@ -1,11 +1,13 @@
-/* Queues on threads that share one program's counters: what they counted is exact, while another thread reads and adds. For the thread sanitizer. */
+/* Queues on threads that share one program's counters, some of which take several packets in a turn: what they counted is exact, while another thread
+ * reads and adds. For the thread sanitizer. */
 #include <laxonje_drive.h>
 
 #include <pthread.h>
 #include <stdatomic.h>
 #include <stdio.h>
 
-enum { TX, RX, TABLE, DATA, FRAMES, GUEST = 5, PORT = 7, FRAME_BYTES = 14, RING_SLOTS = 256, QUEUES = 8, TURNS = 20000, READS = 1000, ADDED = 7 };
+enum { TX, RX, TABLE, DATA, FRAMES, GUEST = 5, PORT = 7, FRAME_BYTES = 14, RING_SLOTS = 256 };
+enum { QUEUES = 8, PACKETS = 20000, AT_ONCE = 8, READS = 1000, ADDED = 7 };
 
 /* Adds 5 twice to the first of two counters of a map's only entry, and once to the second, and drops the packet. */
 static const uint8_t counting[] = { 0xbf, 0xa2, 0, 0, 0, 0, 0, 0, 0x07, 2, 0, 0, 0xfc, 0xff, 0xff, 0xff, 0x62, 10, 0xfc, 0xff, 0, 0, 0, 0,
@@ -18,6 +20,8 @@ static const uint8_t plain[] = { 0xb7, 0, 0, 0, LAXONJE_PASS, 0, 0, 0, 0x95, 0, 
 struct served {
 	uint32_t pages[FRAMES][LAXONJE_PAGE_WORDS];
 	struct laxonje_drive drive;
+	struct laxonje_turns room;
+	uint32_t at_once;
 	unsigned wrong;
 };
 
@@ -67,10 +71,15 @@ static void *turns(void *given)
 {
 	struct served *served = given;
 	struct laxonje_io io = { .host = served, .page = page_of, .notify = notified };
-	for (uint32_t turn = 0; turn < TURNS; turn++) {
-		request(served, turn);
-		struct laxonje_op over = laxonje_drive_turn(&served->drive, &io);
-		served->wrong += over.outcome != LAXONJE_TURN_RAN || over.number != LAXONJE_DROP || over.ops != 3;
+	for (uint32_t index = 0; index < PACKETS; index += served->at_once) {
+		for (uint32_t number = 0; number < served->at_once; number++)
+			request(served, index + number);
+		laxonje_drive_turns(&served->drive, &io, served->at_once, &served->room);
+		served->wrong += served->room.count != served->at_once;
+		for (uint32_t number = 0; number < served->room.count; number++) {
+			const struct laxonje_turned *turned = &served->room.turned[number];
+			served->wrong += turned->outcome != LAXONJE_TURN_RAN || turned->number != LAXONJE_DROP || turned->ops != 3;
+		}
 	}
 	return NULL;
 }
@@ -101,11 +110,14 @@ static void ends(pthread_t thread) { is("a thread's end", pthread_join(thread, N
 static void refuses(struct laxonje_program *program, struct served *served, struct laxonje_shared *counters)
 {
 	struct laxonje_program *other = program_of(plain, sizeof plain, NULL, 0);
-	static struct served busy, different, none;
-	struct laxonje_op op;
+	static struct served busy, several, different, none;
+	struct laxonje_op op, ops[2];
 	serve(&busy, program);
 	is("a turn", laxonje_queue_turn(busy.drive.queue, 1, &op, 1), 1);
 	is("a share inside a turn", laxonje_queue_share(busy.drive.queue, counters), LAXONJE_SHARES_BUSY);
+	serve(&several, program);
+	is("a turn of several", laxonje_queue_turns(several.drive.queue, 2, LAXONJE_TURNS, ops, 2), 1);
+	is("a share inside a turn of several", laxonje_queue_share(several.drive.queue, counters), LAXONJE_SHARES_BUSY);
 	serve(&different, other);
 	is("a share of other maps", laxonje_queue_share(different.drive.queue, counters), LAXONJE_SHARES_MAPS);
 	serve(&none, program);
@@ -137,6 +149,7 @@ static void refuses(struct laxonje_program *program, struct served *served, stru
 	is("words of a queue that shares", laxonje_queue_counters(served->drive.queue), 0);
 	is("words of one that doesn't", laxonje_queue_counters(none.drive.queue), 2);
 	laxonje_queue_delete(&busy.drive.queue);
+	laxonje_queue_delete(&several.drive.queue);
 	laxonje_queue_delete(&different.drive.queue);
 	laxonje_queue_delete(&none.drive.queue);
 	laxonje_program_delete(&other);
@@ -156,15 +169,17 @@ int main(void)
 	}
 	refuses(program, &served[0], counters);
 	laxonje_program_delete(&program);
-	for (size_t i = 0; i < QUEUES; i++)
+	for (size_t i = 0; i < QUEUES; i++) {
+		served[i].at_once = i % 2 ? AT_ONCE : 1;
 		starts(&threads[i], turns, &served[i]);
+	}
 	starts(&reading, reads, &reader);
 	for (size_t i = 0; i < QUEUES; i++)
 		ends(threads[i]);
 	ends(reading);
 	is("what a reader saw", reader.wrong, 0);
-	is("the first counter", laxonje_counters_at(counters, 0, 0, 0), (uint64_t)QUEUES * TURNS * 10);
-	is("the second counter", laxonje_counters_at(counters, 0, 0, 1), (uint64_t)QUEUES * TURNS * 5 + READS * ADDED);
+	is("the first counter", laxonje_counters_at(counters, 0, 0, 0), (uint64_t)QUEUES * PACKETS * 10);
+	is("the second counter", laxonje_counters_at(counters, 0, 0, 1), (uint64_t)QUEUES * PACKETS * 5 + READS * ADDED);
 	laxonje_counters_delete(&counters);
 	for (size_t i = 0; i < QUEUES; i++) {
 		is("turns", served[i].wrong, 0);

@@ -40,6 +40,7 @@ def header_tests(fits: types.ModuleType) -> Iterator[tuple[str, bool]]:
     for what, old, new in (
         ("two fields swapped", "uint32_t entries;\n\tuint32_t counters;", "uint32_t counters;\n\tuint32_t entries;"),
         ("a wider field", "uint16_t domain;", "uint32_t domain;"),
+        ("a wider field of a union", "union {\n\t\tuint32_t lent;", "union {\n\t\tuint64_t lent;"),
         ("a field less", "\tuint32_t slots;\n", ""),
         ("a pointer that may be written through", "const uint8_t *packet, size_t packet_bytes);", "uint8_t *packet, size_t packet_bytes);"),
         ("a shorter count", "struct laxonje_op *ops, size_t op_count);", "struct laxonje_op *ops, uint32_t op_count);"),

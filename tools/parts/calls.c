@@ -5,7 +5,7 @@
 
 #define HELD(call) extern __typeof__(call) held_##call
 
-const char laxonje_header_3 = LAXONJE_VERSION;
+const char laxonje_header_4 = LAXONJE_VERSION;
 
 HELD(laxonje_load);
 HELD(laxonje_load_settings);
@@ -24,6 +24,9 @@ HELD(laxonje_queue_make);
 HELD(laxonje_queue_make_extents);
 HELD(laxonje_queue_turn);
 HELD(laxonje_queue_step);
+HELD(laxonje_queue_turns);
+HELD(laxonje_queue_turns_step);
+HELD(laxonje_queue_turns_packet);
 HELD(laxonje_queue_counters);
 HELD(laxonje_queue_deliver);
 HELD(laxonje_queue_deliver_as);
@@ -157,6 +160,24 @@ size_t laxonje_queue_step(struct laxonje_queue *queue, uint32_t *words, size_t w
                           struct laxonje_op *ops, size_t op_count)
 {
 	return queue ? held_laxonje_queue_step(queue, words, word_count, counters, counter_count, ops, op_count) : 0;
+}
+
+size_t laxonje_queue_turns(struct laxonje_queue *queue, uint32_t producer, uint32_t most, struct laxonje_op *ops, size_t op_count)
+{
+	return queue ? held_laxonje_queue_turns(queue, producer, most, ops, op_count) : 0;
+}
+
+size_t laxonje_queue_turns_step(struct laxonje_queue *queue, uint32_t *words, size_t word_count, uint64_t *counters, size_t counter_count,
+                                struct laxonje_op *ops, size_t op_count, struct laxonje_turned *turned, size_t turned_count)
+{
+	if (!queue)
+		return 0;
+	return held_laxonje_queue_turns_step(queue, words, word_count, counters, counter_count, ops, op_count, turned, turned_count);
+}
+
+size_t laxonje_queue_turns_packet(struct laxonje_queue *queue, size_t number, uint8_t *out, size_t out_bytes)
+{
+	return queue ? held_laxonje_queue_turns_packet(queue, number, out, out_bytes) : 0;
 }
 
 size_t laxonje_queue_counters(struct laxonje_queue *queue)

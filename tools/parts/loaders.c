@@ -10,6 +10,8 @@
 #define laxonje_counters_new inline_counters_new
 #define laxonje_counters_delete inline_counters_delete
 #define laxonje_drive_turn inline_drive_turn
+#define laxonje_drive_turns inline_drive_turns
+#define laxonje_drive_packet inline_drive_packet
 #define laxonje_drive_deliver inline_drive_deliver
 #define laxonje_drive_deliver_as inline_drive_deliver_as
 #define laxonje_drive_await inline_drive_await
@@ -33,6 +35,8 @@
 #undef laxonje_counters_new
 #undef laxonje_counters_delete
 #undef laxonje_drive_turn
+#undef laxonje_drive_turns
+#undef laxonje_drive_packet
 #undef laxonje_drive_deliver
 #undef laxonje_drive_deliver_as
 #undef laxonje_drive_await
@@ -57,6 +61,8 @@ extern __typeof__(inline_queue_delete) laxonje_queue_delete;
 extern __typeof__(inline_counters_new) laxonje_counters_new;
 extern __typeof__(inline_counters_delete) laxonje_counters_delete;
 extern __typeof__(inline_drive_turn) laxonje_drive_turn;
+extern __typeof__(inline_drive_turns) laxonje_drive_turns;
+extern __typeof__(inline_drive_packet) laxonje_drive_packet;
 extern __typeof__(inline_drive_deliver) laxonje_drive_deliver;
 extern __typeof__(inline_drive_deliver_as) laxonje_drive_deliver_as;
 extern __typeof__(inline_drive_await) laxonje_drive_await;
@@ -119,6 +125,16 @@ void laxonje_counters_delete(struct laxonje_shared **counters)
 struct laxonje_op laxonje_drive_turn(struct laxonje_drive *drive, const struct laxonje_io *io)
 {
 	return inline_drive_turn(drive, io);
+}
+
+struct laxonje_op laxonje_drive_turns(struct laxonje_drive *drive, const struct laxonje_io *io, uint32_t most, struct laxonje_turns *turns)
+{
+	return inline_drive_turns(drive, io, most, turns);
+}
+
+size_t laxonje_drive_packet(const struct laxonje_drive *drive, const struct laxonje_turns *turns, uint32_t number, uint8_t *out, size_t out_bytes)
+{
+	return inline_drive_packet(drive, turns, number, out, out_bytes);
 }
 
 uint32_t laxonje_drive_deliver(struct laxonje_drive *drive, const struct laxonje_io *io, const uint8_t *packet, size_t packet_bytes,

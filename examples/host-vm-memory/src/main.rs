@@ -6,7 +6,7 @@ mod memory;
 mod tests;
 
 use guest::{Front, RX, TABLE, TX};
-use laxonje::{Action, Awaited, Delivery, Program, Queue, Setup, Turn};
+use laxonje::{Action, Awaited, Delivery, Program, Queue, Setup, Turn, MOST_TURNS};
 use memory::{extents, Memory};
 use std::error::Error;
 use std::sync::mpsc::{channel, Receiver};
@@ -35,19 +35,28 @@ impl Device {
     /// Takes turns until the ring is empty. An error: the guest has broken the protocol, and has to connect again.
     fn serve(&mut self) -> Result<(), Box<dyn Error>> {
         loop {
-            match self.queue.turn(&mut self.memory) {
-                Turn::Idle => return Ok(()),
-                Turn::Ran(run) if run.action == Action::Pass => self.give_back()?,
-                Turn::Ran(_) => {}
-                Turn::Refused(why) => eprintln!("refused: {why}"),
-                Turn::Halted(why) => return Err(why.to_string().into()),
-                _ => return Err("an access of the guest's memory failed".into()),
+            let packets = self.queue.turns(MOST_TURNS, &mut self.memory);
+            if packets == 0 {
+                return Ok(());
             }
+            (0..packets).try_for_each(|number| self.after_turn(number))?;
         }
     }
 
-    fn give_back(&mut self) -> Result<(), Box<dyn Error>> {
-        let length = self.queue.packet(&mut self.packet);
+    /// What comes after a packet of a turn.
+    fn after_turn(&mut self, number: usize) -> Result<(), Box<dyn Error>> {
+        match self.queue.turned(number) {
+            Turn::Ran(run) if run.action == Action::Pass => self.give_back(number)?,
+            Turn::Ran(_) | Turn::Idle => {}
+            Turn::Refused(why) => eprintln!("refused: {why}"),
+            Turn::Halted(why) => return Err(why.to_string().into()),
+            _ => return Err("an access of the guest's memory failed".into()),
+        }
+        Ok(())
+    }
+
+    fn give_back(&mut self, number: usize) -> Result<(), Box<dyn Error>> {
+        let length = self.queue.packet_of(number, &mut self.packet);
         loop {
             match self.queue.deliver(&self.packet[..length], &mut self.memory)? {
                 Delivery::FewSlots => match self.queue.wait_for(length, &mut self.memory)? {
