@@ -48,6 +48,19 @@ pub fn fields(body: &str) -> Vec<(&str, &str)> {
     body.lines().filter_map(|line| line.trim().strip_prefix("pub ")?.strip_suffix(',')?.split_once(": ")).collect()
 }
 
+/// The other names of a struct's words: the struct, a name, and the field that has the word.
+pub fn views(rust: &str) -> Vec<(&str, &str, &str)> {
+    let mut found = Vec::new();
+    let mut rest = rust;
+    while let Some((name, after)) = between(rest, "\nimpl ", " {\n") {
+        let (body, tail) = after.split_once("\n}").unwrap_or((after, ""));
+        let each = body.split("    pub const fn ").skip(1);
+        found.extend(each.filter_map(|it| Some((name, it.split_once('(')?.0, between(it, "self.", "\n")?.0))));
+        rest = tail;
+    }
+    found
+}
+
 /// Each call: its name, the types of its parameters, and its answer's type.
 pub fn calls(rust: &str) -> Vec<(&str, Vec<&str>, &str)> {
     let mut found = Vec::new();
@@ -94,6 +107,11 @@ fn struct_check((name, body): (&str, &str)) -> String {
     text
 }
 
+/// Another name of a word: it has to be of the same word in the header.
+fn view_check((name, view, field): (&str, &str, &str)) -> String {
+    format!("_Static_assert(offsetof(struct {name}, {view}) == offsetof(struct {name}, {field}), \"{name}.{view}\");\n")
+}
+
 /// A prototype once more: the compiler stops if it is another.
 fn call_check((name, parameters, answer): (&str, Vec<&str>, &str)) -> String {
     let types: Vec<_> = parameters.into_iter().map(c_type).collect();
@@ -106,6 +124,7 @@ pub fn checks(rust: &str) -> String {
     let mut text = "#include <stddef.h>\n#include <laxonje.h>\n".to_owned();
     text.extend(constants(rust).into_iter().map(constant_check));
     text.extend(structs(rust).into_iter().map(struct_check));
+    text.extend(views(rust).into_iter().map(view_check));
     text.extend(calls(rust).into_iter().map(call_check));
     text
 }

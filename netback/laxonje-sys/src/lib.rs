@@ -1,4 +1,4 @@
-//! `laxonje.h`, version 3, in Rust: each constant, struct and call of the header, which says what each does.
+//! `laxonje.h`, version 4, in Rust: each constant, struct and call of the header, which says what each does.
 //!
 //! `build.rs` has a C compiler compare all of it with the header that comes with the library, and a test looks for what is left out. The crate
 //! `laxonje` is the safe layer over it.
@@ -9,7 +9,7 @@
 pub type c_char = i8;
 
 /// The version of the header that these declarations are of.
-pub const LAXONJE_VERSION: u32 = 3;
+pub const LAXONJE_VERSION: u32 = 4;
 
 /// The most maps of `laxonje_load`, and entries of a map. Settings with `wide` have up to 16 maps, of up to 65,536 entries.
 pub const LAXONJE_MAPS: usize = 4;
@@ -23,9 +23,16 @@ pub const LAXONJE_PROGRAM_BYTES: usize = 32768;
 /// There is no such counter, map or queue.
 pub const LAXONJE_NOWHERE: usize = usize::MAX;
 
-/// Words that are lent to a step, ops that it has room for, and the most frames and frames of a grant table, of owners and of extents.
+/// Words that are lent to a step, and ops that it has room for.
 pub const LAXONJE_PAGE_WORDS: usize = 1024;
 pub const LAXONJE_OPS: usize = 8;
+
+/// The most packets of a turn of several, and the words and ops of its steps.
+pub const LAXONJE_TURNS: usize = 16;
+pub const LAXONJE_TURNS_WORDS: usize = 16432;
+pub const LAXONJE_TURNS_OPS: usize = 34;
+
+/// The most frames and frames of a grant table, of owners and of extents.
 pub const LAXONJE_FRAMES: usize = 8192;
 pub const LAXONJE_TABLE_FRAMES: usize = 16;
 pub const LAXONJE_EXTENT_FRAMES: usize = 4294967295;
@@ -210,6 +217,7 @@ pub const LAXONJE_DELIVERY_HALTED: u32 = 7;
 pub const LAXONJE_AWAITED_POSTED: u32 = 9;
 pub const LAXONJE_AWAITED_WAITING: u32 = 10;
 pub const LAXONJE_AWAITED_HALTED: u32 = 11;
+pub const LAXONJE_TURN_SEVERAL: u32 = 13;
 
 /// Flags of a tx slot.
 pub const LAXONJE_FLAG_CSUM_BLANK: u32 = 1;
@@ -333,14 +341,53 @@ pub struct laxonje_op {
     pub lent: u32,
     pub value: [u32; 2],
     pub entry: u32,
-    pub reference: u32,
+}
+
+/// The other names that the header has for some words.
+impl laxonje_op {
+    #[inline]
+    pub const fn reference(&self) -> u32 {
+        self.value[0]
+    }
+
+    #[inline]
+    pub const fn outcome(&self) -> u32 {
+        self.frame
+    }
+
+    #[inline]
+    pub const fn number(&self) -> u32 {
+        self.word
+    }
+
+    #[inline]
+    pub const fn cause(&self) -> u32 {
+        self.count
+    }
+
+    #[inline]
+    pub const fn ops(&self) -> u32 {
+        self.lent
+    }
+
+    #[inline]
+    pub const fn slots(&self) -> u32 {
+        self.value[0]
+    }
+}
+
+#[repr(C)]
+#[derive(Clone, Copy, Debug, Default, PartialEq, Eq)]
+pub struct laxonje_turned {
     pub outcome: u32,
-    pub number: u32,
-    pub cause: u32,
     pub ops: u32,
+    pub number: u32,
     pub slots: u32,
-    pub index: u32,
-    pub grant: i32,
+    pub cause: u32,
+    pub length: u32,
+    pub flags: u32,
+    pub segment_type: u16,
+    pub segment_size: u16,
 }
 
 extern "C" {
@@ -382,11 +429,17 @@ extern "C" {
         desc: *const laxonje_queue_desc, out: *mut laxonje_queue,
     ) -> u32;
     pub fn laxonje_queue_turn(queue: *mut laxonje_queue, producer: u32, ops: *mut laxonje_op, op_count: usize) -> usize;
-    #[link_name = "laxonje_queue_step_3"]
+    #[link_name = "laxonje_queue_step_4"]
     pub fn laxonje_queue_step(
         queue: *mut laxonje_queue, words: *mut u32, word_count: usize, counters: *mut u64, counter_count: usize, ops: *mut laxonje_op,
         op_count: usize,
     ) -> usize;
+    pub fn laxonje_queue_turns(queue: *mut laxonje_queue, producer: u32, most: u32, ops: *mut laxonje_op, op_count: usize) -> usize;
+    pub fn laxonje_queue_turns_step(
+        queue: *mut laxonje_queue, words: *mut u32, word_count: usize, counters: *mut u64, counter_count: usize, ops: *mut laxonje_op,
+        op_count: usize, turned: *mut laxonje_turned, turned_count: usize,
+    ) -> usize;
+    pub fn laxonje_queue_turns_packet(queue: *mut laxonje_queue, number: usize, out: *mut u8, out_bytes: usize) -> usize;
     pub fn laxonje_queue_counters(queue: *mut laxonje_queue) -> usize;
     pub fn laxonje_queue_deliver(queue: *mut laxonje_queue, producer: u32, packet: *const u8, packet_bytes: usize) -> u32;
     pub fn laxonje_queue_deliver_as(

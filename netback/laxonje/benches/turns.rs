@@ -1,5 +1,5 @@
 //! What a run, a turn and a delivery take, by a guest in the same thread: `cargo bench -- [TIMES]`
-use laxonje::{Delivery, Extent, GuestMemory, Outcome, Packet, Page, Program, Queue, Setup, Turn, PAGE_WORDS};
+use laxonje::{Delivery, Extent, GuestMemory, Outcome, Packet, Page, Program, Queue, Setup, Turn, MOST_TURNS, PAGE_WORDS};
 use std::sync::atomic::{AtomicU32, Ordering::SeqCst};
 use std::time::Instant;
 
@@ -70,6 +70,12 @@ fn main() {
         measured(&format!("a turn of {bytes} bytes"), times, 1.0, |index| {
             guest.send(index, bytes);
             assert!(matches!(queue.turn(&mut guest), Turn::Ran(_)));
+        });
+        let (mut several, mut others) = (Queue::new(&program, &setup).expect("a queue"), Memory::new());
+        measured(&format!("a packet of {bytes} bytes, of a turn of {MOST_TURNS}"), times, MOST_TURNS as f64, |index| {
+            let first = index.wrapping_mul(MOST_TURNS as u32);
+            (0..MOST_TURNS as u32).for_each(|number| others.send(first.wrapping_add(number), bytes));
+            assert_eq!(several.turns(MOST_TURNS, &mut others), MOST_TURNS);
         });
         let frame = vec![0; bytes as usize];
         measured(&format!("a delivery of {bytes} bytes"), times, 1.0, |index| {

@@ -1,4 +1,4 @@
-//! The host's loop over version 3 of the C interface: the first read, and each op in its order.
+//! The host's loop over version 4 of the C interface: the first read, and each op in its order.
 use crate::causes::Halt;
 use crate::guest::{Entry, Guest, Op, PAGE_WORDS};
 use crate::handle::{ProgramHandle, QueueHandle, SharedHandle};
@@ -7,14 +7,15 @@ use crate::outcome::{DeliverError, Grant, ReplaceError, Stopped};
 use crate::segments::{OfferError, Offers, Segments};
 use crate::setup::{Extent, Indices, MakeError, Setup};
 use crate::shared::ShareError;
-use alloc::boxed::Box;
+use crate::turned::{Grants, Turned, MOST_TURNS};
+use alloc::vec;
 use alloc::vec::Vec;
 use laxonje_sys as sys;
 
 /// The word of a ring's producer of requests.
 const PRODUCER: usize = 0;
 
-type Ops = [sys::laxonje_op; sys::LAXONJE_OPS];
+type Ops = [sys::laxonje_op; sys::LAXONJE_TURNS_OPS];
 
 /// A queue with what it was made of and the words that it is lent.
 pub(crate) struct Driver {
@@ -22,10 +23,11 @@ pub(crate) struct Driver {
     desc: sys::laxonje_queue_desc,
     frames: Vec<sys::laxonje_extent>,
     table: Vec<u32>,
-    words: Box<[u32; PAGE_WORDS]>,
+    /// The words that are lent: those of a page, until a turn of several packets is wanted.
+    words: Vec<u32>,
     ops: Ops,
-    /// The last grant entry that was read since the last beginning.
-    grant: Option<Grant>,
+    turned: Turned,
+    grants: Grants,
     /// Why nothing may begin. From before the first access until all is over it is `Abandoned`, which a panic of the guest's leaves: the next
     /// step would answer an access that wasn't made with the words of one before.
     stopped: Option<Stopped>,
@@ -53,9 +55,10 @@ impl Driver {
             desc,
             frames: frames.collect(),
             table: setup.table.to_vec(),
-            words: Box::new([0; PAGE_WORDS]),
-            ops: Ops::default(),
-            grant: None,
+            words: vec![0; PAGE_WORDS],
+            ops: [sys::laxonje_op::default(); sys::LAXONJE_TURNS_OPS],
+            turned: Turned::default(),
+            grants: Grants::default(),
             stopped: None,
             shares: false,
             offers: Offers::default(),
@@ -141,7 +144,79 @@ impl Driver {
         self.begin()?;
         let producer = producer(self.desc.tx, guest);
         let count = self.handle.turn(producer, &mut self.ops);
-        self.finish(count, counters, guest)
+        self.finish(count, guest, |driver| driver.step(counters))
+    }
+
+    /// Takes a turn of up to `most` packets. Returns how many there were: `turned` has what became of each.
+    pub fn turns(&mut self, most: usize, counters: &mut [u64], guest: &mut (impl Guest + ?Sized)) -> Result<usize, Stopped> {
+        self.turned.count = 0;
+        let over = match most.min(MOST_TURNS) {
+            0 | 1 => self.turn(counters, guest),
+            most => self.turn_of_several(most, counters, guest),
+        }?;
+        self.note_turned(&over);
+        Ok(self.turned.count)
+    }
+
+    fn turn_of_several(
+        &mut self, most: usize, counters: &mut [u64], guest: &mut (impl Guest + ?Sized),
+    ) -> Result<sys::laxonje_op, Stopped> {
+        self.begin()?;
+        if self.words.len() < sys::LAXONJE_TURNS_WORDS {
+            self.words.resize(sys::LAXONJE_TURNS_WORDS, 0);
+        }
+        let producer = producer(self.desc.tx, guest);
+        let count = self.handle.turns(producer, most as u32, &mut self.ops);
+        self.finish(count, guest, |driver| driver.step_turns(counters))
+    }
+
+    fn step_turns(&mut self, counters: &mut [u64]) -> usize {
+        self.handle.step_turns(&mut self.words, counters, &mut self.ops, &mut self.turned.results)
+    }
+
+    /// Notes what a turn has come to.
+    fn note_turned(&mut self, over: &sys::laxonje_op) {
+        match over.outcome() {
+            sys::LAXONJE_TURN_IDLE => {}
+            sys::LAXONJE_TURN_SEVERAL => {
+                (self.turned.count, self.turned.several) = ((over.slots() as usize).min(MOST_TURNS), true);
+                self.stopped = self.turned.halt().map(Stopped::Halted);
+            }
+            _ => self.turned.set_one(self.result_of(over)),
+        }
+    }
+
+    /// The result of a turn of one.
+    pub fn result_of(&self, over: &sys::laxonje_op) -> sys::laxonje_turned {
+        let (outcome, ops, number) = (over.outcome(), over.ops(), over.number());
+        let (slots, cause) = (over.slots(), over.cause());
+        let mut result = sys::laxonje_turned { outcome, ops, number, slots, cause, ..sys::laxonje_turned::default() };
+        if outcome == sys::LAXONJE_TURN_RAN {
+            result.flags = self.handle.flags();
+            if result.flags & sys::LAXONJE_FLAG_EXTRA_INFO != 0 {
+                (result.segment_type, result.segment_size) = (self.handle.segment_type() as u16, self.handle.segment_size() as u16);
+            }
+        }
+        result
+    }
+
+    pub fn turned(&self) -> &Turned {
+        &self.turned
+    }
+
+    /// A turn that isn't taken, since the queue makes no more accesses.
+    pub fn turn_stopped(&mut self, why: Stopped) {
+        self.turned.set_stopped(why);
+    }
+
+    /// The packet of that number of the last turn of `turns`.
+    pub fn packet_of(&self, number: usize, out: &mut [u8]) -> usize {
+        match self.turned.get(number) {
+            Some(it) if it.outcome != sys::LAXONJE_TURN_RAN => 0,
+            Some(_) if self.turned.several => self.handle.turns_packet(number, out),
+            Some(_) => self.packet(out),
+            None => 0,
+        }
     }
 
     pub fn deliver(
@@ -171,7 +246,7 @@ impl Driver {
         match self.stopped {
             None => {
                 self.stopped = Some(Stopped::Abandoned);
-                self.grant = None;
+                self.grants.clear();
                 Ok(())
             }
             Some(why) => Err(why),
@@ -181,23 +256,25 @@ impl Driver {
     /// Takes the next step of what is under way, and goes on to its end.
     fn step_on(&mut self, counters: &mut [u64], guest: &mut (impl Guest + ?Sized)) -> Result<sys::laxonje_op, Stopped> {
         let count = self.step(counters);
-        self.finish(count, counters, guest)
+        self.finish(count, guest, |driver| driver.step(counters))
     }
 
     fn step(&mut self, counters: &mut [u64]) -> usize {
-        self.handle.step(&mut self.words[..], counters, &mut self.ops)
+        self.handle.step(&mut self.words, counters, &mut self.ops)
     }
 
     /// Takes what is under way to its end: the ops that are there, and those of each further step. A step without ops is one that the
     /// library doesn't take.
-    fn finish(&mut self, mut count: usize, counters: &mut [u64], guest: &mut (impl Guest + ?Sized)) -> Result<sys::laxonje_op, Stopped> {
+    fn finish(
+        &mut self, mut count: usize, guest: &mut (impl Guest + ?Sized), mut step: impl FnMut(&mut Driver) -> usize,
+    ) -> Result<sys::laxonje_op, Stopped> {
         while count > 0 {
             if self.make_ops(count, guest) {
                 let over = self.ops[count - 1];
                 self.stopped = halt_of(&over).map(Stopped::Halted);
                 return self.stopped.map_or(Ok(over), Err);
             }
-            count = self.step(counters);
+            count = step(self);
         }
         Err(Stopped::Abandoned)
     }
@@ -206,7 +283,7 @@ impl Driver {
     fn make_ops(&mut self, count: usize, guest: &mut (impl Guest + ?Sized)) -> bool {
         let ops = &self.ops[..count];
         for op in ops {
-            make_op(op, &mut self.words, &mut self.grant, guest);
+            make_op(op, &mut self.words, &mut self.grants, guest);
             guest.told(&Op::of(op), words_of(op, &self.words));
         }
         ops.last().map_or(false, |op| op.kind == sys::LAXONJE_OP_DONE)
@@ -219,9 +296,8 @@ impl Driver {
         }
     }
 
-    /// The last grant entry of the last turn, delivery or wait.
-    pub fn grant(&self) -> Option<Grant> {
-        self.grant
+    pub fn grants(&self) -> &Grants {
+        &self.grants
     }
 
     pub fn flags(&self) -> u32 {
@@ -246,22 +322,22 @@ impl Driver {
 
 /// Why a queue has halted, if what is over says so.
 fn halt_of(over: &sys::laxonje_op) -> Option<Halt> {
-    match over.outcome {
-        sys::LAXONJE_TURN_HALTED | sys::LAXONJE_DELIVERY_HALTED | sys::LAXONJE_AWAITED_HALTED => Some(Halt(over.cause)),
+    match over.outcome() {
+        sys::LAXONJE_TURN_HALTED | sys::LAXONJE_DELIVERY_HALTED | sys::LAXONJE_AWAITED_HALTED => Some(Halt(over.cause())),
         _ => None,
     }
 }
 
 /// Makes an op. If it reads an entry of the grant table, that is noted.
-fn make_op(op: &sys::laxonje_op, words: &mut [u32; PAGE_WORDS], grant: &mut Option<Grant>, guest: &mut (impl Guest + ?Sized)) {
+fn make_op(op: &sys::laxonje_op, words: &mut [u32], grants: &mut Grants, guest: &mut (impl Guest + ?Sized)) {
     let (word, count) = (op.word as usize, op.count as usize);
     let lent = op.lent as usize..op.lent as usize + count;
     match op.kind {
         sys::LAXONJE_OP_READ if op.entry != sys::LAXONJE_ENTRY_NONE => {
             let entry = Entry::of(op);
             let read = guest.entry(&entry);
+            grants.note(lent.start, Grant { entry, words: read });
             words[lent].copy_from_slice(&read);
-            *grant = Some(Grant { entry, words: read });
         }
         sys::LAXONJE_OP_READ => guest.read(op.frame, word, &mut words[lent]),
         sys::LAXONJE_OP_WRITE => guest.write(op.frame, word, &words[lent]),
@@ -273,7 +349,7 @@ fn make_op(op: &sys::laxonje_op, words: &mut [u32; PAGE_WORDS], grant: &mut Opti
 }
 
 /// The words that an op read or wrote, which `make_op` has looked at. Nothing here can fail, so that it costs nothing where no trace is kept.
-fn words_of<'a>(op: &'a sys::laxonje_op, words: &'a [u32; PAGE_WORDS]) -> &'a [u32] {
+fn words_of<'a>(op: &'a sys::laxonje_op, words: &'a [u32]) -> &'a [u32] {
     let (lent, count) = (op.lent as usize, op.count as usize);
     let found = match op.kind {
         sys::LAXONJE_OP_READ | sys::LAXONJE_OP_WRITE => words.get(lent..lent + count),

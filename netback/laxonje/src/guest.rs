@@ -87,14 +87,14 @@ impl Op {
 
 impl Entry {
     pub(crate) fn of(op: &sys::laxonje_op) -> Entry {
-        Entry { reference: op.reference, frame: op.frame, word: op.word as usize, writes: op.entry == sys::LAXONJE_ENTRY_WRITE }
+        Entry { reference: op.reference(), frame: op.frame, word: op.word as usize, writes: op.entry == sys::LAXONJE_ENTRY_WRITE }
     }
 }
 
 /// A host that makes each access itself. Each [`GuestMemory`] is one; implement it if pages have to be asked for, as under Xen.
 ///
-/// Between the entry of a grant and the next `push` of a turn or a delivery, or its end, the page may be read and written. After
-/// that push no access of it comes: there a page may be given back.
+/// Between the entry of a grant and a `push`, or the end of the turn or the delivery, the page may be read, or written if the entry says so. A page
+/// that is read may be given back at the push of the tx ring's word 2, and one that is written at that of the rx ring's: no access of it comes then.
 pub trait Guest {
     /// Reads words of a ring's page, or of a granted page, in rising order, each once.
     fn read(&mut self, frame: u32, word: usize, into: &mut [u32]);

@@ -184,6 +184,27 @@ impl QueueHandle {
         unsafe { sys::laxonje_queue_step(self.get(), words.as_mut_ptr(), lent, counters.as_mut_ptr(), counted, ops.as_mut_ptr(), room) }
     }
 
+    /// The first ops of a turn of several packets.
+    pub fn turns(&mut self, producer: u32, most: u32, ops: &mut [sys::laxonje_op]) -> usize {
+        // SAFETY: the module's reason.
+        unsafe { sys::laxonje_queue_turns(self.get(), producer, most, ops.as_mut_ptr(), ops.len()) }
+    }
+
+    pub fn step_turns(
+        &mut self, words: &mut [u32], counters: &mut [u64], ops: &mut [sys::laxonje_op], turned: &mut [sys::laxonje_turned],
+    ) -> usize {
+        let (lent, counted, room, most) = (words.len(), counters.len(), ops.len(), turned.len());
+        let (words, counters, ops, turned) = (words.as_mut_ptr(), counters.as_mut_ptr(), ops.as_mut_ptr(), turned.as_mut_ptr());
+        // SAFETY: the module's reason.
+        unsafe { sys::laxonje_queue_turns_step(self.get(), words, lent, counters, counted, ops, room, turned, most) }
+    }
+
+    /// The packet of this number of the last turn of several.
+    pub fn turns_packet(&self, number: usize, out: &mut [u8]) -> usize {
+        // SAFETY: the module's reason.
+        unsafe { sys::laxonje_queue_turns_packet(self.get(), number, out.as_mut_ptr(), out.len()) }
+    }
+
     /// Gives its share in counters to another queue.
     pub fn pass(&mut self, to: &mut QueueHandle) -> u32 {
         // SAFETY: the module's reason; the two handles are different values.

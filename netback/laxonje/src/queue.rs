@@ -1,11 +1,10 @@
 //! Netback's queue of a guest.
-use crate::causes::Refusal;
 use crate::drive::Driver;
 use crate::guest::{Guest, PAGE_BYTES};
 use crate::handle::SharedHandle;
 use crate::offload::{Accepts, Offload};
-use crate::outcome::{Awaited, DeliverError, Delivery, Flags, Grant, ReplaceError, Stopped, Turn, TurnRun};
-use crate::program::{nanoseconds, Action, MapSize, Program, MOST_BYTES};
+use crate::outcome::{Awaited, DeliverError, Delivery, Flags, Grant, ReplaceError, Stopped, Turn};
+use crate::program::{nanoseconds, MapSize, Program, MOST_BYTES};
 use crate::segments::{OfferError, Offers, Segments};
 use crate::setup::{Indices, MakeError, Setup};
 use crate::shared::ShareError;
@@ -40,21 +39,46 @@ impl Queue {
 
     /// Takes a turn: one packet at most.
     pub fn turn(&mut self, guest: &mut (impl Guest + ?Sized)) -> Turn {
-        let op = match self.driver.turn(&mut self.counters, guest) {
-            Ok(op) => op,
-            Err(why) => return Turn::stopped(why),
-        };
-        match op.outcome {
-            sys::LAXONJE_TURN_IDLE => Turn::Idle,
-            sys::LAXONJE_TURN_RAN => {
-                let flags = self.flags();
-                let segments = if flags.extra_info() { self.segments() } else { None };
-                let (number, operations, slots) = (op.number, op.ops, op.slots);
-                Turn::Ran(TurnRun { number, action: Action::of(number), operations, slots, flags, segments })
-            }
-            sys::LAXONJE_TURN_REFUSED => Turn::Refused(Refusal(op.cause)),
-            _ => Turn::Abandoned,
+        match self.driver.turn(&mut self.counters, guest) {
+            Ok(over) => Turn::of(&self.driver.result_of(&over)),
+            Err(why) => Turn::stopped(why),
         }
+    }
+
+    /// Takes a turn of up to `most` packets, at most [`MOST_TURNS`](crate::MOST_TURNS). Returns how many it took: [`Queue::turned`] has what became of each, in their
+    /// order, and with the last of them the queue may have halted. 0: the ring had no request. A queue that has stopped answers 1, and why.
+    ///
+    /// The accesses of several packets are made at once, and their responses are shown by one push. If the guest shows one packet it is
+    /// [`Queue::turn`].
+    pub fn turns(&mut self, most: usize, guest: &mut (impl Guest + ?Sized)) -> usize {
+        match self.driver.turns(most, &mut self.counters, guest) {
+            Ok(count) => count,
+            Err(why) => {
+                self.driver.turn_stopped(why);
+                1
+            }
+        }
+    }
+
+    /// What became of a packet of the last [`Queue::turns`], by its number from 0 on. [`Turn::Idle`]: there are fewer.
+    pub fn turned(&self, number: usize) -> Turn {
+        self.driver.turned().get(number).map_or(Turn::Idle, Turn::of)
+    }
+
+    /// How many slots that packet took: 0 if it was the one with which the queue has halted, or there are fewer.
+    pub fn slots_of(&self, number: usize) -> u32 {
+        self.driver.turned().get(number).map_or(0, |result| result.slots)
+    }
+
+    /// Copies out that packet, if its program ran, as far as there is room. How long it is. It is there until the next turn; if it was taken alone, also
+    /// until the next delivery.
+    pub fn packet_of(&self, number: usize, out: &mut [u8]) -> usize {
+        self.driver.packet_of(number, out)
+    }
+
+    /// The last entry of the grant table that was read for that packet, as [`Queue::last_grant`].
+    pub fn grant_of(&self, number: usize) -> Option<Grant> {
+        self.driver.grants().of(number)
     }
 
     /// Delivers a packet of the host's own, which leaves nothing to the guest. The program doesn't run on it.
@@ -69,10 +93,10 @@ impl Queue {
             Ok(op) => op?,
             Err(why) => return Ok(Delivery::stopped(why)),
         };
-        Ok(match op.outcome {
-            sys::LAXONJE_DELIVERY_SENT => Delivery::Sent { slots: op.slots },
+        Ok(match op.outcome() {
+            sys::LAXONJE_DELIVERY_SENT => Delivery::Sent { slots: op.slots() },
             sys::LAXONJE_DELIVERY_FEW_SLOTS => Delivery::FewSlots,
-            sys::LAXONJE_DELIVERY_REFUSED => Delivery::Refused { slots: op.slots },
+            sys::LAXONJE_DELIVERY_REFUSED => Delivery::Refused { slots: op.slots() },
             _ => Delivery::Abandoned,
         })
     }
@@ -93,7 +117,7 @@ impl Queue {
             Ok(op) => op,
             Err(why) => return Ok(Awaited::stopped(why)),
         };
-        Ok(match op.outcome {
+        Ok(match op.outcome() {
             sys::LAXONJE_AWAITED_POSTED => Awaited::Posted,
             sys::LAXONJE_AWAITED_WAITING => Awaited::Waiting,
             _ => Awaited::Abandoned,
@@ -105,11 +129,11 @@ impl Queue {
         self.driver.packet(out)
     }
 
-    /// The last entry of the grant table that the last turn, delivery or wait read. After [`Turn::Refused`] for [`Refusal::GRANT`] or
-    /// [`Refusal::RX_GRANT`], and after [`Delivery::Refused`], it is the one that was refused; but no entry is read for a reference beyond the
-    /// table, so then it is that of the slot before, or `None`.
+    /// The last entry of the grant table that the last turn, delivery or wait read. After [`Turn::Refused`] for
+    /// [`Refusal::GRANT`](crate::Refusal::GRANT) or [`Refusal::RX_GRANT`](crate::Refusal::RX_GRANT), and after [`Delivery::Refused`], it is the
+    /// one that was refused; but no entry is read for a reference beyond the table, so then it is that of the slot before, or `None`.
     pub fn last_grant(&self) -> Option<Grant> {
-        self.driver.grant()
+        self.driver.grants().last()
     }
 
     /// The flags of the first slot of the last turn's packet.

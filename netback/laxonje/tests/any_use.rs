@@ -5,7 +5,7 @@ mod memory;
 
 use laxonje::{
     check, Accepts, Counters, Extent, Guest, GuestMemory, Indices, MapSize, Offers, Offload, Outcome, Packet, Program, Queue, SegmentKind,
-    Segments, Setup, Stopped, MOST_BYTES, PAGE_WORDS,
+    Segments, Setup, Stopped, MOST_BYTES, MOST_TURNS, PAGE_WORDS,
 };
 use memory::{setup, udp, Memory, GUEST};
 use std::collections::BTreeSet;
@@ -120,6 +120,17 @@ impl Guest for Anything {
     }
 }
 
+/// A turn of several packets. Returns what it says.
+fn turns(queue: &mut Queue, guest: &mut Anything, most: usize) -> String {
+    let turns = queue.turns(most, guest);
+    assert!(turns <= most.clamp(1, MOST_TURNS));
+    let each = |number| {
+        let _ = (queue.slots_of(number), queue.grant_of(number), queue.packet_of(number, &mut [0; 60]));
+        format!("{:?}", queue.turned(number))
+    };
+    (0..turns.max(1)).map(each).collect()
+}
+
 /// A queue, its guest, and whether the guest's host has panicked inside a call.
 struct Served {
     guest: Anything,
@@ -184,7 +195,8 @@ impl Served {
         let says = match random.below(4) {
             0 => self.call(|queue, guest| queue.deliver_as(&packet, offload, guest)).map(|it| format!("{it:?}")),
             1 => self.call(|queue, guest| queue.wait_for_as(packet.len(), offload, guest)).map(|it| format!("{it:?}")),
-            _ => self.call(|queue, guest| queue.turn(guest)).map(|it| format!("{it:?}")),
+            2 => self.call(|queue, guest| queue.turn(guest)).map(|it| format!("{it:?}")),
+            _ => self.call(|queue, guest| turns(queue, guest, random.below(20))),
         };
         let now = self.queue.indices().err();
         if let Some(why) = was {

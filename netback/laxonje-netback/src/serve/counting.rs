@@ -1,7 +1,7 @@
 //! What the program of a device counts, over all of its queues.
 use super::Told;
 use crate::stats::add;
-use laxonje::{Counters, Guest, Program, Queue, Turn, MOST_SHARES};
+use laxonje::{Counters, Guest, Program, Queue, MOST_SHARES};
 use std::sync::{Arc, Mutex, MutexGuard, PoisonError, TryLockError};
 use std::time::Duration;
 
@@ -27,10 +27,11 @@ impl SharedCounters {
         self.0.as_ref().map(|shared| shared.counters.lock().unwrap_or_else(PoisonError::into_inner))
     }
 
-    /// Takes a turn of one of the queues: one packet at most. If its program runs alone, no other one of them takes one meanwhile.
-    pub fn turn(&self, queue: &mut Queue, guest: &mut impl Guest) -> Turn {
+    /// Takes a turn of one of the queues, of up to `most` packets: how many there were. If its program runs alone, no other one of them takes one
+    /// meanwhile.
+    pub fn turns(&self, queue: &mut Queue, guest: &mut impl Guest, most: usize) -> usize {
         let _alone = if queue.runs_alone() { self.alone() } else { None };
-        queue.turn(guest)
+        queue.turns(most, guest)
     }
 
     /// While it is held no queue takes a turn alone. A panic comes from the guest's accesses, and not while a program runs: after it others go on.

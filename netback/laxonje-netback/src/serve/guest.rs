@@ -2,7 +2,7 @@
 //!
 //! The queue asks for words of the guest's grant table, which no backend under Xen can read. So the table's frames are made up: a read
 //! of an entry asks Xen for the page of that reference, and the answer permits what Xen allowed, or nothing. The frame that an entry names
-//! is a number of this process's own, `GRANTED` plus the reference.
+//! is a number of this process's own: `GRANTED` plus the number of the page among those of the turn.
 //!
 //! To ask Xen for each page in a call of its own is dear. So the pages of all requests that the guest has shown are copied in one call
 //! before their turns, and the packets that wait are copied to the posted buffers in one call before their deliveries. What was
@@ -18,7 +18,7 @@ use super::arena::{Arena, Packet};
 use crate::keys::QueueKeys;
 use crate::stats::{Rings, Totals};
 use crate::xen::{Memory, PageCopy, Pages};
-use laxonje::{Entry, Extent, Guest, GuestMemory, Page, PAGE_BYTES};
+use laxonje::{Entry, Extent, Grant, Guest, GuestMemory, Page, Queue, MOST_TURNS, PAGE_BYTES};
 use std::fmt;
 use std::io;
 use std::sync::atomic::{fence, Ordering};
@@ -40,6 +40,8 @@ const PAGES_ASKED: usize = 64;
 pub const COPIES_BYTES: usize = (2 * PAGES_AHEAD + PAGES_ASKED + 3) * PAGE_BYTES;
 const PERMIT_ACCESS: u32 = 1;
 const READONLY: u32 = 4;
+/// The entry of a page that Xen refuses.
+const REFUSED: [u32; 2] = [0, 0];
 
 /// How pages of a guest are had.
 #[derive(Clone, Copy, Debug, PartialEq, Eq)]
@@ -53,6 +55,13 @@ pub enum Way {
 /// The grant that Xen refused, if it did: its reference, and the index of its packet's first slot. As the end of a log line.
 #[derive(Clone, Copy, Debug, Default, PartialEq, Eq)]
 pub struct RefusedGrant(Option<(u32, u32)>);
+
+impl RefusedGrant {
+    /// What was read last for the packet at an index.
+    fn of(grant: Option<Grant>, index: u32) -> RefusedGrant {
+        RefusedGrant(grant.filter(|grant| grant.words == REFUSED).map(|grant| (grant.entry.reference, index)))
+    }
+}
 
 impl fmt::Display for RefusedGrant {
     fn fmt(&self, to: &mut fmt::Formatter<'_>) -> fmt::Result {
@@ -75,12 +84,13 @@ pub struct XenGuest<Xen: Pages> {
     given: Memory,
     asked: Memory,
     asked_count: usize,
+    /// How many of the further pages are of pages that are read.
+    asked_to_read: usize,
     copies: Vec<PageCopy>,
     /// The slots of each ring that have a guess.
     tx_guessed: Vec<usize>,
     rx_guessed: Vec<usize>,
     held: Vec<Held<Xen::Mapped>>,
-    refused: RefusedGrant,
     owes_notice: bool,
     totals: Arc<Totals>,
 }
@@ -111,11 +121,11 @@ impl<Xen: Pages> XenGuest<Xen> {
             given,
             asked,
             asked_count: 0,
+            asked_to_read: 0,
             copies,
             tx_guessed,
             rx_guessed,
             held,
-            refused: RefusedGrant::default(),
             owes_notice: false,
             totals,
         })
@@ -151,9 +161,15 @@ impl<Xen: Pages> XenGuest<Xen> {
         std::mem::take(&mut self.owes_notice)
     }
 
-    /// Which grant Xen refused. After that none.
-    pub fn take_refused(&mut self) -> RefusedGrant {
-        std::mem::take(&mut self.refused)
+    /// Which grant Xen refused of a packet of the last turn, by its number in it.
+    pub fn refused_of(&self, queue: &Queue, number: usize) -> RefusedGrant {
+        let slots: u32 = (number..MOST_TURNS).map(|number| queue.slots_of(number)).sum();
+        RefusedGrant::of(queue.grant_of(number), self.tx.done.wrapping_sub(slots))
+    }
+
+    /// Which it refused of the last delivery, that has taken so many slots.
+    pub fn refused_to(&self, queue: &Queue, slots: u32) -> RefusedGrant {
+        RefusedGrant::of(queue.last_grant(), self.rx.done.wrapping_sub(slots))
     }
 
     fn ring(&self, frame: u32) -> Option<&Page> {
@@ -189,7 +205,7 @@ impl<Xen: Pages> Guest for XenGuest<Xen> {
             RX_RING => &mut self.rx,
             _ => return self.read_granted(frame.wrapping_sub(GRANTED), 4 * word..4 * (word + into.len()), into),
         };
-        ring.note_read(word);
+        ring.note_read(word, into.len());
         Words(&ring.page).read(frame, word, into);
     }
 
@@ -198,8 +214,13 @@ impl<Xen: Pages> Guest for XenGuest<Xen> {
     }
 
     fn push(&mut self, frame: u32, word: usize, value: u32, then: usize) -> u32 {
-        self.give_back();
-        let ring = if frame == TX_RING { &mut self.tx } else { &mut self.rx };
+        let ring = if frame == TX_RING {
+            self.give_back();
+            &mut self.tx
+        } else {
+            self.give_back_written();
+            &mut self.rx
+        };
         if word == RESPONSES {
             ring.done = value;
         }
@@ -217,15 +238,14 @@ impl<Xen: Pages> Guest for XenGuest<Xen> {
     fn entry(&mut self, entry: &Entry) -> [u32; 2] {
         match self.hold(entry) {
             Some(held) => {
+                let frame = GRANTED + self.held.len() as u32;
                 self.held.push(held);
                 let access = if entry.writes { PERMIT_ACCESS } else { PERMIT_ACCESS | READONLY };
-                [access | u32::from(OWN_DOMAIN) << 16, GRANTED + entry.reference]
+                [access | u32::from(OWN_DOMAIN) << 16, frame]
             }
             None => {
                 Totals::add(&self.totals.refused_grants, 1);
-                let ring = if entry.writes { &self.rx } else { &self.tx };
-                self.refused = RefusedGrant(Some((entry.reference, ring.done)));
-                [0, 0]
+                REFUSED
             }
         }
     }

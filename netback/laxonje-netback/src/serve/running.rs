@@ -106,11 +106,10 @@ impl Running {
     /// Asks the guest for a notice of its next packet. Returns whether there is one by now.
     fn arm(&mut self) -> Result<bool, Ended> {
         self.worker.give_time();
-        let turn = self.worker.turn();
-        let more = turn != Turn::Idle;
-        self.after_turn(turn)?;
+        let turns = self.worker.turns(1);
+        self.after_turns(turns)?;
         self.send_notice()?;
-        Ok(more || !self.out.is_empty() || (!self.waiting && self.arena.first().is_some()))
+        Ok(turns > 0 || !self.out.is_empty() || (!self.waiting && self.arena.first().is_some()))
     }
 
     /// Sends the notice that is owed, if one is: one for all turns and deliveries since the last.
@@ -235,20 +234,26 @@ impl Running {
         let end = self.worker.guest.fetch().map_err(Ended::Failed)?;
         self.worker.give_time();
         let mut count = 0;
-        while !self.worker.guest.is_done(end) && count < BUDGET {
-            let turn = self.worker.turn();
-            if turn == Turn::Idle {
+        while count < BUDGET {
+            let most = self.worker.guest.left_before(end).min(BUDGET - count);
+            let turns = if most > 0 { self.worker.turns(most) } else { 0 };
+            if turns == 0 {
                 break;
             }
-            self.after_turn(turn)?;
-            count += 1;
+            self.after_turns(turns)?;
+            count += turns;
         }
         self.worker.guest.forget();
         Ok(count > 0)
     }
 
-    fn after_turn(&mut self, turn: Turn) -> Result<(), Ended> {
-        let totals = &self.worker.totals;
+    /// Does what comes after each packet of a turn.
+    fn after_turns(&mut self, turns: usize) -> Result<(), Ended> {
+        (0..turns).try_for_each(|number| self.after_turn(number))
+    }
+
+    fn after_turn(&mut self, number: usize) -> Result<(), Ended> {
+        let (totals, turn) = (&self.worker.totals, self.worker.queue.turned(number));
         match turn {
             Turn::Idle => {}
             Turn::Ran(run) if matches!(run.action, Action::Pass | Action::Tx) => self.rests.note_packet(),
@@ -259,11 +264,11 @@ impl Running {
             Turn::Halted(cause) => return Err(Ended::Halted(cause)),
             Turn::Refused(refusal) => {
                 totals.refuse(refusal);
-                let grant = self.worker.guest.take_refused();
+                let grant = self.worker.guest.refused_of(&self.worker.queue, number);
                 self.worker.log.caused(&format_args!("refused a packet: {refusal}{grant}"));
             }
             Turn::Ran(run) => match run.action {
-                Action::Pass => self.forward(run),
+                Action::Pass => self.forward(run, number),
                 Action::Tx => Totals::add(&totals.sent_back, 1),
                 Action::Drop => Totals::add(&totals.dropped, 1),
                 _ => Totals::add(&totals.aborted, 1),
@@ -274,10 +279,10 @@ impl Running {
     }
 
     /// A packet that passed is to be given to the TAP device.
-    fn forward(&mut self, run: TurnRun) {
+    fn forward(&mut self, run: TurnRun, number: usize) {
         let totals = &self.worker.totals;
         let room = self.out.room();
-        let length = self.worker.queue.packet(room);
+        let length = self.worker.queue.packet_of(number, room);
         #[cfg(feature = "plant")]
         assert_ne!(length, PLANTED, "planted");
         #[cfg(feature = "plant")]
@@ -343,9 +348,9 @@ impl Running {
             }
             Ok(Delivery::FewSlots) => return self.await_buffers(packet).map(|()| false),
             Ok(Delivery::Halted(cause)) => return Err(Ended::Halted(cause)),
-            Ok(Delivery::Refused { .. }) => {
+            Ok(Delivery::Refused { slots }) => {
                 Totals::add(&totals.undelivered, 1);
-                let grant = guest.take_refused();
+                let grant = guest.refused_to(queue, slots);
                 self.worker.log.caused(&format_args!("a packet isn't delivered: an rx slot's grant failed its check{grant}"));
             }
             Ok(_) => return Err(abandoned()),

@@ -8,7 +8,7 @@ use crate::os::{monotonic_time, restrict_to_packets, Tap};
 use crate::panics::{caught, PACKET_THREAD};
 use crate::stats::{Rings, Totals};
 use crate::xen::{Events, Grants};
-use laxonje::{Halt, MakeError, Program, Queue, Setup, Turn};
+use laxonje::{Halt, MakeError, Program, Queue, Setup};
 use std::io::{self, Write};
 use std::mem::size_of;
 use std::os::unix::net::UnixStream;
@@ -20,7 +20,7 @@ use std::thread::{self, JoinHandle};
 /// The stack of a queue's thread.
 const STACK_BYTES: usize = 2 << 20;
 /// What the library keeps of a queue beside the program's counters.
-const LIBRARY_BYTES: usize = 1 << 20;
+const LIBRARY_BYTES: usize = 5 << 18;
 /// The most memory that a queue takes beside these.
 const QUEUE_BYTES: usize = 7 << 20;
 const _: () = assert!(PACKETS_BYTES + COPIES_BYTES + STACK_BYTES + LIBRARY_BYTES <= QUEUE_BYTES);
@@ -166,9 +166,9 @@ impl Worker {
         }
     }
 
-    /// Takes a turn: one packet at most.
-    pub fn turn(&mut self) -> Turn {
-        self.counters.turn(&mut self.queue, &mut self.guest)
+    /// Takes a turn of up to `most` packets. Returns how many there were.
+    pub fn turns(&mut self, most: usize) -> usize {
+        self.counters.turns(&mut self.queue, &mut self.guest, most)
     }
 
     /// From now on it counts by these.

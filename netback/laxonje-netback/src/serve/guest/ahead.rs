@@ -101,9 +101,9 @@ impl<Xen: Pages> XenGuest<Xen> {
         true
     }
 
-    /// Whether all requests before an index are answered.
-    pub fn is_done(&self, end: u32) -> bool {
-        self.tx.done == end
+    /// How many requests before an index aren't answered yet.
+    pub fn left_before(&self, end: u32) -> usize {
+        end.wrapping_sub(self.tx.done) as usize
     }
 
     /// Forgets what was copied for turns and deliveries that didn't come, or went another way.

@@ -1,4 +1,4 @@
-//! The pages of the turn that is under way.
+//! The pages of the turn that is under way, each of which is a frame by its number here.
 use super::ring::Guess;
 use super::{Way, Words, XenGuest, TX_RING};
 use crate::serve::arena::{Arena, Packet};
@@ -31,6 +31,9 @@ pub enum Place<Mapped> {
 impl<Xen: Pages> XenGuest<Xen> {
     /// The page of an entry. `None`: Xen doesn't allow it.
     pub fn hold(&mut self, entry: &Entry) -> Option<Held<Xen::Mapped>> {
+        if !matches!(self.held.last(), Some(held) if held.writes) {
+            self.asked_to_read = self.asked_count;
+        }
         if self.way == Way::Map {
             let page = self.xen.map(self.domain, entry.reference, entry.writes)?;
             return Some(Held::new(entry, 0..PAGE_BYTES, Place::Mapped(page)));
@@ -68,14 +71,20 @@ impl<Xen: Pages> XenGuest<Xen> {
 
     /// Reads a granted page. One that was copied for fewer bytes is copied again.
     #[inline(never)]
-    pub fn read_granted(&mut self, reference: u32, bytes: Range<usize>, into: &mut [u32]) {
-        let covers = |held: &&Held<_>| held.reference == reference && held.bytes.start <= bytes.start && bytes.end <= held.bytes.end;
-        let found = self.held.iter().find(covers).map(|held| (&held.place, held.bytes.start));
-        let from = match found {
-            Some((Place::Mapped(page), _)) => return Words(page).read(TX_RING, bytes.start / 4, into),
-            Some((Place::Guessed(at), first)) => &self.taken.bytes()[at + bytes.start - first..],
-            Some((Place::Asked(at), _)) => &self.asked.bytes()[at + bytes.start..],
-            _ => match self.ask(reference, false) {
+    pub fn read_granted(&mut self, number: u32, bytes: Range<usize>, into: &mut [u32]) {
+        let held = match self.held.get(number as usize) {
+            Some(held) => held,
+            None => {
+                Totals::add(&self.totals.strange, 1); // the queue reads what it was granted
+                return into.fill(0);
+            }
+        };
+        let covers = held.bytes.start <= bytes.start && bytes.end <= held.bytes.end;
+        let from = match &held.place {
+            Place::Mapped(page) => return Words(page).read(TX_RING, bytes.start / 4, into),
+            Place::Guessed(at) if covers => &self.taken.bytes()[at + bytes.start - held.bytes.start..],
+            Place::Asked(at) if covers => &self.asked.bytes()[at + bytes.start..],
+            _ => match self.ask(held.reference, false) {
                 Some(at) => &self.asked.bytes()[at + bytes.start..],
                 None => {
                     Totals::add(&self.totals.ended_grants, 1);
@@ -89,13 +98,11 @@ impl<Xen: Pages> XenGuest<Xen> {
     }
 
     /// Writes a granted page: in what is copied to the guest before the next push, if it isn't there already.
-    pub fn write_granted(&mut self, reference: u32, word: usize, from: &[u32], delivered: Option<(&Arena, Packet)>) {
-        let bytes = 4 * word..4 * (word + from.len());
-        let position = self.held.iter().position(|held| held.writes && held.reference == reference && !held.is_written(&bytes));
-        let position = match position {
-            Some(position) => position,
-            None => return Totals::add(&self.totals.strange, 1), // the queue writes what it was granted, once
-        };
+    pub fn write_granted(&mut self, number: u32, word: usize, from: &[u32], delivered: Option<(&Arena, Packet)>) {
+        let (bytes, position) = (4 * word..4 * (word + from.len()), number as usize);
+        if !matches!(self.held.get(position), Some(held) if held.writes && !held.is_written(&bytes)) {
+            return Totals::add(&self.totals.strange, 1); // the queue writes what it was granted, once
+        }
         match (&self.held[position].place, delivered) {
             (Place::Mapped(page), _) => return Words(page).write(TX_RING, word, from),
             (Place::Delivered(place), Some((arena, packet))) if is(arena.page_at(packet, *place), word, from) => {}
@@ -125,13 +132,22 @@ impl<Xen: Pages> XenGuest<Xen> {
 
     /// Gives all pages back: what was written is copied to the guest, and what is mapped is unmapped.
     pub fn give_back(&mut self) {
+        self.give_back_written();
+        self.held.clear();
+        self.asked_count = 0;
+        self.tx.forget_read();
+    }
+
+    /// Gives the pages back that are written. Those that are read stay, for the other packets of the turn: they were held before.
+    pub fn give_back_written(&mut self) {
         if self.held.iter().any(|held| !held.changed.is_empty()) {
             self.put_changed();
         }
-        self.held.clear();
-        self.asked_count = 0;
-        self.tx.read.clear();
-        self.rx.read.clear();
+        if let Some(first) = self.held.iter().position(|held| held.writes) {
+            self.held.truncate(first);
+            self.asked_count = self.asked_to_read;
+        }
+        self.rx.forget_read();
     }
 
     #[cold]

@@ -38,13 +38,15 @@ pub struct Ring<Mapped> {
     /// For each slot a guess, and which slots were read in the turn under way.
     pub guesses: Vec<Option<Guess>>,
     pub read: Vec<usize>,
+    /// How many of these, from the first on, have no guess any more.
+    passed: usize,
     pub slot_words: usize,
 }
 
 impl<Mapped: Deref<Target = Page>> Ring<Mapped> {
     pub fn new(page: Mapped, slot_words: usize, fresh: bool) -> Self {
         let done = if fresh { 0 } else { page[RESPONSES].load(Ordering::Acquire) };
-        Ring { page, done, guesses: vec![None; REQUESTS_IN_RING as usize], read: Vec::new(), slot_words }
+        Ring { page, done, guesses: vec![None; REQUESTS_IN_RING as usize], read: Vec::new(), passed: 0, slot_words }
     }
 
     /// How many requests the guest shows. More than a ring has: it lies.
@@ -67,16 +69,27 @@ impl<Mapped: Deref<Target = Page>> Ring<Mapped> {
         words
     }
 
-    pub fn note_read(&mut self, word: usize) {
+    /// Notes the slots that these words are.
+    pub fn note_read(&mut self, word: usize, count: usize) {
         if let Some(at) = word.checked_sub(SLOTS) {
-            self.read.push(at / self.slot_words);
+            let first = at / self.slot_words;
+            self.read.extend(first..first + count / self.slot_words);
         }
+    }
+
+    /// Forgets which slots were read.
+    pub fn forget_read(&mut self) {
+        self.read.clear();
+        self.passed = 0;
     }
 
     /// The guess of the first slot that was read and names this reference.
     pub fn guess(&mut self, reference: u32) -> Option<Guess> {
-        let matches = |slot: &&usize| matches!(&self.guesses[**slot], Some(guess) if guess.reference == reference);
-        let slot = *self.read.iter().find(matches)?;
-        self.guesses[slot].take()
+        let matches = |slot: &usize| matches!(&self.guesses[*slot], Some(guess) if guess.reference == reference);
+        let at = self.passed + self.read[self.passed..].iter().position(matches)?;
+        if at == self.passed {
+            self.passed += 1;
+        }
+        self.guesses[self.read[at]].take()
     }
 }

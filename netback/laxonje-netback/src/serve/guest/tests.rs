@@ -128,8 +128,15 @@ impl Bench {
         Bench { memory, guest, queue }
     }
 
+    /// A turn of one packet.
     fn turn(&mut self) -> Turn {
-        self.queue.turn(&mut self.guest)
+        self.turns(1).pop().unwrap_or(Turn::Idle)
+    }
+
+    /// A turn of up to `most`.
+    fn turns(&mut self, most: usize) -> Vec<Turn> {
+        let turns = self.queue.turns(most, &mut self.guest);
+        (0..turns).map(|number| self.queue.turned(number)).collect()
     }
 
     fn action(&mut self) -> Action {
@@ -140,10 +147,23 @@ impl Bench {
     }
 
     fn packet(&self) -> Vec<u8> {
+        self.packet_of(0)
+    }
+
+    fn packet_of(&self, number: usize) -> Vec<u8> {
         let mut packet = vec![0; 65535];
-        let length = self.queue.packet(&mut packet);
+        let length = self.queue.packet_of(number, &mut packet);
         packet.truncate(length);
         packet
+    }
+
+    /// The grant that Xen refused of a packet of the last turn, as a log has it.
+    fn refused_of(&self, number: usize) -> String {
+        self.guest.refused_of(&self.queue, number).to_string()
+    }
+
+    fn is_done(&self, end: u32) -> bool {
+        self.guest.left_before(end) == 0
     }
 
     fn deliver(&mut self, arena: &Arena) -> Delivery {
@@ -235,8 +255,8 @@ fn an_entry_permits_what_is_asked_for_and_no_more() {
     bench.memory.grant(30, true);
     let mut entry = |writes| bench.guest.entry(&Entry { reference: 30, frame: 0, word: 60, writes });
     // grant_table.h: GTF_permit_access 1, GTF_readonly 4, then the domain
-    assert_eq!(entry(false), [0x7ff0_0005, 158]);
-    assert_eq!(entry(true), [0x7ff0_0001, 158]);
+    assert_eq!(entry(false), [0x7ff0_0005, 128]);
+    assert_eq!(entry(true), [0x7ff0_0001, 129]);
 }
 
 #[test]

@@ -48,12 +48,13 @@ pub fn until_it_halts(way: Way, answer: u8, mut any: Any, rounds: usize, came: &
     came.asked += bench.count(|totals| &totals.asked_pages);
 }
 
-/// A turn and a delivery, with changes before, between and after the copies. Whether the queue halted.
+/// A turn of one packet or of several, and a delivery, with changes before, between and after the copies. Whether the queue halted.
 fn one_round(bench: &mut Bench, any: &mut Any, arena: &mut Arena, came: &mut Came) -> bool {
     any.scribble(&bench.memory);
     let _ = bench.guest.fetch();
     any.scribble(&bench.memory);
-    let turn = bench.turn();
+    let most = 1 + 15 * any.below(2) as usize;
+    let turns = bench.turns(most);
     let _ = bench.guest.put(arena);
     any.scribble(&bench.memory);
     if arena.first().is_none() {
@@ -66,10 +67,12 @@ fn one_round(bench: &mut Bench, any: &mut Any, arena: &mut Arena, came: &mut Cam
         arena.leave();
     }
     bench.guest.forget();
-    let halted = matches!(turn, Turn::Halted(_)) || matches!(delivery, Delivery::Halted(_));
-    came.ran += u32::from(matches!(turn, Turn::Ran(_)));
-    came.segmented += u32::from(matches!(turn, Turn::Ran(run) if run.segments.is_some()));
-    came.refused += u32::from(matches!(turn, Turn::Refused(_)));
+    let halted = matches!(turns.last(), Some(Turn::Halted(_))) || matches!(delivery, Delivery::Halted(_));
+    for turn in turns {
+        came.ran += u32::from(matches!(turn, Turn::Ran(_)));
+        came.segmented += u32::from(matches!(turn, Turn::Ran(run) if run.segments.is_some()));
+        came.refused += u32::from(matches!(turn, Turn::Refused(_)));
+    }
     came.sent += u32::from(matches!(delivery, Delivery::Sent { .. }));
     came.halts += u32::from(halted);
     halted

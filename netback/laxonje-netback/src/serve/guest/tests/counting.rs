@@ -149,13 +149,13 @@ fn one_queue_at_a_time_takes_a_turn_if_the_filter_wants_that() {
                 bench.queue.replace(&second).unwrap();
                 shared.share(&mut bench.queue);
                 to.send(None).unwrap();
-                to.send(Some(shared.turn(&mut bench.queue, &mut bench.guest))).unwrap();
+                to.send(Some(shared.turns(&mut bench.queue, &mut bench.guest, 1))).unwrap();
             });
             assert_eq!(from.recv(), Ok(None));
             let turn = from.recv_timeout(Duration::from_millis(if waits { 200 } else { 20_000 }));
             assert_eq!(turn.is_err(), waits);
             drop(held);
-            assert_eq!(turn.or_else(|_| from.recv()), Ok(Some(Turn::Idle)));
+            assert_eq!(turn.or_else(|_| from.recv()), Ok(Some(0)));
         });
     }
     // a queue by itself waits for nobody, and a panic leaves the turn to others

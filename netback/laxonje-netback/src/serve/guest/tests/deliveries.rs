@@ -57,8 +57,8 @@ fn buffers_that_the_guest_exchanges_get_what_the_queue_writes() {
     for reference in [31, 30] {
         assert_ne!(guest.entry(&Entry { reference, frame: 0, word: 0, writes: true })[0], 0);
     }
-    guest.write(GRANTED + 31, 0, &[0x0101_0101; 1024]);
-    guest.write(GRANTED + 30, 0, &[0x0202_0202; 15]);
+    guest.write(GRANTED, 0, &[0x0101_0101; 1024]);
+    guest.write(GRANTED + 1, 0, &[0x0202_0202; 15]);
     guest.over();
     let bytes = |reference, word: usize| bench.memory.page(reference)[word].load(SeqCst).to_le_bytes()[0];
     assert_eq!((bytes(31, 0), bytes(31, 1023), bytes(30, 0), bytes(30, 14)), (1, 1, 2, 2));

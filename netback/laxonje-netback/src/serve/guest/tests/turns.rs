@@ -18,7 +18,7 @@ fn shown_packets_are_copied_in_one_call() {
     assert_eq!(bench.action(), Action::Pass);
     let packet = bench.packet();
     assert_eq!((packet.len(), packet[0], packet[73], packet[74], packet[79]), (80, 100, 173, 250, 255));
-    assert!(bench.guest.is_done(3));
+    assert!(bench.is_done(3));
     assert_eq!(bench.turn(), Turn::Idle);
     assert!(bench.memory.said().is_empty());
     assert!(bench.guest.take_notice() && !bench.guest.take_notice());
@@ -36,7 +36,7 @@ fn whole_packets_are_copied_as_far_as_there_is_room() {
     }
     assert_eq!(bench.guest.fetch().unwrap(), 2 * slots);
     assert_eq!((bench.action(), bench.action()), (Action::Pass, Action::Pass));
-    assert!(bench.guest.is_done(2 * slots));
+    assert!(bench.is_done(2 * slots));
     bench.guest.forget();
     assert_eq!(bench.guest.fetch().unwrap(), 3 * slots);
     assert_eq!((bench.action(), bench.packet().len()), (Action::Pass, 4096 * slots as usize));
@@ -68,7 +68,7 @@ fn guesses_step_over_extras() {
     assert_eq!(segments(), (2, Some(Segments { kind: SegmentKind::Tcpv4, size: 600 })));
     assert_eq!(segments(), (4, Some(Segments { kind: SegmentKind::Tcpv6, size: 1448 })));
     assert_eq!(segments(), (1, None));
-    assert!(bench.guest.is_done(7));
+    assert!(bench.is_done(7));
     assert_eq!((bench.memory.status(TX, 1), bench.memory.status(TX, 2)), (1, 0));
     assert_eq!((bench.count(|totals| &totals.copied_pages), bench.count(|totals| &totals.asked_pages)), (5, 0));
 }
@@ -110,7 +110,7 @@ fn extras_that_lie_are_refused_or_halt() {
             index += 2;
             bench.guest.fetch().unwrap();
             assert_eq!(bench.turn(), Turn::Refused(Refusal::EXTRA), "{first:x} {second:x}");
-            assert!(bench.guest.is_done(index));
+            assert!(bench.is_done(index));
         }
         bench.memory.send(index, 20, 0, EXTRA, 1000);
         bench.memory.extra(index + 1, gso(600) | MORE_EXTRAS, 1);
@@ -157,12 +157,12 @@ fn what_xen_refuses_the_queue_refuses() {
     bench.guest.fetch().unwrap();
     assert_eq!(bench.turn(), Turn::Refused(Refusal(4)));
     assert_eq!((bench.memory.status(TX, 0), bench.count(|totals| &totals.refused_grants)), (-1, 1));
-    assert_eq!(bench.guest.take_refused().to_string(), ": Xen refuses reference 77, of the packet at index 0");
+    assert_eq!(bench.refused_of(0), ": Xen refuses reference 77, of the packet at index 0");
     // a reference past the made-up table isn't asked for
     bench.memory.grant_bytes(40_000, 0);
     bench.memory.send(1, 40_000, 0, 0, 60);
     assert_eq!(bench.turn(), Turn::Refused(Refusal(4)));
-    assert_eq!((bench.count(|totals| &totals.strange), bench.guest.take_refused().to_string().as_str()), (0, ""));
+    assert_eq!((bench.count(|totals| &totals.strange), bench.refused_of(0).as_str()), (0, ""));
 }
 
 #[test]
@@ -188,4 +188,51 @@ fn fragments_of_one_page_have_each_its_own_copy() {
     let packet = bench.packet();
     assert_eq!((packet[0], packet[29], packet[30], packet[59]), (100, 129, 8, 37));
     assert_eq!(bench.count(|totals| &totals.asked_pages), 0);
+}
+
+#[test]
+fn several_packets_have_each_its_own_pages() {
+    for way in [Way::Copy, Way::Map] {
+        let mut bench = Bench::new(way, 2);
+        (20..24).for_each(|reference| bench.memory.grant_bytes(reference, 10 * (reference - 20) as u8));
+        bench.memory.send(0, 20, 0, 0, 60);
+        bench.memory.send(1, 21, 0, MORE, 80);
+        bench.memory.send(2, 22, 4090, 0, 6);
+        bench.memory.send(3, 77, 0, 0, 60);
+        bench.memory.send(4, 23, 4, 0, 60);
+        let end = bench.guest.fetch().unwrap();
+        let turns = bench.turns(bench.guest.left_before(end));
+        assert!(matches!(turns[..], [Turn::Ran(_), Turn::Ran(_), Turn::Refused(Refusal::GRANT), Turn::Ran(_)]), "{turns:?}");
+        let packets: Vec<_> = (0..4).map(|number| bench.packet_of(number)).collect();
+        assert_eq!(packets.iter().map(Vec::len).collect::<Vec<_>>(), [60, 80, 0, 60]);
+        assert_eq!((packets[0][0], packets[1][0], packets[1][74], packets[3][0]), (0, 10, 14, 34));
+        assert_eq!(bench.refused_of(2), ": Xen refuses reference 77, of the packet at index 3");
+        assert_eq!((bench.refused_of(0), bench.refused_of(3), bench.refused_of(4)), Default::default());
+        assert_eq!((0..5).map(|number| bench.queue.slots_of(number)).collect::<Vec<_>>(), [1, 2, 1, 1, 0]);
+        assert_eq!((bench.turns(16), bench.packet_of(0)), (vec![], vec![]));
+        assert_eq!((bench.count(|totals| &totals.strange), bench.count(|totals| &totals.ended_grants)), (0, 0));
+    }
+}
+
+#[test]
+fn pages_that_are_read_outlive_a_packet_that_is_sent_back() {
+    for way in [Way::Copy, Way::Map] {
+        let mut bench = Bench::new(way, 3);
+        // the second packet's slots are read while the first is sent back
+        for (index, flags, size) in [(0, 0, 60), (1, MORE, 100), (2, MORE, 20), (3, 0, 30)] {
+            bench.memory.grant_bytes(20 + index, 50 * index as u8);
+            bench.memory.send(index, 20 + index, 0, flags, size);
+        }
+        for index in 0..2 {
+            bench.memory.grant(30 + index, true);
+            bench.memory.post(index, 30 + index);
+        }
+        // most is 2: slots 2 and 3 aren't read ahead
+        bench.guest.fetch().unwrap();
+        assert!(matches!(bench.turns(2)[..], [Turn::Ran(_), Turn::Ran(_)]));
+        assert_eq!((bench.memory.status(RX, 0), bench.memory.status(RX, 1)), (60, 100));
+        let bytes = bytes_of(&bench.memory.page(31));
+        assert_eq!((bytes[0], bytes[49], bytes[50], bytes[70], bytes[99]), (50, 99, 100, 150, 179));
+        assert_eq!((bench.count(|totals| &totals.strange), bench.count(|totals| &totals.ended_grants)), (0, 0));
+    }
 }

@@ -1,12 +1,12 @@
-//! Whether pages are copied or mapped, a guest gets the same responses and the host the same frames.
+//! Whether pages are copied or mapped, and packets taken one by one or several at once, a guest gets the same responses and the host the same frames.
 use super::*;
 use crate::os::HEADER_BYTES;
 
 const READ: std::ops::Range<u32> = 20..28;
 const WRITTEN: std::ops::Range<u32> = 28..36;
 
-/// One guest twice: its pages copied, and mapped.
-struct Both([Bench; 2]);
+/// One guest four times: its pages copied, and mapped, and its packets taken by turns of one and of several.
+struct Alike(Vec<(usize, Bench)>);
 
 /// What came of all seeds.
 #[derive(Debug, Default)]
@@ -20,24 +20,31 @@ pub struct Seen {
     halted: u32,
 }
 
-impl Both {
-    fn new(answer: u8) -> Both {
-        Both([Way::Copy, Way::Map].map(|way| Bench::new(way, answer)))
+impl Alike {
+    fn new(answer: u8) -> Alike {
+        let ways = [(1, Way::Copy), (1, Way::Map), (16, Way::Copy), (16, Way::Map)];
+        Alike(ways.into_iter().map(|(most, way)| (most, Bench::new(way, answer))).collect())
     }
 
-    /// Does the same to both, by the same numbers.
-    fn each<Answer>(&mut self, any: &mut Any, mut what: impl FnMut(&mut Bench, &mut Any) -> Answer) -> [Answer; 2] {
-        let (mut first, mut second) = (any.clone(), any.clone());
-        let answers = [what(&mut self.0[0], &mut first), what(&mut self.0[1], &mut second)];
-        assert_eq!(first, second);
-        *any = first;
+    /// Does the same to each, by the same numbers.
+    fn each<Answer>(&mut self, any: &mut Any, mut what: impl FnMut(&mut Bench, &mut Any, usize) -> Answer) -> Vec<Answer> {
+        let first = any.clone();
+        let mut answers = Vec::new();
+        for (number, (most, bench)) in self.0.iter_mut().enumerate() {
+            let mut own = first.clone();
+            answers.push(what(bench, &mut own, *most));
+            assert!(number == 0 || own == *any);
+            *any = own;
+        }
         answers
     }
 
-    fn same<Answer: PartialEq + std::fmt::Debug>(&mut self, any: &mut Any, what: impl FnMut(&mut Bench, &mut Any) -> Answer) -> Answer {
-        let [copied, mapped] = self.each(any, what);
-        assert_eq!(copied, mapped);
-        copied
+    fn same<Answer: PartialEq + std::fmt::Debug>(
+        &mut self, any: &mut Any, what: impl FnMut(&mut Bench, &mut Any, usize) -> Answer,
+    ) -> Answer {
+        let mut answers = self.each(any, what);
+        answers.iter().for_each(|answer| assert_eq!(*answer, answers[0]));
+        answers.swap_remove(0)
     }
 }
 
@@ -54,7 +61,7 @@ impl Any {
 }
 
 /// Pages anew, some of them for reading alone, one of them not granted.
-fn grant(bench: &mut Bench, any: &mut Any) {
+fn grant(bench: &mut Bench, any: &mut Any, _: usize) {
     for reference in READ.chain(WRITTEN) {
         bench.memory.grant(reference, any.below(5) > 0);
         fill(&bench.memory.page(reference), &any.bytes(PAGE_BYTES));
@@ -63,7 +70,7 @@ fn grant(bench: &mut Bench, any: &mut Any) {
 }
 
 /// Requests and buffers, few of them right.
-fn show(bench: &mut Bench, any: &mut Any) {
+fn show(bench: &mut Bench, any: &mut Any, _: usize) {
     let (sent, posted) = (bench.guest.tx.done, bench.guest.rx.done);
     let (requests, buffers) = (any.below(7), any.below(7));
     let mut index = sent;
@@ -93,16 +100,16 @@ fn words(bench: &Bench, reference: u32) -> Vec<u32> {
     pages.get(&reference).map_or(Vec::new(), |(page, _)| page.iter().map(|word| word.load(SeqCst)).collect())
 }
 
-fn turns(bench: &mut Bench, _: &mut Any) -> Vec<(Turn, Vec<u8>, String)> {
+fn turns(bench: &mut Bench, _: &mut Any, most: usize) -> Vec<(Turn, Vec<u8>, String)> {
     let mut came = Vec::new();
     // a packet that isn't whole is no guess: it comes with the next pages
     while bench.guest.shows_packets() && came.len() < 8 {
         let end = bench.guest.fetch().unwrap();
-        while !bench.guest.is_done(end) && came.len() < 8 {
-            let turn = bench.turn();
-            let packet = if matches!(turn, Turn::Ran(_)) { bench.packet() } else { Vec::new() };
-            came.push((turn, packet, bench.guest.take_refused().to_string()));
-            if matches!(turn, Turn::Halted(_) | Turn::Idle) {
+        while !bench.is_done(end) && came.len() < 8 {
+            let turns = bench.turns(most.min(bench.guest.left_before(end)).min(8 - came.len()));
+            let each = turns.into_iter().enumerate();
+            came.extend(each.map(|(number, turn)| (turn, bench.packet_of(number), bench.refused_of(number))));
+            if matches!(came.last(), None | Some((Turn::Halted(_), ..))) {
                 return came;
             }
         }
@@ -111,7 +118,7 @@ fn turns(bench: &mut Bench, _: &mut Any) -> Vec<(Turn, Vec<u8>, String)> {
     came
 }
 
-fn deliveries(bench: &mut Bench, any: &mut Any) -> Vec<Delivery> {
+fn deliveries(bench: &mut Bench, any: &mut Any, _: usize) -> Vec<Delivery> {
     let mut arena = Arena::new();
     for _ in 0..any.below(5) {
         let (header, frame) = match any.below(2) {
@@ -140,24 +147,30 @@ fn goes_on(arena: &Arena, came: &[Delivery]) -> bool {
     arena.first().is_some() && !matches!(came.last(), Some(Delivery::FewSlots | Delivery::Halted(_)))
 }
 
-/// A round of both. Returns whether the queues have halted.
-fn round(both: &mut Both, any: &mut Any, seen: &mut Seen) -> bool {
-    both.each(any, show);
-    let turns = both.same(any, turns);
-    let deliveries = both.same(any, deliveries);
-    both.same(any, |bench, _| (words(bench, TX), words(bench, RX), bench.guest.rings()));
+fn is_halted(turns: &[(Turn, Vec<u8>, String)], deliveries: &[Delivery]) -> bool {
+    turns.iter().any(|(turn, ..)| matches!(turn, Turn::Halted(_)))
+        || deliveries.iter().any(|delivery| matches!(delivery, Delivery::Halted(_)))
+}
+
+/// A round of all. Returns whether the queues have halted.
+fn round(alike: &mut Alike, any: &mut Any, seen: &mut Seen) -> bool {
+    alike.each(any, show);
+    let turns = alike.same(any, turns);
+    let deliveries = alike.same(any, deliveries);
+    let halts = is_halted(&turns, &deliveries);
+    // behind a halt packets of a turn of several may have responses that aren't shown
+    alike.same(any, |bench, _, _| if halts { Default::default() } else { (words(bench, TX), words(bench, RX)) });
+    alike.same(any, |bench, _, _| bench.guest.rings());
     let is_refused = |turn: &Turn| matches!(turn, Turn::Refused(_));
     let (passed, refused) =
         (turns.iter().filter(|came| !came.1.is_empty()).count(), turns.iter().filter(|came| is_refused(&came.0)).count());
     let unsent = deliveries.iter().filter(|delivery| !matches!(delivery, Delivery::Sent { .. })).count();
     match refused + unsent {
         // what is refused may have been copied to a buffer by then
-        0 => drop(both.same(any, |bench, _| WRITTEN.map(|reference| words(bench, reference)).collect::<Vec<_>>())),
-        _ => drop(both.each(any, grant)),
+        0 => drop(alike.same(any, |bench, _, _| WRITTEN.map(|reference| words(bench, reference)).collect::<Vec<_>>())),
+        _ => drop(alike.each(any, grant)),
     }
     let returned = turns.iter().filter(|(turn, ..)| matches!(turn, Turn::Ran(run) if run.action == Action::Tx)).count();
-    let halts = turns.iter().any(|(turn, ..)| matches!(turn, Turn::Halted(_)))
-        || deliveries.iter().any(|delivery| matches!(delivery, Delivery::Halted(_)));
     seen.passed += passed as u32;
     seen.segmented += turns.iter().filter(|(turn, ..)| matches!(turn, Turn::Ran(run) if run.segments.is_some())).count() as u32;
     seen.returned += returned as u32;
@@ -167,15 +180,15 @@ fn round(both: &mut Both, any: &mut Any, seen: &mut Seen) -> bool {
     halts
 }
 
-/// Both, for some rounds of these numbers.
+/// Some rounds of these numbers.
 pub fn rounds(answer: u8, mut any: Any, seen: &mut Seen) {
-    let mut both = Both::new(answer);
-    both.each(&mut any, grant);
-    let _ = (0..20).find(|_| round(&mut both, &mut any, seen));
+    let mut alike = Alike::new(answer);
+    alike.each(&mut any, grant);
+    let _ = (0..20).find(|_| round(&mut alike, &mut any, seen));
 }
 
 #[test]
-fn copies_and_mappings_give_the_same_frames_and_responses() {
+fn copies_and_mappings_by_one_and_by_several_give_the_same_frames_and_responses() {
     let mut seen = Seen::default();
     for seed in 1..40u32 {
         rounds(2 + (seed % 2) as u8, Any::Seed(seed), &mut seen);
