@@ -35,8 +35,8 @@ extern "C" {
 #endif
 
 /* The version of this header. laxonje_version says which one the library is made for. An archive of another version isn't linked: what is
- * compiled with this header wants the symbol laxonje_header_4. Headers up to version 2 want none, so a queue's step has the version's number in
- * its name. */
+ * compiled with this header wants the symbol laxonje_header_4. Headers up to version 2 want none, so a queue's step has had another name
+ * since. */
 #define LAXONJE_VERSION 4
 extern const char laxonje_header_4;
 #pragma redefine_extname laxonje_queue_step laxonje_queue_step_4

@@ -1,6 +1,6 @@
 /* The same guests twice: one is served by turns of one packet, the other by turns of several. What became of each packet, the packets' bytes, the
- * queues' states, the counter and all words that the guests see have to be the same, and each slot is read once before its response is shown.
- * Guests are random: chains, extras, segments, bad sizes and grants, few rx slots, producers that lie.
+ * queues' states and all words that the guests see have to be the same, and each slot is read once before its response is shown. Guests are random:
+ * chains, extras, segments, bad sizes and grants, few rx slots, producers that lie.
  *
  * usage: several [GUESTS] [SEED]. Prints how many packets were compared, by outcome, and how many of these are to be segmented. */
 #include <laxonje.h>
@@ -11,38 +11,15 @@
 enum { FRAMES = 40, PAGE = 4096, TABLE = 1, TX = 2, RX = 3, FIRST_PAGE = 4, PAGES = 18, RX_PAGE = 22, RX_PAGES = 18, HEADER = 16, RING = 256 };
 enum { BACK = 0, FRONT = 1, PERMIT = 1, TX_WORDS = 3, RX_WORDS = 2, RESPONSES = 2, BATCHES = 20, EXTRA_GSO = 1, LEAST_SEGMENT = 536 };
 
-/* Counts the packet, and writes its first byte. r0 is the sum of its byte 13 and of how many were counted before, cut to two bits: so it shows in
- * which order the programs of several packets run. */
-static const uint8_t code[] = {
-	0x61, 0x12, 0,    0,    0,    0, 0, 0, /* r2 = the packet's first byte */
-	0x61, 0x13, 4,    0,    0,    0, 0, 0, /* r3 = its end */
-	0xb7, 6,    0,    0,    1,    0, 0, 0, /* r6 = 1 */
-	0xbf, 0x24, 0,    0,    0,    0, 0, 0, /* if r2 + 14 > r3: to the key */
-	0x07, 4,    0,    0,    14,   0, 0, 0,
-	0x2d, 0x34, 2,    0,    0,    0, 0, 0,
-	0x72, 2,    0,    0,    0xaa, 0, 0, 0, /* the first byte is 0xaa */
-	0x71, 0x26, 13,   0,    0,    0, 0, 0, /* r6 = byte 13 */
-	0xbf, 0xa2, 0,    0,    0,    0, 0, 0, /* the key: 0, on the stack */
-	0x07, 2,    0,    0,    0xfc, 0xff, 0xff, 0xff,
-	0x62, 10,   0xfc, 0xff, 0,    0, 0, 0,
-	0x18, 0x11, 0,    0,    0,    0, 0, 0, /* r0 = the counter */
-	0,    0,    0,    0,    0,    0, 0, 0,
-	0x85, 0,    0,    0,    1,    0, 0, 0,
-	0x15, 0,    4,    0,    0,    0, 0, 0,
-	0x79, 1,    0,    0,    0,    0, 0, 0, /* r6 += its value */
-	0xb7, 2,    0,    0,    1,    0, 0, 0,
-	0xdb, 0x20, 0,    0,    0,    0, 0, 0, /* it is one more */
-	0x0f, 0x16, 0,    0,    0,    0, 0, 0,
-	0xbf, 0x60, 0,    0,    0,    0, 0, 0,
-	0x57, 0,    0,    0,    3,    0, 0, 0,
-	0x95, 0,    0,    0,    0,    0, 0, 0,
-};
+/* r0 is the packet's byte 13, cut to two bits; its first byte is written. */
+static const uint8_t code[] = { 0x61, 0x12, 0, 0, 0, 0, 0, 0, 0x61, 0x13, 4, 0,    0, 0, 0, 0, 0xbf, 0x24, 0, 0,    0, 0, 0, 0, 0x07, 4,
+	                        0,    0,    14, 0, 0, 0, 0xb7, 0, 0, 0,    1,    0, 0, 0, 0x2d, 0x34, 3, 0, 0,    0,    0, 0, 0x72, 2, 0,    0,
+	                        0xaa, 0,    0, 0, 0x71, 0x20, 13, 0, 0,    0,    0, 0, 0x57, 0,    0,  0, 3, 0, 0, 0, 0x95, 0,    0, 0, 0, 0, 0, 0 };
 
 /* A guest's pages and queue, and which of its slots were read before their responses were shown. */
 struct guest {
 	uint32_t pages[FRAMES * LAXONJE_PAGE_WORDS];
 	struct laxonje_queue *queue;
-	uint64_t counter;
 	uint8_t reads[RING];
 	uint32_t shown;
 };
@@ -126,7 +103,7 @@ static uint32_t serve_alone(void)
 		const struct laxonje_op *over;
 		size_t count = laxonje_queue_turn(alone.queue, *word_of(&alone, TX, 0), ops, LAXONJE_OPS);
 		while (!(over = make_ops(&alone, ops, count)))
-			count = laxonje_queue_step(alone.queue, words, LAXONJE_PAGE_WORDS, &alone.counter, 1, ops, LAXONJE_OPS);
+			count = laxonje_queue_step(alone.queue, words, LAXONJE_PAGE_WORDS, NULL, 0, ops, LAXONJE_OPS);
 		if (over->outcome == LAXONJE_TURN_IDLE)
 			return n;
 		turned[n] = turned_of(alone.queue, over, packets[n]);
@@ -155,7 +132,7 @@ static bool take_turns(uint32_t most, size_t room, uint32_t *n)
 	const struct laxonje_op *over;
 	size_t count = laxonje_queue_turns(joined.queue, *word_of(&joined, TX, 0), most, ops, room);
 	while (!(over = make_ops(&joined, ops, count)))
-		count = laxonje_queue_turns_step(joined.queue, words, LAXONJE_TURNS_WORDS, &joined.counter, 1, ops, room, found, LAXONJE_TURNS);
+		count = laxonje_queue_turns_step(joined.queue, words, LAXONJE_TURNS_WORDS, NULL, 0, ops, room, found, LAXONJE_TURNS);
 	if (over->outcome == LAXONJE_TURN_IDLE)
 		return false;
 	if (over->outcome != LAXONJE_TURN_SEVERAL) {
@@ -262,8 +239,6 @@ static bool serve_batch(void)
 	struct laxonje_queue_standing stands = laxonje_queue_state(alone.queue), others = laxonje_queue_state(joined.queue);
 	if (memcmp(&stands, &others, sizeof stands))
 		fail("another state", n);
-	if (alone.counter != joined.counter)
-		fail("another count", n);
 	/* behind a packet that halts the queue responses are never shown, and may be others */
 	for (uint32_t index = stands.tx_index; stands.kind == LAXONJE_STANDS_HALTED && index != sent; index++)
 		put(TX, HEADER + TX_WORDS * (index % RING), 0);
@@ -275,12 +250,11 @@ static bool serve_batch(void)
 
 int main(int count, char **arguments)
 {
-	static const struct laxonje_map map = { 1, 1 };
 	struct laxonje_program *program = laxonje_program_new();
 	unsigned long guests = count > 1 ? strtoul(arguments[1], NULL, 10) : 100;
 	state = count > 2 ? strtoul(arguments[2], NULL, 10) : 1;
 	alone.queue = laxonje_queue_new(), joined.queue = laxonje_queue_new();
-	if (laxonje_load(code, sizeof code, &map, 1, program).kind != LAXONJE_ACCEPTED)
+	if (laxonje_load(code, sizeof code, NULL, 0, program).kind != LAXONJE_ACCEPTED)
 		fail("no program", 0);
 	for (; guests; guests--) {
 		connect(program);

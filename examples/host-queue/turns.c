@@ -1,8 +1,8 @@
 /* What a queue asks for in turns of several packets, op by op: a text for each step. What a step is lent too little of, and what else may not begin
  * meanwhile. It is C and C++.
  *
- * An op of a text: r, words that are read, or e, a grant entry, or w, words that are written, each with its frame, its first word, how many words,
- * and where they lie; s and p, what is stored in a word or two, and of a push which word is read then; n, a notice; d, the outcome and how many
+ * An op of a text: R, words that are read, or E, a grant entry, or W, words that are written, each with its frame, its first word, how many words,
+ * and where they lie; S and P, what is stored in a word or two, and of a push which word is read then; N, a notice; D, the outcome and how many
  * packets. */
 #include <laxonje_drive.h>
 #include <stdio.h>
@@ -59,10 +59,10 @@ static void posts(uint32_t reference)
 static void makes_op(const struct laxonje_op *op, char *text)
 {
 	uint32_t *lent = room.words_ + op->lent;
-	const char *what = op->entry ? "e" : op->kind == LAXONJE_OP_READ ? "r" : "w";
+	const char *what = op->entry ? "E" : op->kind == LAXONJE_OP_READ ? "R" : "W";
 	if (op->kind == LAXONJE_OP_NOTIFY || op->kind == LAXONJE_OP_DONE) {
 		int notifies = op->kind == LAXONJE_OP_NOTIFY;
-		sprintf(text, notifies ? "n%u" : "d%u:%u", notifies ? op->value[0] : op->outcome, op->slots);
+		sprintf(text, notifies ? "N%u" : "D%u:%u", notifies ? op->value[0] : op->outcome, op->slots);
 		return;
 	}
 	uint32_t *at = &memory[op->frame][op->word];
@@ -72,7 +72,7 @@ static void makes_op(const struct laxonje_op *op, char *text)
 		return;
 	}
 	memcpy(at, op->value, 4 * op->count);
-	const char *form = op->kind == LAXONJE_OP_PUSH ? "p%u.%u=%x,%u:%u" : op->count == 2 ? "s%u.%u=%x,%x" : "s%u.%u=%x";
+	const char *form = op->kind == LAXONJE_OP_PUSH ? "P%u.%u=%x,%u:%u" : op->count == 2 ? "S%u.%u=%x,%x" : "S%u.%u=%x";
 	sprintf(text, form, op->frame, op->word, op->value[0], op->value[1], op->lent);
 	if (op->kind == LAXONJE_OP_PUSH)
 		*lent = memory[op->frame][op->value[1]];
@@ -128,15 +128,15 @@ static void passed(void)
 {
 	makes(LAXONJE_PASS, 0);
 	sends(0, LAXONJE_FLAG_CSUM_BLANK, HEADER), sends(1, 0, 60), sends(0, LAXONJE_FLAG_MORE_DATA, 20), sends(0, 0, 6);
-	GOES(LAXONJE_TURNS, "r0.16+12:0", "e2.0+2:48 e2.2+2:1072 e2.0+2:2096", "r3.0+4:48 s0.19=ffff0001 r3.0+4:2096", "s0.16=0 e2.0+2:2096", "r3.0+2:2096",
-	     "s0.22=2 s0.25=3 p0.2=4,3:0", "n7 d13:3");
+	GOES(LAXONJE_TURNS, "R0.16+12:0", "E2.0+2:48 E2.2+2:1072 E2.0+2:2096", "R3.0+4:48 S0.19=ffff0001 R3.0+4:2096", "S0.16=0 E2.0+2:2096", "R3.0+2:2096",
+	     "S0.22=2 S0.25=3 P0.2=4,3:0", "N7 D13:3");
 	became(0, LAXONJE_TURN_RAN, LAXONJE_PASS, 1, HEADER, LAXONJE_FLAG_CSUM_BLANK);
 	became(1, LAXONJE_TURN_REFUSED, LAXONJE_REFUSAL_GRANT, 1, 0, 0);
 	became(2, LAXONJE_TURN_RAN, LAXONJE_PASS, 2, 20, LAXONJE_FLAG_MORE_DATA);
 	is("the tx index", laxonje_queue_state(queue).tx_index, 4);
 	is("a packet behind the last", laxonje_queue_turns_packet(queue, 3, NULL, 0), 0);
 	is("a packet of no number", laxonje_queue_turns_packet(queue, SIZE_MAX, NULL, 0), 0);
-	GOES(LAXONJE_TURNS, "p0.1=5,0:0", "d0:0");
+	GOES(LAXONJE_TURNS, "P0.1=5,0:0", "D0:0");
 }
 
 /* At the ring's end, of as many as may be: the third is for the next turn. */
@@ -144,8 +144,8 @@ static void wrapped(void)
 {
 	makes(LAXONJE_DROP, UINT32_MAX);
 	sends(0, 0, HEADER), sends(0, 0, HEADER), sends(0, 0, HEADER);
-	GOES(2, "r0.781+3:0 r0.16+3:3", "e2.0+2:48 e2.0+2:1072", "r3.0+4:48 r3.0+4:1072", "s0.781=fffe00ff s0.16=fffe0000 p0.2=1,3:0", "n7 d13:2");
-	GOES(2, "r0.19+3:0", "e2.0+2:0", "r3.0+4:0", "s0.19=fffe0001 p0.2=2,3:0", "d1:1");
+	GOES(2, "R0.781+3:0 R0.16+3:3", "E2.0+2:48 E2.0+2:1072", "R3.0+4:48 R3.0+4:1072", "S0.781=fffe00ff S0.16=fffe0000 P0.2=1,3:0", "N7 D13:2");
+	GOES(2, "R0.19+3:0", "E2.0+2:0", "R3.0+4:0", "S0.19=fffe0001 P0.2=2,3:0", "D1:1");
 }
 
 /* The first two go back, one after the other, and find buffers; the third finds none. Their responses are shown at once. */
@@ -154,9 +154,9 @@ static void sent_back(void)
 	makes(LAXONJE_TX, 0);
 	sends(0, 0, HEADER), sends(0, 0, HEADER), sends(0, 0, HEADER);
 	posts(0), posts(0);
-	GOES(LAXONJE_TURNS, "r0.16+9:0", "e2.0+2:48 e2.0+2:1072 e2.0+2:2096", "r3.0+4:48 r3.0+4:1072 r3.0+4:2096", "r1.0+1:48", "r1.16+2:48", "e2.0+2:48",
-	     "w3.0+4:48 s1.16=0,e0000 p1.2=1,3:48", "n7 s0.16=0 r1.0+1:1072", "r1.18+2:1072", "e2.0+2:1072", "w3.0+4:1072 s1.18=1,e0000 p1.2=2,3:1072",
-	     "s0.19=1 r1.0+1:2096", "s0.22=ffff0002 p0.2=3,3:0", "n7 d13:3");
+	GOES(LAXONJE_TURNS, "R0.16+9:0", "E2.0+2:48 E2.0+2:1072 E2.0+2:2096", "R3.0+4:48 R3.0+4:1072 R3.0+4:2096", "R1.0+1:48", "R1.16+2:48", "E2.0+2:48",
+	     "W3.0+4:48 S1.16=0,e0000 P1.2=1,3:48", "N7 S0.16=0 R1.0+1:1072", "R1.18+2:1072", "E2.0+2:1072", "W3.0+4:1072 S1.18=1,e0000 P1.2=2,3:1072",
+	     "S0.19=1 R1.0+1:2096", "S0.22=ffff0002 P0.2=3,3:0", "N7 D13:3");
 	became(1, LAXONJE_TURN_RAN, LAXONJE_TX, 1, HEADER, 0);
 	became(2, LAXONJE_TURN_REFUSED, LAXONJE_REFUSAL_FEW_SLOTS, 1, 0, 0);
 }
@@ -166,11 +166,11 @@ static void halted(void)
 {
 	makes(LAXONJE_PASS, 0);
 	sends(0, 0, HEADER), sends(0, LAXONJE_FLAG_MORE_DATA, 60);
-	GOES(LAXONJE_TURNS, "r0.16+6:0", "e2.0+2:48", "r3.0+4:48", "s0.16=0 p0.2=1,3:0", "n7 d13:2");
+	GOES(LAXONJE_TURNS, "R0.16+6:0", "E2.0+2:48", "R3.0+4:48", "S0.16=0 P0.2=1,3:0", "N7 D13:2");
 	became(0, LAXONJE_TURN_RAN, LAXONJE_PASS, 1, HEADER, 0);
 	became(1, LAXONJE_TURN_HALTED, LAXONJE_HALT_SHORT_CHAIN, 0, 0, 0);
 	is("a halt", laxonje_queue_state(queue).kind, LAXONJE_STANDS_HALTED);
-	GOES(LAXONJE_TURNS, "d3:0");
+	GOES(LAXONJE_TURNS, "D3:0");
 }
 
 /* Turns of one: of fewer packets, with room for one op, and of a guest that shows too many. */
@@ -178,12 +178,12 @@ static void one_by_one(void)
 {
 	makes(LAXONJE_PASS, 0);
 	sends(0, 0, HEADER), sends(0, 0, HEADER), sends(0, 0, HEADER);
-	GOES(0, "r0.16+3:0", "e2.0+2:0", "r3.0+4:0", "s0.16=0 p0.2=1,3:0", "n7 d1:1");
-	GOES_BY(LAXONJE_TURNS, 1, "r0.19+3:0", "e2.0+2:0", "r3.0+4:0", "s0.19=1", "p0.2=2,3:0", "d1:1");
-	GOES(LAXONJE_TURNS, "r0.22+3:0", "e2.0+2:0", "r3.0+4:0", "s0.22=2 p0.2=3,3:0", "d1:1");
+	GOES(0, "R0.16+3:0", "E2.0+2:0", "R3.0+4:0", "S0.16=0 P0.2=1,3:0", "N7 D1:1");
+	GOES_BY(LAXONJE_TURNS, 1, "R0.19+3:0", "E2.0+2:0", "R3.0+4:0", "S0.19=1", "P0.2=2,3:0", "D1:1");
+	GOES(LAXONJE_TURNS, "R0.22+3:0", "E2.0+2:0", "R3.0+4:0", "S0.22=2 P0.2=3,3:0", "D1:1");
 	is("the tx index", laxonje_queue_state(queue).tx_index, 3);
 	memory[TX][0] += RING + 1;
-	GOES(LAXONJE_TURNS, "d3:0");
+	GOES(LAXONJE_TURNS, "D3:0");
 }
 
 /* With too little a step says nothing, and nothing changes. */
@@ -219,7 +219,7 @@ static void begins_nothing(void)
 /* A turn of several with as little as it may be lent. */
 static void inside(void)
 {
-	static const char *const texts[] = { "r0.16+6:0", "e2.0+2:48 e2.0+2:1072", "r3.0+4:48 r3.0+4:1072", "s0.16=0 s0.19=1 p0.2=2,3:0", "n7 d13:2" };
+	static const char *const texts[] = { "R0.16+6:0", "E2.0+2:48 E2.0+2:1072", "R3.0+4:48 R3.0+4:1072", "S0.16=0 S0.19=1 P0.2=2,3:0", "N7 D13:2" };
 	const char *const *text = texts;
 	struct laxonje_op ops[LAXONJE_TURNS_OPS];
 	makes(LAXONJE_PASS, 0);

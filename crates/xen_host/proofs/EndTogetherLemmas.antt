@@ -48,7 +48,8 @@ ended_together old new words ops ops_after results results_after count due g pus
     ap (λ (b : Bool). map op_of (notice_of (wiring old) b) ++ several_op old.several.count ∷ []) (sym due_then) in
     let over : AreOver new g' (pushed (wiring new) g.state.tx_index new.several.after.tx_index event) results results_after = record {
       turns = λ made alike.
-          let alike_then = subst (λ (m : List Made). AreAlike (wiring old) (length g.asked) m made) (append-nil g.made) (subst (λ (x : Wiring). AreAlike x (length g.asked) (g.made ++ []) made) w_is alike) in
+          let alike_then = subst (λ (m : List Made). AreAlike (wiring old) old.several.count g.asked m made) (append-nil g.made)
+          (subst (λ (x : Wiring). AreAlike x old.several.count g.asked (g.made ++ []) made) w_is (subst (λ (v : Several). AreAlike (wiring new) v.count g.asked (g.made ++ []) made) several alike)) in
           subst (λ (v : Several). IsSeveral (wiring new) g.state g.most (look_of (wiring new) g ++ (events_of made ++ pushed (wiring new) g.state.tx_index v.after.tx_index event)) v.after (map turned_in (take v.count v.lanes))) (sym several)
           (subst (λ (x : Wiring). IsSeveral x g.state g.most (look_of x g ++ (events_of made ++ pushed x g.state.tx_index old.several.after.tx_index event)) old.several.after (map turned_in (take old.several.count old.several.lanes))) (sym w_is)
           (u.over made alike_then event small));

@@ -1,5 +1,5 @@
 -- Several turns side by side are over: all are answered, or the first that isn't has halted.
-use Rattle.std.proofs.Common.{◌≡◌, ℕ, suc, ◌<◌, ◌≤◌, ◌+◌, ◌-◌, ◌^◌, ◌&&◌, true, false, List, [], ◌∷◌, ◌++◌, Some, None, Option, length, take, map, refl, sym, ap, ◌∙◌, subst, length-append, arith}
+use Rattle.std.proofs.Common.{◌≡◌, ℕ, suc, ◌<◌, ◌≤◌, ◌+◌, ◌-◌, ◌^◌, ◌&&◌, true, false, List, [], ◌∷◌, ◌++◌, Some, None, Option, length, take, map, refl, sym, ap, ◌∙◌, subst, length-append, arith, zero, ◌⊎◌, inl, inr, append-nil}
 use Rattle.std.specs.Prelude.{Bool, slice_get}
 use Rattle.std.proofs.lemmas.List.{length-map, length-take-le}
 use Rattle.std.proofs.lemmas.Bool.Decides.{nat_tests}
@@ -11,15 +11,16 @@ use Rattle.xen_turns.specs.Parts.{IsLook, once}
 use Rattle.xen_turns.specs.Several.{IsSeveral, pushed}
 use Rattle.xen_turns.specs.Turned.{Ending, Turned, Halted, turned}
 use Rattle.xen_turns.specs.Turns.{IsTurn, broken, halted_rx, idle, overflown, ran, ran_tx, refused_few, refused_grant, refused_rx, refused_sizes, short, still_halted}
-use Rattle.xen_turns.specs.Woven.{Made, events_of, of_turn}
+use Rattle.xen_turns.specs.Woven.{AllBelow, IsRising, Made, events_of, of_turn, turns_in_order}
 use Rattle.xen_turns.specs.declared.state.State.{State}
 use Rattle.xen_turns.specs.declared.turn.Halt.{Halt}
 use Rattle.xen_turns.specs.declared.wiring.Wiring.{Wiring}
+use Rattle.xen_host.specs.Asks.{Ask}
 use Rattle.xen_host.specs.EngineAt.{EngineAt}
 use Rattle.xen_host.specs.LaneSteps.{lane_at}
 use Rattle.xen_host.specs.Lanes.{AreFrom, AreLanes, EndsPast, IsPlaced, IsRx, LaneAt, all_held, is_calm, is_filling, is_held, rx_behind}
 use Rattle.xen_host.specs.Queues.{wired_to, wiring}
-use Rattle.xen_host.specs.Severals.{AreAlike, AreTogether, AreUnderWay, Group, IsGroup, IsGroupAt, ahead_of, look_of, shown_to, turned_in}
+use Rattle.xen_host.specs.Severals.{AreAlike, AreTogether, AreUnderWay, Group, IsGroup, IsGroupAt, MayBeRead, ahead_of, look_of, shown_to, turned_in}
 use Rattle.xen_host.specs.Wired.{wiring_of}
 use Rattle.xen_host.specs.declared.engine.Engine.{Engine}
 use Rattle.xen_host.specs.declared.lane.Lane.{Lane}
@@ -49,16 +50,41 @@ rx_alike w k x (l ∷ more) made other rx same h =
     subst (λ (t : List Event). (is_held l.engine ≡ true → IsRx w (k + 1) (rx_behind w x t l) more other rx) × (is_held l.engine ≡ false → (is_calm w t ≡ true → rx ≡ x) × (is_calm w t ≡ false → is_filling l.engine.stage ≡ false → rx ≡ l.engine.state.rx_index))) (sym (same k))
     (λ e. rx_alike w (k + 1) (rx_behind w x (of_turn k made) l) more made other rx same (h.0 e), h.1)
 
-pub lanes_alike : (w : Wiring) (s : State) (p : ℕ) (look : List Event) (ends : Steps Ending → Type 0) (lanes : List LaneAt) (rx : ℕ) (made other : List Made) → AreAlike w (length lanes) made other →
+pub lanes_alike : (w : Wiring) (s : State) (p : ℕ) (look : List Event) (ends : Steps Ending → Type 0) (lanes : List LaneAt) (rx : ℕ) (made other : List Made) → ((k : ℕ) → of_turn k other ≡ of_turn k made) → AllBelow (length lanes) other → IsRising 0 (turns_in_order w other) →
     AreLanes w s p look ends lanes rx made → AreLanes w s p look ends lanes rx other
-lanes_alike w s p look ends lanes rx made other a h =
+lanes_alike w s p look ends lanes rx made other same below order h =
     record {
       first = h.first;
-      from = from_alike w p ends 0 s.rx_index true look lanes made other a.each h.from;
-      none_else = a.none_else;
-      order = a.order;
-      sent = rx_alike w 0 s.rx_index lanes made other rx a.each h.sent;
+      from = from_alike w p ends 0 s.rx_index true look lanes made other same h.from;
+      none_else = below;
+      order = order;
+      sent = rx_alike w 0 s.rx_index lanes made other rx same h.sent;
     }
+
+-- where all are over nothing else is read
+below_or : (k n : ℕ) → (k < n) ⊎ (n ≤ k)
+below_or k zero = inr (omega arith)
+below_or zero (suc n) = inl (omega arith)
+below_or (suc k) (suc n) = by (below_or k n)
+  where
+    by : (k < n) ⊎ (n ≤ k) → (suc k < suc n) ⊎ (suc n ≤ suc k)
+    by (inl h) = inl (omega (arith, h))
+    by (inr h) = inr (omega (arith, h))
+
+none_asked : (l : List Ask) (k : ℕ) → length l ≤ k → slice_get l k ≡ None
+none_asked [] k h = refl
+none_asked (a ∷ l) zero h = absurd (omega (arith, h))
+none_asked (a ∷ l) (suc k) h = none_asked l k (omega (arith, h))
+
+pub same_all : (w : Wiring) (asked : List Ask) (made other : List Made) → AreAlike w (length asked) asked made other → (k : ℕ) → of_turn k other ≡ of_turn k made
+same_all w asked made other a k = by (below_or k (length asked))
+  where
+    by : (k < length asked) ⊎ (length asked ≤ k) → of_turn k other ≡ of_turn k made
+    by (inl h) = a.each k h
+    by (inr h) =
+        let b = a.behind k h in
+        let none : b.0 ≡ [] = subst (λ (o : Option Ask). MayBeRead w o b.0) (none_asked asked k h) b.1 in
+        b.2 ∙ ap (λ (r : List Event). of_turn k made ++ r) none ∙ append-nil (of_turn k made)
 
 -- ---- what they are
 
@@ -94,11 +120,14 @@ module _ (q : Queue) (g : Group) (gr : IsGroup q g) (t : AreUnderWay q g) (withi
   pub asked_lanes : length g.asked ≡ length t.lanes
   asked_lanes = ap (λ l. length l) (sym t.asks) ∙ length-map t.lanes (λ (l : LaneAt). l.asked)
 
-  pub are_alike : (made : List Made) → AreAlike (wiring q) (length g.asked) g.made made → AreLanes (wiring q) g.state g.producer (look_of (wiring q) g) (EndsPast g.state.tx_index (ahead_of g)) t.lanes q.several.rx_index made
-  are_alike made a = lanes_alike (wiring q) g.state g.producer (look_of (wiring q) g) (EndsPast g.state.tx_index (ahead_of g)) t.lanes q.several.rx_index g.made made (subst (λ (n : ℕ). AreAlike (wiring q) n g.made made) asked_lanes a) t.are
+  pub are_alike : (made : List Made) → AreAlike (wiring q) q.several.count g.asked g.made made → AreLanes (wiring q) g.state g.producer (look_of (wiring q) g) (EndsPast g.state.tx_index (ahead_of g)) t.lanes q.several.rx_index made
+  are_alike made a =
+      lanes_alike (wiring q) g.state g.producer (look_of (wiring q) g) (EndsPast g.state.tx_index (ahead_of g)) t.lanes q.several.rx_index g.made made
+      (same_all (wiring q) g.asked g.made made (subst (λ (n : ℕ). AreAlike (wiring q) n g.asked g.made made) (sym (asked_lanes ∙ many_lanes)) a))
+      (subst (λ (n : ℕ). AllBelow n made) asked_lanes a.none_else) a.order t.are
 
   -- All are answered.
-  pub all_over : (k : ℕ) (last : Lane) → q.several.count ≡ k + 1 → q.several.held ≡ q.several.count → slice_get q.several.lanes k ≡ Some last → (made : List Made) → AreAlike (wiring q) (length g.asked) g.made made → (event : ℕ) → event < 2 ^ 32 →
+  pub all_over : (k : ℕ) (last : Lane) → q.several.count ≡ k + 1 → q.several.held ≡ q.several.count → slice_get q.several.lanes k ≡ Some last → (made : List Made) → AreAlike (wiring q) q.several.count g.asked g.made made → (event : ℕ) → event < 2 ^ 32 →
       IsSeveral (wiring q) g.state g.most (look_of (wiring q) g ++ (events_of made ++ pushed (wiring q) g.state.tx_index (add32 last.engine.state.tx_index (length last.engine.work.chain)) event))
       (record { tx_index = add32 last.engine.state.tx_index (length last.engine.work.chain); rx_index = q.several.rx_index; halt = None }) (map turned_in (take q.several.count q.several.lanes))
   all_over k last some held there made alike event small =
@@ -146,7 +175,7 @@ pushed_together old new g gr t within k last some held there engine wires severa
             subst (λ (v : Several). IsSeveral (wiring new) g.state g.most (look_of (wiring new) g ++ (events_of made ++ pushed (wiring new) g.state.tx_index v.after.tx_index event)) v.after (map turned_in (take v.count v.lanes))) (sym several)
             (subst (λ (x : Wiring). IsSeveral x g.state g.most (look_of x g ++ (events_of made ++ pushed x g.state.tx_index (add32 last.engine.state.tx_index (length last.engine.work.chain)) event))
             (record { tx_index = add32 last.engine.state.tx_index (length last.engine.work.chain); rx_index = old.several.rx_index; halt = None }) (map turned_in (take old.several.count old.several.lanes))) (sym w_is)
-            (all_over old g gr t within k last some held there made (subst (λ (x : Wiring). AreAlike x (length g.asked) g.made made) w_is alike) event small));
+            (all_over old g gr t within k last some held there made (subst (λ (v : Several). AreAlike (wiring old) v.count g.asked g.made made) several (subst (λ (x : Wiring). AreAlike x new.several.count g.asked g.made made) w_is alike)) event small));
       });
     }
 

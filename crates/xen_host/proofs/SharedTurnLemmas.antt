@@ -53,7 +53,7 @@ at_in q r a g phase.Lanes t = record {
   held = moved (λ w v. all_held (take v.held t.lanes) ≡ true) q r a t.held;
 }
 at_in q r a g phase.Push t = record {
-  over = moved (λ w v. (made : List Made) → AreAlike (wiring_of w) (length g.asked) g.made made → (event : ℕ) → event < 2 ^ 32 →
+  over = moved (λ w v. (made : List Made) → AreAlike (wiring_of w) v.count g.asked g.made made → (event : ℕ) → event < 2 ^ 32 →
       IsSeveral (wiring_of w) g.state g.most (look_of (wiring_of w) g ++ (events_of made ++ pushed (wiring_of w) g.state.tx_index v.after.tx_index event)) v.after (map turned_in (take v.count v.lanes))) q r a t.over;
 }
 
@@ -76,7 +76,7 @@ together_in q r a g t = record {
 
 over_in : (q r : Queue) → Alike q r → (g : Group) (tail : List Event) (results results_after : List TurnResult) → AreOver q g tail results results_after → AreOver r g tail results results_after
 over_in q r a g tail results results_after o = record {
-  turns = moved (λ w v. (made : List Made) → AreAlike (wiring_of w) (length g.asked) g.made made →
+  turns = moved (λ w v. (made : List Made) → AreAlike (wiring_of w) v.count g.asked g.made made →
       IsSeveral (wiring_of w) g.state g.most (look_of (wiring_of w) g ++ (events_of made ++ tail)) v.after (map turned_in (take v.count v.lanes))) q r a o.turns;
   rests = ap (λ (e : Engine). between e.state e.stage) a.engine ∙ o.rests ∙ ap (λ (v : Several). Some v.after) (sym a.several);
   results_are = moved (λ w v. results_after ≡ map result_in (take v.count v.lanes) ++ drop v.count results) q r a o.results_are;

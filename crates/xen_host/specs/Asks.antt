@@ -103,6 +103,13 @@ read_by (Entry at reference rights) lent = reads_at at (take 2 lent)
 read_by (Push at word read) lent = reads_at (page_word at.frame read) (take 1 lent)
 read_by a lent = []
 
+-- How many words that are.
+abbrev pub reads_of : Ask → ℕ
+reads_of (Read at count) = count
+reads_of (Entry at reference rights) = 2
+reads_of (Push at word read) = 1
+reads_of a = 0
+
 -- It takes no answer: what comes after it may be said in the same step.
 abbrev pub takes_none : Ask → Bool
 takes_none (Write at count) = true

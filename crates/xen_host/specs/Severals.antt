@@ -8,6 +8,7 @@ use Rattle.xdp_program.specs.Ran.{IsHistory}
 use Rattle.xdp_program.specs.Tallies.{HasGrown}
 use Rattle.xen_ring.specs.Index.{distance, is_due}
 use Rattle.xen_steps.specs.Event.{Event, Read}
+use Rattle.xen_steps.specs.Pages.{AreWords}
 use Rattle.xen_steps.specs.Places.{add32}
 use Rattle.xen_rx_fill.specs.Places.{tx_word}
 use Rattle.xen_turns.specs.Program.{event_of}
@@ -18,10 +19,10 @@ use Rattle.xen_turns.specs.declared.state.State.{State}
 use Rattle.xen_turns.specs.declared.turn.Kind.{Kind}
 use Rattle.xen_turns.specs.declared.turn.Kind.TheVariants as kind
 use Rattle.xen_turns.specs.declared.wiring.Wiring.{Wiring}
-use Rattle.xen_host.specs.Asks.{AllInPages, AllSized, Ask, Notify, Push, TakeNone, op_of, read_by}
+use Rattle.xen_host.specs.Asks.{AllInPages, AllSized, Ask, Notify, Push, TakeNone, op_of, read_by, reads_of}
 use Rattle.xen_host.specs.EngineAt.{EngineAt, engine_at}
 use Rattle.xen_host.specs.Joined.{lane_op_at, said_by, slot_reads}
-use Rattle.xen_host.specs.Lanes.{AreLanes, EndsPast, LaneAt, ahead_ops, all_held, did_in, own}
+use Rattle.xen_host.specs.Lanes.{AreLanes, EndsPast, LaneAt, ahead_ops, all_held, did_in, is_withheld, own}
 use Rattle.xen_host.specs.Results.{result_of, several_op}
 use Rattle.xen_host.specs.Queues.{IsNothing, IsNothingAtSeat, resting, wired_to, wiring}
 use Rattle.xen_host.specs.Told.{IsToldAt}
@@ -128,16 +129,24 @@ pub record AreUnderWay (q : Queue) (g : Group) : Type 0 where
   pub few : q.several.count ≤ g.most
   pub held : all_held (take q.several.held lanes) ≡ true
 
--- What n turns made, in another order: each turn's is in its own, and what comes in the order of the turns is in that. So a host may make the accesses
--- of several turns, each in the turn's order, as it likes, and read before it is asked for what it read.
-pub record AreAlike (w : Wiring) (n : ℕ) (made other : List Made) : Type 0 where
-  pub each : (k : ℕ) → of_turn k other ≡ of_turn k made
-  pub none_else : AllBelow n other
+-- What a turn may have been read beside what it took: nothing, or what it was asked last, if that was said.
+abbrev pub MayBeRead : Wiring → Option Ask → List Event → Type 0
+MayBeRead w None reads = reads ≡ []
+MayBeRead w (Some a) reads =
+    (reads ≡ []) ⊎ ((is_withheld w a ≡ false) × (words : List ℕ) × AreWords words × (length words ≡ reads_of a) × (reads ≡ read_by a words))
+
+-- What turns made, in another order: each turn's is in its own, and what comes in the order of the turns is in that. So a host may make the accesses
+-- of several turns, each in the turn's order, as it likes, and read before it is asked for what it read. The first `over` are over; for one behind
+-- them it may have read what nobody took.
+pub record AreAlike (w : Wiring) (over : ℕ) (asked : List Ask) (made other : List Made) : Type 0 where
+  pub each : (k : ℕ) → k < over → of_turn k other ≡ of_turn k made
+  pub behind : (k : ℕ) → over ≤ k → (reads : List Event) × MayBeRead w (slice_get asked k) reads × (of_turn k other ≡ of_turn k made ++ reads)
+  pub none_else : AllBelow (length asked) other
   pub order : IsRising 0 (turns_in_order w other)
 
 -- All are answered, and the responses are pushed: with whatever event index is read then, they are so many turns of the table.
 pub record ArePushed (q : Queue) (g : Group) : Type 0 where
-  pub over : (made : List Made) → AreAlike (wiring q) (length g.asked) g.made made → (event : ℕ) → event < 2 ^ 32 →
+  pub over : (made : List Made) → AreAlike (wiring q) q.several.count g.asked g.made made → (event : ℕ) → event < 2 ^ 32 →
       IsSeveral (wiring q) g.state g.most (look_of (wiring q) g ++ (events_of made ++ pushed (wiring q) g.state.tx_index q.several.after.tx_index event))
       q.several.after (map turned_in (take q.several.count q.several.lanes))
 
@@ -229,7 +238,7 @@ gone_by p w g lent_after dids =
 
 -- They are over, with what was made behind all of them: so many turns of the table, and their results.
 pub record AreOver (q : Queue) (g : Group) (tail : List Event) (results results_after : List TurnResult) : Type 0 where
-  pub turns : (made : List Made) → AreAlike (wiring q) (length g.asked) g.made made →
+  pub turns : (made : List Made) → AreAlike (wiring q) q.several.count g.asked g.made made →
       IsSeveral (wiring q) g.state g.most (look_of (wiring q) g ++ (events_of made ++ tail)) q.several.after
       (map turned_in (take q.several.count q.several.lanes))
   pub rests : resting q ≡ Some q.several.after

@@ -345,32 +345,26 @@ pub struct laxonje_op {
 
 /// The other names that the header has for some words.
 impl laxonje_op {
-    #[inline]
     pub const fn reference(&self) -> u32 {
         self.value[0]
     }
 
-    #[inline]
     pub const fn outcome(&self) -> u32 {
         self.frame
     }
 
-    #[inline]
     pub const fn number(&self) -> u32 {
         self.word
     }
 
-    #[inline]
     pub const fn cause(&self) -> u32 {
         self.count
     }
 
-    #[inline]
     pub const fn ops(&self) -> u32 {
         self.lent
     }
 
-    #[inline]
     pub const fn slots(&self) -> u32 {
         self.value[0]
     }

@@ -1,8 +1,8 @@
 //! Verified BPF programs at the XDP point, and netback's queue of a guest that isn't trusted: a safe layer over liblaxonje.
 //!
 //! - [`Program`]: an accepted program, run on packets in place.
-//! - [`Queue`]: a guest's network queue with a program, which takes one packet in a turn or several. The queue says what accesses of the
-//!   guest's pages are to be made, and a [`GuestMemory`] (pages that are mapped) or a [`Guest`] (pages that have to be asked for) makes them.
+//! - [`Queue`]: a guest's network queue with a program. The queue says what accesses of the guest's pages are to be made, and a
+//!   [`GuestMemory`] (pages that are mapped) or a [`Guest`] (pages that have to be asked for) makes them.
 //!
 //! ```
 //! # use laxonje::{GuestMemory, Page};

@@ -35,17 +35,9 @@ pub struct Seen {
     pub notified: bool,
 }
 
-/// Returns what an op tells, if it says that something is over: its numbers stand where an access has its place.
+/// Returns what an op tells, if it says that something is over.
 pub fn told_by(op: &HostOp) -> Option<Told> {
-    (op.kind == 4).then_some([op.frame, op.word, op.count, op.lent, op.first])
-}
-
-/// Returns how many of the program's operations an op tells of.
-pub fn operations_in(op: &HostOp) -> u32 {
-    match told_by(op) {
-        Some([_, _, _, operations, _]) => operations,
-        None => 0,
-    }
+    (op.kind == 4).then_some([op.outcome, op.number, op.cause, op.ops, op.slots])
 }
 
 /// Returns what an op of the same turn tells.

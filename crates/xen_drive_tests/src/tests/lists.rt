@@ -1,6 +1,5 @@
 //! Lists of a queue that become others between two turns.
 
-use super::fixtures::operations_in;
 use super::seats::{NONE, READS};
 use super::turns::COUNTS;
 use crate::bench::{counters, page, shipped};
@@ -38,7 +37,7 @@ fn rest_of_turn(queue: &mut Queue, words: &mut [LentWord], counters: &mut [u64])
     step(queue, words, counters, slot);
     step(queue, words, counters, entry);
     step(queue, words, counters, bytes);
-    operations_in(&step(queue, words, counters, event))
+    step(queue, words, counters, event).ops
 }
 
 /// Returns what three turns count under the key `01 00 00 00`: one without a list, one after a list with the key came, and one

@@ -5,7 +5,6 @@ ghost use Rattle.bpf_note.specs.declared.key.MapKey.TheVariants.{Index};
 ghost use Rattle.bpf_maps.specs.Seats.{IsSeatOf};
 ghost use Rattle.xen_host.specs.Queues.{resting, wired_to};
 
-use super::fixtures::operations_in;
 use super::turns::{COUNTS, FOURTEEN};
 use crate::bench::{page, shipped};
 use bpf_maps::{CounterSeat, Counters};
@@ -27,6 +26,14 @@ pub const NONE: HostOp = HostOp {
     first: 0,
     second: 0,
     entry: 0,
+    reference: 0,
+    outcome: 0,
+    number: 0,
+    cause: 0,
+    ops: 0,
+    slots: 0,
+    index: 0,
+    grant: 0,
 };
 
 /// Goes on with what is under way, with these words in front of the lent ones. The first op that is said.
@@ -84,8 +91,8 @@ fn shared(alloc: Global) -> Option<(u32, u32, u64)> {
     let of_first = whole_turn(&mut first, words.as_mut_slice(), &counters, &mut seat);
     let of_second = whole_turn(&mut second, words.as_mut_slice(), &counters, &mut seat);
     Some((
-        operations_in(&of_first),
-        operations_in(&of_second),
+        of_first.ops,
+        of_second.ops,
         counters.load(&mut seat, 0, 1, 0),
     ))
 }
