@@ -1,0 +1,7 @@
+import sys,os
+sys.path.insert(0,'/work/j/tools/gate'); sys.path.insert(0,'/work/j/tools')
+os.environ['XDPBOX']=sys.argv[2]
+mod=__import__('tests.straight.'+sys.argv[1],fromlist=['tests'])
+for name,fault in mod.tests('clang-14',sys.argv[2]):
+    if fault: print('FAILED',name,str(fault)[:300])
+    else: print('ok',name)
